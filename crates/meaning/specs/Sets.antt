@@ -1,0 +1,101 @@
+-- Edges and sets of edges (references.rs, paths.rs).
+use Prim.Native.Nat.{ℕ, zero, suc, _+_, _≤_, _<_}
+use mathlib.Core.Path.{_≡_, refl}
+use mathlib.Core.Bool.{Bool, true, false, not, _&&_, _||_, cond, Bool·beq}
+use mathlib.Core.List.{List, [], _∷_, _++_}
+use lib.ListN.{length}
+use lib.Dec.{leb, ltb, eqb}
+use Rattle.meaning.specs.Base.{Ans, ok, refuse, any, all}
+
+-- A path is a list of labels. A label is a number, kind × 65,536 + index.
+pub record Edge : Type 0 where
+  pub strong : Bool
+  pub path : List ℕ
+
+-- `blurred` is the Rust's `overflown`
+pub record EdgeSet : Type 0 where
+  pub edges : List Edge
+  pub blurred : Bool
+
+abbrev pub weakest : Edge
+weakest = record { strong = false; path = [] }
+
+abbrev pub emptySet : EdgeSet
+emptySet = record { edges = []; blurred = false }
+
+abbrev pub blur : EdgeSet
+blur = record { edges = weakest ∷ []; blurred = true }
+
+unfoldable pub prefix : List ℕ → List ℕ → Bool
+prefix [] ys = true
+prefix (x ∷ xs) [] = false
+prefix (x ∷ xs) (y ∷ ys) = eqb x y && prefix xs ys
+
+unfoldable pub eqPath : List ℕ → List ℕ → Bool
+eqPath [] [] = true
+eqPath [] (y ∷ ys) = false
+eqPath (x ∷ xs) [] = false
+eqPath (x ∷ xs) (y ∷ ys) = eqb x y && eqPath xs ys
+
+unfoldable pub ltPath : List ℕ → List ℕ → Bool
+ltPath [] [] = false
+ltPath [] (y ∷ ys) = true
+ltPath (x ∷ xs) [] = false
+ltPath (x ∷ xs) (y ∷ ys) = ltb x y || (eqb x y && ltPath xs ys)
+
+unfoldable pub eqEdge : Edge → Edge → Bool
+unfolding eqPath
+eqEdge e f = Bool·beq (e .strong) (f .strong) && eqPath (e .path) (f .path)
+
+-- weak before strong, then the path, label by label, a prefix first
+unfoldable pub ltEdge : Edge → Edge → Bool
+unfolding ltPath
+ltEdge e f = (not (e .strong) && f .strong) || (Bool·beq (e .strong) (f .strong) && ltPath (e .path) (f .path))
+
+-- equal, or weak with a prefix path (the Rust's `leq`)
+unfoldable pub covers : Edge → Edge → Bool
+unfolding eqEdge prefix
+covers e f = eqEdge e f || (not (e .strong) && prefix (e .path) (f .path))
+
+abbrev pub covered : List Edge → Edge → Bool
+covered ds e = any (λ d. covers d e) ds
+
+unfoldable pub has : Edge → List Edge → Bool
+unfolding eqEdge
+has e xs = any (eqEdge e) xs
+
+-- put in, in order
+unfoldable pub put : Edge → List Edge → List Edge
+unfolding ltEdge
+put e [] = e ∷ []
+put e (x ∷ xs) = cond (ltEdge e x) (e ∷ x ∷ xs) (x ∷ put e xs)
+
+unfoldable pub insert : EdgeSet → Edge → Ans EdgeSet
+unfolding has put
+insert s e =
+    cond (s .blurred) (ok s)
+    (cond (leb 10 (length (s .edges))) (ok blur)
+    (cond (leb (length (e .path)) 8)
+    (cond (has e (s .edges)) (ok s) (ok (record { edges = put e (s .edges); blurred = false })))
+    (refuse 22)))
+
+-- ---- a set as a well-formed graph has it (or the empty one)
+
+-- ascending, so all different
+unfoldable pub ordered : List Edge → Bool
+unfolding ltEdge
+ordered [] = true
+ordered (x ∷ xs) = all (ltEdge x) xs && ordered xs
+
+unfoldable pub short : Edge → Bool
+short e = leb (length (e .path)) 8
+
+unfoldable pub isBlur : List Edge → Bool
+unfolding eqEdge
+isBlur [] = false
+isBlur (x ∷ []) = eqEdge x weakest
+isBlur (x ∷ y ∷ ys) = false
+
+unfoldable pub setOk : EdgeSet → Bool
+unfolding ordered short isBlur
+setOk s = cond (s .blurred) (isBlur (s .edges)) (leb (length (s .edges)) 10 && (all short (s .edges) && ordered (s .edges)))

@@ -1,0 +1,148 @@
+-- Whole blocks run: the marked listing, and the exchange of two reference parameters.
+use Prim.Native.Nat.{ℕ, zero, suc, _+_, _*_, _-_}
+use mathlib.Core.Path.{_≡_, refl}
+use mathlib.Core.Bool.{Bool, true, false, not, _&&_}
+use mathlib.Core.Option.{Option, none, some}
+use mathlib.Core.List.{List, [], _∷_, map}
+use lib.ListN.{length, getD}
+use lib.Dec.{eqb}
+use Rattle.meaning.specs.Base.{Ans, ok, refuse, all}
+use Rattle.meaning.specs.Sets.{Edge, EdgeSet, insert, covers, eqEdge, eqPath, prefix, has, put, ltEdge, ltPath, setOk, ordered, short, isBlur}
+use Rattle.meaning.specs.Graph.{Graph, Name, GEdge, splice, setAt, release, wellFormed, holds, spliced, without, addAll, addEdge, setTo, limit, ascending, inOrder, between, unmatched, sameNames, joinGraphs}
+use Rattle.meaning.specs.Borrow.{newName, borrowWeak, borrowStrong, placeName}
+use Rattle.meaning.specs.Rename.{canonical, crosses, renamed, renameNames, renameEdges, placeEdge, ownNames, newNameOf, indexOf}
+use Rattle.meaning.specs.State.{Local, absent, value, ref, State, join, joinLocal, joinLocals, changed, eqLocals, eqSets, eqSet, eqEdges}
+use Rattle.meaning.specs.Loop.{Result, Block, Run, run, visits, verdict, lowest, Verdict, violation, accept, refusal, spread, step as loopStep, steps, startSlots, position}
+use Rattle.meaning.specs.Marked.{name}
+use Rattle.meaning.specs.Running.{Token, ofValue, ofRef, isMutable, fullyBorrowed, borrowed, mutablyBorrowed, newRef, addCopy, addBorrow, addFieldBorrow, addLocalBorrow, addResourceBorrow, releaseName, valueFor, releaseValue, copyLoc, moveLoc, stLoc, freezeRef, comparison, readRef, writeRef, borrowLoc, borrowField, borrowGlobal, moveFrom, vectorOp, vectorElementBorrow, placeNumber, ascend, releaseAll, borrowFrom, handOver, notAcquired, returnValues, call, ret}
+use Rattle.meaning.specs.Steps.{Instr, Pop, CopyLoc, MoveLoc, StLoc, FreezeRef, Compare, ReadRef, WriteRef, BorrowLoc, BorrowField, BorrowGlobal, MoveFrom, Ret, Values, Call, MoveTo, VectorOp, BorrowElement, popValues, popMany, push, pushAll, pushNew, step}
+use Rattle.meaning.specs.Blocks.{Routine, instrsOf, runFrom, runBlock, exec, firstState, firstLocals, firstNames}
+
+-- load, store 0, mutable borrow of local 0, move 0
+abbrev listing : Routine
+listing = record {
+  locals = 1;
+  returns = 0;
+  blocks = record { entry = 0; exit = 3; successors = [] } ∷ [];
+  code = Values 0 1 ofValue ∷ StLoc 0 ∷ BorrowLoc 0 true ∷ MoveLoc 0 ∷ [];
+}
+
+abbrev atFirst : State
+atFirst = record { locals = absent ∷ []; graph = record { names = record { id = 1; mutable = true } ∷ []; edges = [] } }
+
+pub marked-listing : verdict (listing .blocks) (run State join changed (exec listing) (listing .blocks) 10 atFirst) ≡ violation 102 3
+unfolding run steps loopStep spread startSlots position verdict lowest exec runBlock runFrom instrsOf step popValues popMany push pushAll pushNew valueFor newRef stLoc borrowLoc moveLoc addLocalBorrow borrowed mutablyBorrowed isMutable newName borrowStrong placeName wellFormed holds ascending setAt setTo setOk ordered short inOrder isBlur addAll addEdge insert limit has put prefix eqEdge eqPath ltEdge ltPath
+marked-listing = refl
+
+-- move 0, move 1, store 0, store 1: both names held, a successor
+abbrev exchange : Routine
+exchange = record {
+  locals = 2;
+  returns = 0;
+  blocks = record { entry = 0; exit = 3; successors = 4 ∷ [] } ∷ record { entry = 4; exit = 4; successors = [] } ∷ [];
+  code = MoveLoc 0 ∷ MoveLoc 1 ∷ StLoc 0 ∷ StLoc 1 ∷ Ret ∷ [];
+}
+
+abbrev twoRefs : State
+twoRefs = record { locals = ref 0 ∷ ref 1 ∷ []; graph = record { names = record { id = 0; mutable = true } ∷ record { id = 1; mutable = true } ∷ record { id = 2; mutable = true } ∷ []; edges = [] } }
+
+pub marked-exchange : verdict (exchange .blocks) (run State join changed (exec exchange) (exchange .blocks) 10 twoRefs) ≡ refusal 16 3
+unfolding run steps loopStep spread startSlots position verdict lowest exec runBlock runFrom instrsOf step popValues popMany push pushAll pushNew valueFor newRef stLoc borrowLoc moveLoc addLocalBorrow borrowed mutablyBorrowed isMutable newName borrowStrong placeName wellFormed holds ascending setAt setTo setOk ordered short inOrder isBlur addAll addEdge insert limit has put prefix eqEdge eqPath ltEdge ltPath canonical crosses
+marked-exchange = refl
+
+-- move 0 to local 1, local 1 absent before; then a call that takes it and returns a reference; then return it: accepted
+abbrev moved : Routine
+moved = record {
+  locals = 2;
+  returns = 1;
+  blocks = record { entry = 0; exit = 1; successors = 2 ∷ [] } ∷ record { entry = 2; exit = 4; successors = [] } ∷ [];
+  code = MoveLoc 0 ∷ StLoc 1 ∷ MoveLoc 1 ∷ Call 1 (7 ∷ []) (ofRef true ∷ []) ∷ Ret ∷ [];
+}
+
+abbrev oneRef : State
+oneRef = record { locals = ref 0 ∷ absent ∷ []; graph = record { names = record { id = 0; mutable = true } ∷ record { id = 2; mutable = true } ∷ []; edges = [] } }
+
+pub moved-accepted : verdict (moved .blocks) (run State join changed (exec moved) (moved .blocks) 10 oneRef) ≡ accept
+unfolding run steps loopStep spread startSlots position verdict lowest exec runBlock runFrom instrsOf step popValues popMany push pushAll pushNew valueFor newRef stLoc borrowLoc moveLoc addLocalBorrow addBorrow borrowed mutablyBorrowed isMutable newName borrowStrong borrowWeak placeName wellFormed holds ascending setAt setTo setOk ordered short inOrder isBlur addAll addEdge insert limit has put prefix eqEdge eqPath ltEdge ltPath canonical crosses renamed renameNames renameEdges placeEdge ownNames newNameOf indexOf call notAcquired handOver returnValues borrowFrom releaseAll releaseName release spliced without splice ascend placeNumber ret
+moved-accepted = refl
+
+-- ---- one block without successors, for each number of document 01
+
+abbrev isVerdict : Verdict → Verdict → Bool
+isVerdict accept accept = true
+isVerdict accept (violation c o) = false
+isVerdict accept (refusal n o) = false
+isVerdict (violation c o) accept = false
+isVerdict (violation c o) (violation d r) = eqb c d && eqb o r
+isVerdict (violation c o) (refusal n r) = false
+isVerdict (refusal n o) accept = false
+isVerdict (refusal n o) (violation c r) = false
+isVerdict (refusal n o) (refusal k r) = eqb n k && eqb o r
+
+-- L, the parameters, the number of returns, the instructions
+unfoldable pub whole : ℕ → List Token → ℕ → List Instr → Verdict → Bool
+unfolding run verdict exec firstState
+whole l ts n is v =
+    let b : List Block = record { entry = 0; exit = length is - 1; successors = [] } ∷ [] in
+    let q : Routine = record { locals = l; returns = n; blocks = b; code = is } in
+    isVerdict (verdict b (run State join changed (exec q) b 3 (firstState l ts))) v
+
+abbrev load : Instr
+load = Values 0 1 ofValue
+
+abbrev mut : Token
+mut = ofRef true
+
+abbrev imm : Token
+imm = ofRef false
+
+unfoldable pub cases : List Bool
+unfolding whole
+cases =
+    whole 1 (ofValue ∷ []) 0 (BorrowLoc 0 true ∷ CopyLoc 0 ∷ []) (violation 101 1)
+    ∷ whole 1 (ofValue ∷ []) 0 (BorrowLoc 0 false ∷ CopyLoc 0 ∷ Pop ∷ Pop ∷ []) accept
+    ∷ whole 1 (ofValue ∷ []) 0 (BorrowLoc 0 false ∷ MoveLoc 0 ∷ []) (violation 102 1)
+    ∷ whole 1 (ofValue ∷ []) 0 (BorrowLoc 0 false ∷ load ∷ StLoc 0 ∷ []) (violation 103 2)
+    ∷ whole 1 (mut ∷ []) 0 (CopyLoc 0 ∷ MoveLoc 0 ∷ FreezeRef ∷ []) (violation 104 2)
+    ∷ whole 1 (mut ∷ []) 0 (MoveLoc 0 ∷ FreezeRef ∷ ReadRef ∷ Pop ∷ []) accept
+    ∷ whole 1 (mut ∷ []) 0 (CopyLoc 0 ∷ MoveLoc 0 ∷ ReadRef ∷ []) (violation 105 2)
+    ∷ whole 1 (mut ∷ []) 0 (CopyLoc 0 ∷ CopyLoc 0 ∷ Compare ∷ []) (violation 105 2)
+    ∷ whole 1 (imm ∷ []) 0 (CopyLoc 0 ∷ CopyLoc 0 ∷ Compare ∷ Pop ∷ []) accept
+    ∷ whole 2 (mut ∷ []) 0 (CopyLoc 0 ∷ StLoc 1 ∷ load ∷ MoveLoc 0 ∷ WriteRef ∷ []) (violation 106 4)
+    ∷ whole 1 (mut ∷ []) 0 (load ∷ MoveLoc 0 ∷ WriteRef ∷ []) accept
+    ∷ whole 1 (ofValue ∷ []) 0 (BorrowLoc 0 true ∷ BorrowLoc 0 false ∷ []) (violation 107 1)
+    ∷ whole 1 [] 0 (BorrowLoc 0 true ∷ BorrowLoc 0 true ∷ Pop ∷ Pop ∷ []) accept
+    ∷ whole 1 (mut ∷ []) 0 (CopyLoc 0 ∷ MoveLoc 0 ∷ BorrowField 5 true ∷ []) (violation 108 2)
+    ∷ whole 1 (mut ∷ []) 0 (CopyLoc 0 ∷ BorrowField 5 true ∷ MoveLoc 0 ∷ BorrowField 5 false ∷ []) (violation 108 3)
+    ∷ whole 1 (mut ∷ []) 0 (CopyLoc 0 ∷ BorrowField 5 true ∷ MoveLoc 0 ∷ BorrowField 6 false ∷ Pop ∷ Pop ∷ []) accept
+    ∷ whole 1 (imm ∷ []) 0 (MoveLoc 0 ∷ BorrowField 5 true ∷ Pop ∷ []) accept
+    ∷ whole 0 [] 0 (load ∷ BorrowGlobal 3 true ∷ load ∷ BorrowGlobal 3 false ∷ []) (violation 109 3)
+    ∷ whole 0 [] 0 (load ∷ BorrowGlobal 3 false ∷ load ∷ BorrowGlobal 3 true ∷ []) (violation 109 3)
+    ∷ whole 0 [] 0 (load ∷ BorrowGlobal 3 true ∷ load ∷ BorrowGlobal 4 true ∷ Pop ∷ Pop ∷ []) accept
+    ∷ whole 0 [] 0 (load ∷ BorrowGlobal 3 false ∷ load ∷ MoveFrom 3 ∷ []) (violation 109 3)
+    ∷ whole 0 [] 0 (load ∷ BorrowGlobal 3 false ∷ Call 0 (5 ∷ 3 ∷ []) [] ∷ []) (violation 109 2)
+    ∷ whole 2 (mut ∷ []) 0 (CopyLoc 0 ∷ StLoc 1 ∷ MoveLoc 0 ∷ VectorOp 0 true 0 ofValue ∷ []) (violation 110 3)
+    ∷ whole 2 (mut ∷ []) 0 (CopyLoc 0 ∷ StLoc 1 ∷ MoveLoc 0 ∷ VectorOp 0 false 1 ofValue ∷ Pop ∷ []) accept
+    ∷ whole 2 (mut ∷ []) 0 (CopyLoc 0 ∷ StLoc 1 ∷ MoveLoc 0 ∷ load ∷ BorrowElement true ∷ []) (violation 111 4)
+    ∷ whole 2 (mut ∷ []) 0 (CopyLoc 0 ∷ StLoc 1 ∷ MoveLoc 0 ∷ load ∷ BorrowElement false ∷ Pop ∷ []) accept
+    ∷ whole 2 (mut ∷ []) 0 (CopyLoc 0 ∷ StLoc 1 ∷ MoveLoc 0 ∷ Call 1 [] [] ∷ []) (violation 112 3)
+    ∷ whole 2 (mut ∷ imm ∷ []) 2 (MoveLoc 0 ∷ MoveLoc 1 ∷ Call 2 [] (mut ∷ imm ∷ []) ∷ Ret ∷ []) accept
+    ∷ whole 1 (ofValue ∷ []) 1 (BorrowLoc 0 false ∷ Ret ∷ []) (violation 113 1)
+    ∷ whole 1 (mut ∷ []) 2 (CopyLoc 0 ∷ MoveLoc 0 ∷ Ret ∷ []) (violation 114 2)
+    ∷ whole 1 (mut ∷ []) 1 (MoveLoc 0 ∷ BorrowField 1 true ∷ Ret ∷ []) accept
+    ∷ whole 0 [] 0 (Pop ∷ []) (refusal 10 0)
+    ∷ whole 0 [] 0 (load ∷ ReadRef ∷ []) (refusal 11 1)
+    ∷ whole 1 (imm ∷ []) 0 (load ∷ MoveLoc 0 ∷ Compare ∷ []) (refusal 11 2)
+    ∷ whole 2 (mut ∷ []) 0 (CopyLoc 0 ∷ MoveLoc 0 ∷ WriteRef ∷ []) (refusal 11 2)
+    ∷ whole 1 [] 0 (CopyLoc 0 ∷ []) (refusal 12 0)
+    ∷ whole 1 (imm ∷ []) 0 (load ∷ MoveLoc 0 ∷ WriteRef ∷ []) (refusal 13 2)
+    ∷ whole 1 (imm ∷ []) 0 (MoveLoc 0 ∷ VectorOp 0 true 0 ofValue ∷ []) (refusal 13 1)
+    ∷ whole 0 [] 0 (load ∷ []) (refusal 14 0)
+    ∷ whole 0 [] 0 (Values 0 17 ofValue ∷ []) (refusal 20 0)
+    ∷ whole 1 (imm ∷ []) 0 (load ∷ MoveLoc 0 ∷ MoveTo ∷ []) (refusal 11 2)
+    ∷ whole 1 (imm ∷ []) 0 (MoveLoc 0 ∷ load ∷ MoveTo ∷ []) accept
+    ∷ []
+
+pub all-cases : all (λ b. b) cases ≡ true
+unfolding cases whole firstState firstLocals firstNames run steps loopStep spread startSlots position verdict lowest exec runBlock runFrom instrsOf step popValues popMany push pushAll pushNew valueFor releaseValue newRef copyLoc moveLoc stLoc freezeRef comparison readRef writeRef borrowLoc borrowField borrowGlobal moveFrom vectorOp vectorElementBorrow addCopy addBorrow addFieldBorrow addLocalBorrow addResourceBorrow releaseName fullyBorrowed borrowed mutablyBorrowed isMutable newName borrowStrong borrowWeak placeName wellFormed holds ascending setAt setTo setOk ordered short inOrder isBlur addAll addEdge insert limit has put prefix eqEdge eqPath ltEdge ltPath canonical crosses call notAcquired handOver returnValues borrowFrom releaseAll release spliced without splice ascend placeNumber ret
+all-cases = refl
