@@ -7,7 +7,7 @@ use mathlib.Core.Bool.{Bool, true, false, not, _&&_, _||_, cond, true≢false, f
 use mathlib.Core.List.{List, [], _∷_, _++_}
 use lib.ListN.{length, getD, take, drop, List·getD-eq-default}
 use lib.Dec.{leb, ltb, eqb}
-use Rattle.meaning.specs.Base.{Ans, ok, refuse, guard, all, ok-inj, decide, both, and-l, and-r, and-i, or-cases, not-true, eqb-eq, eqb-self, eqb-no, eqb-ne, leb-le, le-leb, leb-gt}
+use Rattle.meaning.specs.Base.{Ans, ok, refuse, guard, all, ok-inj, decide, both, and-l, and-r, and-i, or-cases, not-true, eqb-eq, eqb-self, eqb-no, eqb-ne, leb-le, le-leb, leb-gt, empty}
 use Rattle.meaning.specs.Graph.{Graph, held, onPairs, wellFormed}
 use Rattle.meaning.specs.State.{Local, absent, value, ref, State, Form, count1}
 use Rattle.meaning.specs.StateLaws.{absent≢ref, value≢ref, ref-inj, name-le}
@@ -19,7 +19,7 @@ use Rattle.meaning.specs.RunningLaws.{Meets, met, broke, barred, Keeps}
 use Rattle.meaning.specs.Steps.{Instr, Pop, CopyLoc, MoveLoc, StLoc, FreezeRef, Compare, ReadRef, WriteRef, BorrowLoc, BorrowField, BorrowGlobal, MoveFrom, Call, Ret, Values, MoveTo, VectorOp, BorrowElement, Machine, stepOn, step}
 use Rattle.meaning.specs.StepLaws.{local-use, Good, Fine, good-less, step-fine, any-ret}
 use Rattle.meaning.specs.Loop.{Result, Block, noBlock}
-use Rattle.meaning.specs.Blocks.{Routine, instrsOf, start, renamedEnd, handOn, finish, settle, runFrom, runBlock, exec, Strong, fits, isRet, empty, placed, promised}
+use Rattle.meaning.specs.Blocks.{Routine, instrsOf, start, renamedEnd, handOn, finish, settle, runFrom, runBlock, exec, Strong, fits, isRet, placed, promised}
 
 -- ---- references in locals
 

@@ -5,7 +5,7 @@ use mathlib.Core.Bool.{Bool, true, false, not, _&&_, _||_, cond}
 use mathlib.Core.List.{List, [], _∷_, _++_}
 use lib.ListN.{length, getD, take, drop}
 use lib.Dec.{leb, ltb, eqb}
-use Rattle.meaning.specs.Base.{Ans, ok, refuse, all}
+use Rattle.meaning.specs.Base.{Ans, ok, refuse, all, empty}
 use Rattle.meaning.specs.State.{State, Form, Local, absent, value, ref}
 use Rattle.meaning.specs.Graph.{Name, held}
 use Rattle.meaning.specs.Rename.{canonical}
@@ -130,10 +130,6 @@ isRet (Values a b c) = false
 isRet MoveTo = false
 isRet (VectorOp a b c d) = false
 isRet (BorrowElement a) = false
-
-abbrev pub empty : {A : Type 0} → List A → Bool
-empty [] = true
-empty (x ∷ xs) = false
 
 -- Ret stands only at the exit of a block without successors
 unfoldable pub placed : List ℕ → List Instr → Bool

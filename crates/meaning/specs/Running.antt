@@ -7,6 +7,7 @@ use mathlib.Core.List.{List, [], _∷_, _++_}
 use lib.ListN.{length, getD, set}
 use lib.Dec.{leb, ltb, eqb}
 use Rattle.meaning.specs.Base.{Ans, ok, refuse, any, all, keep}
+use Rattle.meaning.specs.Labels.{localLabel, globalLabel, fieldLabel}
 use Rattle.meaning.specs.Graph.{Name, GEdge, Graph, holds, held, wellFormed, release}
 use Rattle.meaning.specs.Borrow.{newName, borrowWeak, borrowStrong}
 use Rattle.meaning.specs.State.{Local, absent, value, ref}
@@ -53,16 +54,6 @@ pub data Operand : Type 0 where
 pub data Token : Type 0 where
   ofValue : Token
   ofRef : Bool → Token
-
--- labels
-abbrev pub localLabel : ℕ → ℕ
-localLabel i = i
-
-abbrev pub globalLabel : ℕ → ℕ
-globalLabel i = 65536 + i
-
-abbrev pub fieldLabel : ℕ → ℕ
-fieldLabel i = 131072 + i
 
 -- `root` is L, the frame root's name; `next` the next fresh name
 pub record Running : Type 0 where

@@ -15,7 +15,8 @@ use Rattle.meaning.specs.Borrow.{newName, borrowWeak, borrowStrong}
 use Rattle.meaning.specs.State.{Local, absent, value, ref, count1}
 use Rattle.meaning.specs.StateLaws.{absent≢ref, value≢ref}
 use Rattle.meaning.specs.OwnLaws.{fair, times, count-le, count-yes, count-no, times-append, Owns, owns-held, owns-root, owns-once, owns-as, owns-less, release-fair, release-own, newName-fair, newName-own, borrowWeak-fair, borrowWeak-own, borrowStrong-fair, borrowStrong-own}
-use Rattle.meaning.specs.Running.{ordinary, Outcome, done, violated, refused, then, lift, fails, needs, Operand, nonRef, reference, Token, ofValue, ofRef, localLabel, globalLabel, fieldLabel, Running, Answer, Answers, withGraph, withLocal, answer, isMutable, fullyBorrowed, borrowed, mutablyBorrowed, writable, freezable, readable, known, newRef, onGraph, addCopy, addBorrow, addFieldBorrow, addLocalBorrow, addResourceBorrow, releaseName, valueFor, releaseValue, copyOf, copyLoc, moveOf, moveLoc, localOf, overwrite, stLoc, freezeRef, comparison, readRef, writeRef, borrowLoc, borrowField, borrowGlobal, moveFrom, needRef, needValue, vectorTest, vectorOp, vectorElementBorrow, operandNames, localNames, placeNumber, ascend, releaseAll, borrowFrom, handOver, notAcquired, parentsOf, returnValues, call, ret}
+use Rattle.meaning.specs.Labels.{localLabel, globalLabel, fieldLabel}
+use Rattle.meaning.specs.Running.{ordinary, Outcome, done, violated, refused, then, lift, fails, needs, Operand, nonRef, reference, Token, ofValue, ofRef, Running, Answer, Answers, withGraph, withLocal, answer, isMutable, fullyBorrowed, borrowed, mutablyBorrowed, writable, freezable, readable, known, newRef, onGraph, addCopy, addBorrow, addFieldBorrow, addLocalBorrow, addResourceBorrow, releaseName, valueFor, releaseValue, copyOf, copyLoc, moveOf, moveLoc, localOf, overwrite, stLoc, freezeRef, comparison, readRef, writeRef, borrowLoc, borrowField, borrowGlobal, moveFrom, needRef, needValue, vectorTest, vectorOp, vectorElementBorrow, operandNames, localNames, placeNumber, ascend, releaseAll, borrowFrom, handOver, notAcquired, parentsOf, returnValues, call, ret}
 
 -- ---- outcomes
 

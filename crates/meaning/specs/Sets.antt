@@ -5,7 +5,7 @@ use mathlib.Core.Bool.{Bool, true, false, not, _&&_, _||_, cond, Bool·beq}
 use mathlib.Core.List.{List, [], _∷_, _++_}
 use lib.ListN.{length}
 use lib.Dec.{leb, ltb, eqb}
-use Rattle.meaning.specs.Base.{Ans, ok, refuse, any, all}
+use Rattle.meaning.specs.Base.{Ans, ok, refuse, guard, any, all, keep}
 
 -- A path is a list of labels. A label is a number, kind × 65,536 + index.
 pub record Edge : Type 0 where
@@ -52,6 +52,23 @@ unfoldable pub ltEdge : Edge → Edge → Bool
 unfolding ltPath
 ltEdge e f = (not (e .strong) && f .strong) || (Bool·beq (e .strong) (f .strong) && ltPath (e .path) (f .path))
 
+-- how one stands to another in an order
+pub data Cmp : Type 0 where
+  less equal greater : Cmp
+
+abbrev pub orderBy : Bool → Bool → Cmp
+orderBy true e = less
+orderBy false true = equal
+orderBy false false = greater
+
+unfoldable pub comparePaths : List ℕ → List ℕ → Cmp
+unfolding ltPath eqPath
+comparePaths p q = orderBy (ltPath p q) (eqPath p q)
+
+unfoldable pub compareEdges : Edge → Edge → Cmp
+unfolding ltEdge eqEdge
+compareEdges e f = orderBy (ltEdge e f) (eqEdge e f)
+
 -- equal, or weak with a prefix path (the Rust's `leq`)
 unfoldable pub covers : Edge → Edge → Bool
 unfolding eqEdge prefix
@@ -78,6 +95,20 @@ insert s e =
     (cond (leb (length (e .path)) 8)
     (cond (has e (s .edges)) (ok s) (ok (record { edges = put e (s .edges); blurred = false })))
     (refuse 22)))
+
+-- a path of at most 8 labels, or the refusal 22
+unfoldable pub within : List ℕ → Ans (List ℕ)
+within p = guard (leb (length p) 8) 22 (ok p)
+
+-- an insert of what may be too long: only where the edge would be put in is its refusal given
+unfoldable pub offer : EdgeSet → Ans Edge → Ans EdgeSet
+unfolding insert
+offer s (ok e) = insert s e
+offer s (refuse n) = cond (s .blurred) (ok s) (cond (leb 10 (length (s .edges))) (ok blur) (refuse n))
+
+unfoldable pub remove : Edge → EdgeSet → EdgeSet
+unfolding eqEdge
+remove e s = record { edges = keep (λ x. not (eqEdge e x)) (s .edges); blurred = s .blurred }
 
 -- ---- a set as a well-formed graph has it (or the empty one)
 

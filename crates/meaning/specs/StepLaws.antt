@@ -12,7 +12,8 @@ use Rattle.meaning.specs.Base.{decide, both, and-i, eqb-eq, eqb-self, le
 use Rattle.meaning.specs.State.{Local, absent, value, ref, count1}
 use Rattle.meaning.specs.StateLaws.{absent≢ref, value≢ref, ref-inj}
 use Rattle.meaning.specs.OwnLaws.{owns-room, times, count-le, count-yes, count-no, times-append, Owns, owns-held, owns-root, owns-once}
-use Rattle.meaning.specs.Running.{ordinary, Outcome, done, violated, refused, then, fails, needs, Operand, nonRef, reference, Token, ofValue, ofRef, localLabel, Running, Answer, Answers, withLocal, answer, isMutable, borrowed, mutablyBorrowed, known, newRef, addCopy, releaseName, valueFor, releaseValue, copyOf, copyLoc, moveOf, moveLoc, localOf, overwrite, stLoc, freezeRef, comparison, readRef, writeRef, borrowLoc, borrowField, borrowGlobal, moveFrom, needRef, needValue, vectorOp, vectorElementBorrow, operandNames, localNames, call, ret}
+use Rattle.meaning.specs.Labels.{localLabel}
+use Rattle.meaning.specs.Running.{ordinary, Outcome, done, violated, refused, then, fails, needs, Operand, nonRef, reference, Token, ofValue, ofRef, Running, Answer, Answers, withLocal, answer, isMutable, borrowed, mutablyBorrowed, known, newRef, addCopy, releaseName, valueFor, releaseValue, copyOf, copyLoc, moveOf, moveLoc, localOf, overwrite, stLoc, freezeRef, comparison, readRef, writeRef, borrowLoc, borrowField, borrowGlobal, moveFrom, needRef, needValue, vectorOp, vectorElementBorrow, operandNames, localNames, call, ret}
 use Rattle.meaning.specs.RunningLaws.{Meets, met, broke, barred, meets-done, meets-refused, meets-then, meets-fails, meets-needs, Keeps, keeps-less, keeps-as, Uses, known-keeps, known-root, borrow-keeps, strong-keeps, release-keeps, Made, valueFor-keeps, releaseValue-keeps, freezeRef-keeps, comparison-keeps, readRef-keeps, writeRef-keeps, borrowLoc-keeps, borrowField-keeps, borrowGlobal-keeps, moveFrom-keeps, vectorOp-keeps, element-keeps, Returned, call-keeps, ret-meets}
 use Rattle.meaning.specs.Steps.{Instr, Pop, CopyLoc, MoveLoc, StLoc, FreezeRef, Compare, ReadRef, WriteRef, BorrowLoc, BorrowField, BorrowGlobal, MoveFrom, Call, Ret, Values, MoveTo, VectorOp, BorrowElement, Machine, pop, popRef, popValue, popValues, popMany, push, pushed, pushAll, pushNew, unchanged, stepOn, step}
 use Rattle.meaning.specs.Blocks.{fits, isRet}

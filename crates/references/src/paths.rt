@@ -1,0 +1,184 @@
+// Labels and paths (paths.rs).
+ghost use mathlib.Core.Path.{_≡_};
+ghost use mathlib.Core.List.{[], _∷_, _++_};
+ghost use Prim.Native.Nat.{_≤_};
+ghost use lib.ListN.{length, drop};
+ghost use Rattle.meaning.specs.Labels.{numberOf, labelAt};
+ghost use Rattle.meaning.specs.Sets.{prefix, comparePaths, within};
+ghost use Rattle.references.specs.Models.{labelOf, orderingOf, pathOf, appendedOf};
+
+// Document 01's label. Its number puts the kind before the index, so that labels stand in the order of their numbers.
+pub enum Label {
+    Local(u16),
+    Global(u16),
+    Field(u16),
+}
+
+pub enum Ordering {
+    Less,
+    Equal,
+    Greater,
+}
+
+// Up to eight labels, by their numbers. What lies from `len` on is free; a `len` beyond eight reads as eight.
+pub struct Path {
+    pub labels: [u32; 8],
+    pub len: u8,
+}
+
+// A path, or (`fits` false) word that it would be longer than eight labels.
+pub struct Appended {
+    pub fits: bool,
+    pub path: Path,
+}
+
+impl Label {
+    pub fn number(self) -> u32
+        ensures { λ r. ⌜ r ≡ numberOf (labelOf self) ⌝ }
+    {
+        match self {
+            Label::Local(i) => i as u32,
+            Label::Global(i) => 65536 + i as u32,
+            Label::Field(i) => 131072 + i as u32,
+        }
+    }
+
+    // The label with this number; a number past the last Field's is read modulo 65,536.
+    pub fn of_number(n: u32) -> Label
+        ensures { λ r. ⌜ labelOf r ≡ labelAt n ⌝ }
+    {
+        let i = (n % 65536) as u16;
+        if n < 65536 {
+            return Label::Local(i);
+        }
+        if n < 131072 {
+            return Label::Global(i);
+        }
+        Label::Field(i)
+    }
+}
+
+impl Path {
+    pub fn new() -> Self
+        ensures { λ r. ⌜ pathOf r ≡ [] ⌝ }
+    {
+        Self {
+            labels: [0; 8],
+            len: 0,
+        }
+    }
+
+    pub fn single(label: Label) -> Self
+        ensures { λ r. ⌜ pathOf r ≡ numberOf (labelOf label) ∷ [] ⌝ }
+    {
+        let mut labels = [0u32; 8];
+        labels[0] = label.number();
+        Self {
+            labels: labels,
+            len: 1,
+        }
+    }
+
+    pub fn len(self) -> usize
+        ensures { λ r. ⌜ (r ≡ length (pathOf self)) × (r ≤ 8) ⌝ }
+    {
+        let n = self.len as usize;
+        if n < 8 { n } else { 8 }
+    }
+}
+
+pub fn cmp(lhs: Path, rhs: Path) -> Ordering
+    ensures { λ r. ⌜ orderingOf r ≡ comparePaths (pathOf lhs) (pathOf rhs) ⌝ }
+{
+    let n = lhs.len();
+    let m = rhs.len();
+    let mut i: usize = 0;
+    while i < n {
+        if m <= i {
+            return Ordering::Greater;
+        }
+        let x = lhs.labels[i];
+        let y = rhs.labels[i];
+        if x < y {
+            return Ordering::Less;
+        }
+        if y < x {
+            return Ordering::Greater;
+        }
+        i += 1;
+    }
+    if i < m {
+        Ordering::Less
+    } else {
+        Ordering::Equal
+    }
+}
+
+// Whether the first is a prefix of the second.
+pub fn leq(lhs: Path, rhs: Path) -> bool
+    ensures { λ r. ⌜ r ≡ prefix (pathOf lhs) (pathOf rhs) ⌝ }
+{
+    let n = lhs.len();
+    let m = rhs.len();
+    let mut i: usize = 0;
+    while i < n {
+        if m <= i {
+            return false;
+        }
+        let x = lhs.labels[i];
+        let y = rhs.labels[i];
+        if x != y {
+            return false;
+        }
+        i += 1;
+    }
+    true
+}
+
+// What follows the first of the two in the second, of which the Rust asks that it is a prefix.
+pub fn factor(lhs: Path, rhs: Path) -> Path
+    ensures { λ r. ⌜ pathOf r ≡ drop (length (pathOf lhs)) (pathOf rhs) ⌝ }
+{
+    let k = lhs.len();
+    let n = rhs.len();
+    let mut out = [0u32; 8];
+    let mut i = k;
+    let mut j: usize = 0;
+    while i < n {
+        let x = rhs.labels[i];
+        out[j] = x;
+        j += 1;
+        i += 1;
+    }
+    Path {
+        labels: out,
+        len: j as u8,
+    }
+}
+
+pub fn append(lhs: Path, rhs: Path) -> Appended
+    ensures { λ r. ⌜ appendedOf r ≡ within (pathOf lhs ++ pathOf rhs) ⌝ }
+{
+    let n = lhs.len();
+    let m = rhs.len();
+    if 8 < n + m {
+        return Appended {
+            fits: false,
+            path: lhs,
+        };
+    }
+    let mut out = lhs.labels;
+    let mut i: usize = 0;
+    while i < m {
+        let x = rhs.labels[i];
+        out[n + i] = x;
+        i += 1;
+    }
+    Appended {
+        fits: true,
+        path: Path {
+            labels: out,
+            len: (n + m) as u8,
+        },
+    }
+}
