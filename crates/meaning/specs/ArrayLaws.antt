@@ -8,7 +8,9 @@ use native.Mathlib.Numerals.{add-one}
 use native.Mathlib.Omega.{arith}
 use lib.ListN.{length, take, drop, getD, length-take, length-map, List·getD-map, set}
 use lib.Seq.{drop-cons, getD-take, take-suc-set, append-snoc}
-use Rattle.meaning.specs.Base.{nth}
+use borrow.Author.Tests.{eq-eqb, ne-eqb}
+use lib.Dec.{eqb}
+use Rattle.meaning.specs.Base.{nth, empty}
 
 module _ {A : Type 0} where
   -- at i below the count: the element, and what follows
@@ -55,6 +57,10 @@ module _ {A : Type 0} where
   nth-out [] i h = refl
   nth-out (x ∷ xs) zero h = absurd (not-suc-le-zero h)
   nth-out (x ∷ xs) (suc i) h = nth-out xs i (le-of-suc-le-suc h)
+
+  pub empty-length : (xs : List A) (n : ℕ) → n ≡ length xs → eqb n 0 ≡ empty xs
+  empty-length [] n e = eq-eqb n 0 e
+  empty-length (x ∷ xs) n e = ne-eqb n 0 (λ z. omega arith)
 
 -- what owning an array of structs tells of its list
 pub length-of-map : (A B : Type 0) (f : A → B) (l : List A) (n : ℕ) → length (map f l) ≡ n → length l ≡ n

@@ -69,9 +69,11 @@ local-unique (ref k ∷ xs) n b (suc i) (suc j) p q = ap suc (local-unique xs n 
 ref-small : (l : ℕ) (s : State) → Form l s → (i n : ℕ) → getD (s .locals) i absent ≡ ref n → (n ≡ i) × (n < l)
 ref-small l s f i n e =
     let q : n ≡ i = f .own i n e in
-    let c : length (s .locals) ≡ l = f .count in
-    (q, decide (ltb i l) (λ z. let y : i < l = leb-le z in omega arith)
-    (λ z. let y : l < suc i = leb-gt {m = suc i} {n = l} z in absurd (absent≢ref (sym (List·getD-eq-default (s .locals) absent {n = i} (omega arith)) ∙ e))))
+    let c : length (s .locals) ≡ l = f .count in (
+      q,
+      decide (ltb i l) (λ z. let y : i < l = leb-le z in omega arith)
+          (λ z. let y : l < suc i = leb-gt {m = suc i} {n = l} z in absurd (absent≢ref (sym (List·getD-eq-default (s .locals) absent {n = i} (omega arith)) ∙ e))),
+    )
 
 pub strong-owns : (l m : ℕ) (s : State) → suc l + m ≤ 65536 → Strong l s → Owns l (s .graph) (suc l) (localNames (s .locals)) m
 strong-owns l m s b h =

@@ -359,9 +359,10 @@ ascend-sorted (x ∷ xs) = place-sorted x (ascend xs) (ascend-sorted xs)
 
 to-apart : (f : ℕ → ℕ) (ks : List ℕ) → Sorted ks → ((n m : ℕ) → 1 ≤ times n ks → 1 ≤ times m ks → n < m → f n ≢ m) → Apart f ks
 to-apart f [] s h = tt
-to-apart f (n ∷ ks) s h =
-    ((λ m t. h n m (let c : count1 (eqb n n) ≡ 1 = count-yes (eqb-self n) in omega arith) (omega arith) (s .0 m t)),
-    to-apart f ks (s .1) (λ i m p q l. h i m (omega arith) (omega arith) l))
+to-apart f (n ∷ ks) s h = (
+  (λ m t. h n m (let c : count1 (eqb n n) ≡ 1 = count-yes (eqb-self n) in omega arith) (omega arith) (s .0 m t)),
+  to-apart f ks (s .1) (λ i m p q l. h i m (omega arith) (omega arith) l),
+)
 
 -- ---- crossing
 

@@ -59,8 +59,11 @@ module _ (l next m : ℕ) where
       (λ g′. ok (record { local = absent; ours = g′; theirs = h })) (λ k o. sure (w .0, o, w .2))
   joinLocal-sure (ref n) value xs ys g h w = unsure refl
   joinLocal-sure (ref n) (ref k) xs ys g h w =
-      sure-guard (eqb n k) 15 refl (λ e. sure (n ∷ w .0, over n (localNames xs) (w .0) g (w .1),
-      over n (localNames ys) (w .0) h (subst (λ (i : ℕ). Owns l h next (i ∷ (localNames ys ++ w .0)) m) (sym (eqb-eq {m = n} {n = k} e)) (w .2))))
+      sure-guard (eqb n k) 15 refl (λ e. sure (
+        n ∷ w .0,
+        over n (localNames xs) (w .0) g (w .1),
+        over n (localNames ys) (w .0) h (subst (λ (i : ℕ). Owns l h next (i ∷ (localNames ys ++ w .0)) m) (sym (eqb-eq {m = n} {n = k} e)) (w .2)),
+      ))
 
   joinLocals-sure : (xs ys : List Local) (g h : Graph) → length xs ≡ length ys → Both xs ys g h → Sure (λ r. Both [] [] (r .ours) (r .theirs)) (joinLocals xs ys g h)
   unfolding joinLocals

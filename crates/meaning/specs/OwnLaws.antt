@@ -225,16 +225,17 @@ pub newName-own : (l : ℕ) (g : Graph) (next : ℕ) (xs : List ℕ) (m : ℕ) (
 newName-own l g next xs m b h o e =
     let lim : next + suc m ≤ 65536 = o .left in
     let r : Named g next h = newName-law g next b h (omega arith) e in
-    let nw : held g next ≡ false = not-yet l g next xs (suc m) o in
-    (record {
-      formed = r .formed;
-      noRoot = subst (λ (es : List GEdge). onPairs (endsNot l) es ≡ true) (sym (r .edges)) (o .noRoot);
-      counts = λ k. go nw k (eqb k next) refl (o .counts k) ∙ ap count1 (sym (r .holding k));
-      below = λ k q. up k (eqb k next) refl (sym (r .holding k) ∙ q);
-      left = omega arith;
-    },
-    subst (λ (es : List GEdge). onPairs (endsNot next) es ≡ true) (sym (r .edges))
-    (all-imp (λ x. pairOk (g .names) (x .parent) (x .child)) (λ x. endsNot next (x .parent) (x .child)) (λ x q. ap not (ne nw (x .parent) (x .child) q)) (g .edges) (wf→inv g (o .formed) .pairs)))
+    let nw : held g next ≡ false = not-yet l g next xs (suc m) o in (
+      record {
+        formed = r .formed;
+        noRoot = subst (λ (es : List GEdge). onPairs (endsNot l) es ≡ true) (sym (r .edges)) (o .noRoot);
+        counts = λ k. go nw k (eqb k next) refl (o .counts k) ∙ ap count1 (sym (r .holding k));
+        below = λ k q. up k (eqb k next) refl (sym (r .holding k) ∙ q);
+        left = omega arith;
+      },
+      subst (λ (es : List GEdge). onPairs (endsNot next) es ≡ true) (sym (r .edges))
+          (all-imp (λ x. pairOk (g .names) (x .parent) (x .child)) (λ x. endsNot next (x .parent) (x .child)) (λ x q. ap not (ne nw (x .parent) (x .child) q)) (g .edges) (wf→inv g (o .formed) .pairs)),
+    )
   where
     go : held g next ≡ false → (k : ℕ) (d : Bool) → eqb k next ≡ d → times k (l ∷ xs) ≡ count1 (held g k) → times k (l ∷ next ∷ xs) ≡ count1 (eqb k next || held g k)
     go nw k true e₀ c =

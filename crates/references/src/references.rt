@@ -1,6 +1,7 @@
 // Names of references, edges and sets of edges (references.rs).
 use crate::paths;
-use crate::paths::{Ordering, Path};
+use crate::paths::Ordering;
+use crate::paths::Path;
 ghost use mathlib.Core.Path.{_≡_};
 ghost use mathlib.Core.Bool.{true, false};
 ghost use mathlib.Core.List.{_∷_, _++_};
@@ -247,10 +248,7 @@ impl BorrowEdgeSet {
         }
         if 10 <= self.len() {
             let b = BorrowEdgeSet::blurred();
-            return Inserted {
-                refusal: 0,
-                set: b,
-            };
+            return Inserted { refusal: 0, set: b };
         }
         if c.fits {
             let e = c.edge;
@@ -262,10 +260,7 @@ impl BorrowEdgeSet {
             }
             let k = self.spot(e);
             let t = self.put_at(k, e);
-            return Inserted {
-                refusal: 0,
-                set: t,
-            };
+            return Inserted { refusal: 0, set: t };
         }
         Inserted {
             refusal: 22,

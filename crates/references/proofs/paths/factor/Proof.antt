@@ -1,0 +1,83 @@
+use Rattle.references.specs.ModelLaws.{path-made}
+use mathlib.Core.Path.{_≡_, refl, sym, _∙_}
+use mathlib.Core.List.{_++_, append-nil}
+use Prim.Native.Nat.{_+_, _-_, _<_, _≤_}
+use lib.ListN.{length, take, drop, length-set}
+use Rattle.meaning.specs.ArrayLaws.{push}
+use Rattle.references.specs.Models.{pathOf}
+use Rattle.references.specs.ModelLaws.{path-step, path-end}
+use native.Mathlib.Omega.{arith}
+use borrow.Author.Needs.{needs}
+use Rattle.references.proofs.paths.factor.Statement.{statement}
+use Rattle.references.proofs.paths.factor.Tie as tie
+
+abbrev Inv-loop : tie.InvT-loop
+Inv-loop rhs k n out₀ i₀ j₀ out i j = (i ≡ k + j) × (j ≤ 8) × (length out ≡ 8) × (take j out ++ drop i (pathOf rhs) ≡ drop k (pathOf rhs))
+
+abbrev μ-loop : tie.MeasureT-loop
+μ-loop rhs k n out₀ i₀ j₀ out i j = n - i
+
+len-requires : tie.Need-len-requires Inv-loop μ-loop
+len-requires c κs = search needs
+
+len-requires-2 : tie.Need-len-requires-2 Inv-loop μ-loop
+len-requires-2 c κs = search needs
+
+loop-holds : tie.Need-loop-holds Inv-loop μ-loop
+loop-holds c = (omega arith, omega arith, refl, refl)
+
+mul-x : tie.Need-mul-x Inv-loop μ-loop
+mul-x c = omega arith
+
+element-copy-out-x : tie.Need-element-copy-out-x Inv-loop μ-loop
+element-copy-out-x c = omega arith
+
+mul-out : tie.Need-mul-out Inv-loop μ-loop
+mul-out c = omega arith
+
+array-write-out : tie.Need-array-write-out Inv-loop μ-loop
+array-write-out c = omega arith
+
+add-j : tie.Need-add-j Inv-loop μ-loop
+add-j c = omega arith
+
+add-i : tie.Need-add-i Inv-loop μ-loop
+add-i c = omega arith
+
+loop-less : tie.Need-loop-less Inv-loop μ-loop
+loop-less c = omega arith
+
+loop-again : tie.Need-loop-again Inv-loop μ-loop
+loop-again c =
+    let l = c .before .before .loop in
+    let h : l .j < length (l .out) = omega arith in
+    (omega arith, omega arith, simp length-set (l .inv .2), push (l .out) (l .j) _ _ _ refl h ∙ rw (path-step (c .before .before .before .before .before .args .t2) (l .i) (omega arith)) at (l .inv .3))
+
+cast-t19 : tie.Need-cast-t19 Inv-loop μ-loop
+cast-t19 c = omega arith
+
+returns : tie.Need-returns Inv-loop μ-loop
+returns c =
+    let l = c .before .loop in
+    let b = c .before .before .before .before .args .t2 in
+    path-made (l .out) (l .j) ∙ sym (append-nil (take (l .j) (l .out))) ∙ rw (path-end b (l .i) (omega arith)) at (l .inv .3) ∙ rw (c .before .before .before .len .ensures .0) refl
+
+pub factor-spec : {M : Type 1} → statement M
+factor-spec =
+    tie.close
+    (tie.spec
+    Inv-loop
+    μ-loop
+    len-requires
+    len-requires-2
+    loop-holds
+    mul-x
+    element-copy-out-x
+    mul-out
+    array-write-out
+    add-j
+    add-i
+    loop-less
+    loop-again
+    cast-t19
+    returns)
