@@ -2,12 +2,12 @@
 use mathlib.Core.Path.{_≡_, refl, sym, ap, _∙_}
 use mathlib.Core.List.{List, [], _∷_, _++_, map, map-append, foldl}
 use mathlib.Core.Option.{Option, none, some}
-use Prim.Native.Nat.{ℕ, zero, suc, _+_, _≤_, _<_}
+use Prim.Native.Nat.{ℕ, zero, suc, _+_, _-_, _≤_, _<_}
 use native.Mathlib.Nat.{not-suc-le-zero, le-of-suc-le-suc}
 use native.Mathlib.Numerals.{add-one}
 use native.Mathlib.Omega.{arith}
-use lib.ListN.{length, take, drop, getD, length-take, length-map, List·getD-map, set}
-use lib.Seq.{drop-cons, getD-take, take-suc-set, append-snoc}
+use lib.ListN.{length, take, drop, getD, length-take, length-drop, length-map, List·getD-map, set}
+use lib.Seq.{drop-cons, getD-take, take-suc-set, append-snoc, drop-append-add, drop-append-le, drop-drop}
 use borrow.Author.Tests.{eq-eqb, ne-eqb}
 use lib.Dec.{eqb}
 use Rattle.meaning.specs.Base.{nth, empty}
@@ -42,6 +42,41 @@ module _ {A : Type 0} where
   front-take f zero (suc k) l h = absurd (not-suc-le-zero h)
   front-take f (suc n) (suc k) [] h = absurd (not-suc-le-zero h)
   front-take {B} f (suc n) (suc k) (x ∷ l) h = ap (λ (r : List B). f x ∷ r) (front-take f n k l (le-of-suc-le-suc h))
+
+  drop-map : {B : Type 0} (f : A → B) (l : List A) (i : ℕ) → drop i (map f l) ≡ map f (drop i l)
+  drop-map f l zero = refl
+  drop-map f [] (suc i) = refl
+  drop-map f (x ∷ l) (suc i) = drop-map f l i
+
+  short-next : (i : ℕ) (l : List A) (x : A) (r : List A) → drop i l ≡ x ∷ r → i + 1 ≤ length l
+  short-next i l x r h = let e : length l - i ≡ suc (length r) = sym (length-drop i l) ∙ ap length h in omega arith
+
+  short-drop : (i : ℕ) (l : List A) (x : A) (r : List A) → drop i l ≡ x ∷ r → i ≤ length l
+  short-drop i l x r h = let e : i + 1 ≤ length l = short-next i l x r h in omega arith
+
+  -- a step in the second of three lists, and in the third
+  pub middle-step : (as′ bs cs : List A) (j i : ℕ) (x : A) → j ≡ length as′ + i → drop i bs ≡ x ∷ drop (i + 1) bs → drop j (as′ ++ (bs ++ cs)) ≡ x ∷ drop (j + 1) (as′ ++ (bs ++ cs))
+  middle-step as′ bs cs j i x e h =
+      let a : drop j (as′ ++ (bs ++ cs)) ≡ drop i bs ++ cs = ap (λ (k : ℕ). drop k (as′ ++ (bs ++ cs))) e ∙ drop-append-add as′ (bs ++ cs) i ∙ drop-append-le i bs cs (short-drop i bs x (drop (i + 1) bs) h) in
+      let n : j + 1 ≡ length as′ + (i + 1) = omega arith in
+      let b : drop (j + 1) (as′ ++ (bs ++ cs)) ≡ drop (i + 1) bs ++ cs = ap (λ (k : ℕ). drop k (as′ ++ (bs ++ cs))) n ∙ drop-append-add as′ (bs ++ cs) (i + 1) ∙ drop-append-le (i + 1) bs cs (short-next i bs x (drop (i + 1) bs) h) in
+      a ∙ ap (λ (l : List A). l ++ cs) h ∙ ap (λ (l : List A). x ∷ l) (sym b)
+
+  pub last-step : (as′ bs cs : List A) (j i : ℕ) (x : A) → j ≡ length as′ + (length bs + i) → drop i cs ≡ x ∷ drop (i + 1) cs → drop j (as′ ++ (bs ++ cs)) ≡ x ∷ drop (j + 1) (as′ ++ (bs ++ cs))
+  last-step as′ bs cs j i x e h =
+      let a : drop j (as′ ++ (bs ++ cs)) ≡ drop i cs = ap (λ (k : ℕ). drop k (as′ ++ (bs ++ cs))) e ∙ drop-append-add as′ (bs ++ cs) (length bs + i) ∙ drop-append-add bs cs i in
+      let n : j + 1 ≡ length as′ + (length bs + (i + 1)) = omega arith in
+      let b : drop (j + 1) (as′ ++ (bs ++ cs)) ≡ drop (i + 1) cs = ap (λ (k : ℕ). drop k (as′ ++ (bs ++ cs))) n ∙ drop-append-add as′ (bs ++ cs) (length bs + (i + 1)) ∙ drop-append-add bs cs (i + 1) in
+      a ∙ h ∙ ap (λ (l : List A). x ∷ l) (sym b)
+
+  -- a step, of a list that is mapped, and of the end of a list
+  pub map-step : {B : Type 0} (f : A → B) (l : List A) (i : ℕ) (x : A) → drop i l ≡ x ∷ drop (i + 1) l → drop i (map f l) ≡ f x ∷ drop (i + 1) (map f l)
+  map-step {B} f l i x h = drop-map f l i ∙ ap (map f) h ∙ ap (λ (r : List B). f x ∷ r) (sym (drop-map f l (i + 1)))
+
+  pub drop-step : (l : List A) (k i : ℕ) (x : A) → drop (k + i) l ≡ x ∷ drop (k + i + 1) l → drop i (drop k l) ≡ x ∷ drop (i + 1) (drop k l)
+  drop-step l k i x h =
+      let e : k + i + 1 ≡ k + (i + 1) = omega arith in
+      drop-drop i k l ∙ h ∙ ap (λ (n : ℕ). x ∷ drop n l) e ∙ ap (λ (r : List A). x ∷ r) (sym (drop-drop (i + 1) k l))
 
   abbrev head : List A → Option A
   head [] = none

@@ -23,6 +23,9 @@ pub record Graph : Type 0 where
   pub names : List Name
   pub edges : List GEdge
 
+abbrev pub emptyGraph : Graph
+emptyGraph = record { names = []; edges = [] }
+
 unfoldable pub holds : List Name → ℕ → Bool
 holds ns n = any (λ m. eqb n (m .id)) ns
 

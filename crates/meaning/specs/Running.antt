@@ -78,8 +78,12 @@ answer r v = done (record { state = r; operand = v })
 
 -- ---- predicates
 
+unfoldable pub mutableIn : List Name → ℕ → Bool
+mutableIn ns n = any (λ m. eqb n (m .id) && m .mutable) ns
+
 unfoldable pub isMutable : Graph → ℕ → Bool
-isMutable g n = any (λ m. eqb n (m .id) && m .mutable) (g .names)
+unfolding mutableIn
+isMutable g n = mutableIn (g .names) n
 
 -- A path meets a label: it is empty, or its first label is this one. (No label given: any path does.)
 abbrev pub meetsLabel : Option ℕ → List ℕ → Bool
