@@ -54,3 +54,7 @@ edges-front s k h = front-take gedgeOf (s .len) k (s .list) h
 pub edges-made : (l : List GraphEdge) (n : ℕ) → edgesOf (record { list = l; len = n }) ≡ map gedgeOf (take n l)
 unfolding edgesOf
 edges-made l n = refl
+
+pub edges-count : (l : List GraphEdge) (n : ℕ) → n ≤ length l → length (edgesOf (record { list = l; len = n })) ≡ n
+unfolding edgesOf
+edges-count l n h = simp (length-map, length-take) (omega arith)

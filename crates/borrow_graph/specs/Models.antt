@@ -1,5 +1,5 @@
 -- What the values of the code stand for in the definitions. A count beyond an array's length reads as the length.
-use mathlib.Core.Bool.{Bool, cond}
+use mathlib.Core.Bool.{Bool, true, false}
 use mathlib.Core.List.{List, map}
 use Prim.Native.Nat.{ℕ}
 use lib.Dec.{eqb}
@@ -31,9 +31,13 @@ edgesOf s = map gedgeOf (take (s .len) (s .list))
 abbrev pub graphOf : BorrowGraph → Graph
 graphOf g = record { names = refsOf (g .refs); edges = edgesOf (g .edges) }
 
--- a refusal has its number of document 01
+-- a refusal has its number of document 01; 0 is none
+abbrev pub told-by : {A : Type 0} → Bool → ℕ → A → Ans A
+told-by true n a = ok a
+told-by false n a = refuse n
+
 abbrev pub told : {A : Type 0} → ℕ → A → Ans A
-told n a = cond (eqb n 0) (ok a) (refuse n)
+told n a = told-by (eqb n 0) n a
 
 abbrev pub answerOf : Answer → Ans Graph
 answerOf a = told (a .refusal) (graphOf (a .graph))

@@ -68,6 +68,12 @@ pub(crate) struct Between {
     pub set: BorrowEdgeSet,
 }
 
+// Edges in two lists: those that a strong borrow moves, and the others.
+pub(crate) struct Taken {
+    pub kept: GraphEdges,
+    pub moved: GraphEdges,
+}
+
 // The test of the order so far: the last edge, and how many edges of its pair there have been.
 pub(crate) struct Chain {
     pub ok: bool,

@@ -1,4 +1,5 @@
 // The labelled borrow graph (graph.rs).
+mod borrow;
 mod edges;
 pub mod graph;
 mod refs;
