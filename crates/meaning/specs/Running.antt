@@ -124,11 +124,12 @@ known g n k = needs (wellFormed g && held g n) 9 k
 
 -- ---- core calls
 
--- the fresh name is the old `next`
+-- The fresh name is the old `next`. A name is a 16-bit number; document 01 leaves open what a larger one gives (never in a run): 9.
 unfoldable pub newRef : Bool → Running → Outcome Running
 newRef m r =
-    then (lift (newName (r .graph) (r .next) m)) (λ g.
-    done (record { locals = r .locals; graph = g; next = suc (r .next); root = r .root }))
+    needs (ltb (r .next) 65536) 9
+    (then (lift (newName (r .graph) (r .next) m)) (λ g.
+    done (record { locals = r .locals; graph = g; next = suc (r .next); root = r .root })))
 
 abbrev pub onGraph : Running → Ans Graph → Outcome Running
 onGraph r a = then (lift a) (λ g. done (withGraph r g))

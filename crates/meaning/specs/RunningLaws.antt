@@ -6,6 +6,7 @@ use mathlib.Core.Logic.{_⊎_, inl, inr, _≢_}
 use mathlib.Core.Bool.{Bool, true, false, not, _&&_, _||_, cond, true≢false, false≢true}
 use mathlib.Core.Option.{Option, none, some}
 use mathlib.Core.List.{List, [], _∷_, _++_, map}
+use borrow.Author.Tests.{lt-ltb}
 use lib.ListN.{length, length-append, length-set, getD, set}
 use lib.Dec.{leb, ltb, eqb}
 use Rattle.meaning.specs.Base.{Ans, ok, refuse, any, all, keep, decide, both, and-l, and-r, and-i, eqb-eq, eqb-self, leb-le}
@@ -115,9 +116,12 @@ module _ (l : ℕ) (ls : List Local) where
   newRef-keeps : (b : Bool) (xs : List ℕ) (m : ℕ) (r : Running) → Keeps l ls xs (suc m) r → length xs ≤ 46 → Meets (Fresh (r .next) xs m) (newRef b r)
   unfolding newRef
   newRef-keeps b xs m r h k =
-      meets-then (meets-lift (newName (r .graph) (r .next) b) (newName-fair l (r .graph) (r .next) xs (suc m) b (h .own) k) (λ g e. newName-own l (r .graph) (r .next) xs m b g (h .own) e))
+      let u : r .next + suc m ≤ 65536 = h .own .left in
+      let s : r .next < 65536 = omega arith in
+      rw (lt-ltb (r .next) 65536 s)
+      (meets-then (meets-lift (newName (r .graph) (r .next) b) (newName-fair l (r .graph) (r .next) xs (suc m) b (h .own) k) (λ g e. newName-own l (r .graph) (r .next) xs m b g (h .own) e))
       (λ g. done (record { locals = r .locals; graph = g; next = suc (r .next); root = r .root }))
-      (λ g o. met (record { keeps = record { root = h .root; locals = h .locals; own = o .0 }; noEdge = o .1 }))
+      (λ g o. met (record { keeps = record { root = h .root; locals = h .locals; own = o .0 }; noEdge = o .1 })))
 
   -- a borrow from the root, or from a name in use beside c
   abbrev pub Uses : ℕ → List ℕ → Type 0

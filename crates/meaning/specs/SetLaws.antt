@@ -260,6 +260,21 @@ insert-rank s e t (added b l k h q) =
     let n : length (put e (s .edges)) ≡ suc (length (s .edges)) = length-put e (s .edges) in
     inr (omega arith)
 
+pub insert-rank-le : (s : EdgeSet) (e : Edge) (t : EdgeSet) → Inserted s e t → setRank s ≤ setRank t
+insert-rank-le s e t i = go (insert-rank s e t i)
+  where
+    go : (s ≡ t) ⊎ (setRank s < setRank t) → setRank s ≤ setRank t
+    go (inl q) = let r : setRank s ≡ setRank t = ap setRank q in omega arith
+    go (inr h) = omega arith
+
+-- the rank rises exactly where the set changes
+pub insert-rank-iff : (s : EdgeSet) (e : Edge) (t : EdgeSet) → Inserted s e t → (setRank s < setRank t → s ≢ t) × (s ≢ t → setRank s < setRank t)
+insert-rank-iff s e t i = (λ h q. let r : setRank s ≡ setRank t = ap setRank q in omega arith, λ n. go n (insert-rank s e t i))
+  where
+    go : s ≢ t → (s ≡ t) ⊎ (setRank s < setRank t) → setRank s < setRank t
+    go n (inl q) = absurd (n q)
+    go n (inr h) = h
+
 -- ---- well-formedness
 
 pub setOk-unblurred : (s : EdgeSet) → s .blurred ≡ false → setOk s ≡ (leb (length (s .edges)) 10 && (all short (s .edges) && ordered (s .edges)))
