@@ -1,0 +1,143 @@
+//! Runs the oracle, and our `verify` where it is linked, over the cases worked out by hand, listings from a seed and
+//! all small ones.
+//!
+//!     compare [listings] [seed] [longest small routine]
+
+use oracle::{
+    answer::hex,
+    generator::{self, cases, small},
+    histogram::Histogram,
+    judge::{judge, Source},
+    listing,
+    shrink::shrink,
+};
+use std::env;
+
+fn main() {
+    let mut arguments = env::args().skip(1).map(|a| a.parse::<u64>().expect("a number"));
+    let listings = arguments.next().unwrap_or(20_000);
+    let seed = arguments.next().unwrap_or(1);
+    let longest = arguments.next().unwrap_or(2) as u32;
+    let mut run = Run::default();
+    cases::all().iter().for_each(|case| run.one(&case.listing));
+    for number in 0..listings {
+        let (family, listing) = generator::listing(seed, number);
+        run.one(&listing);
+        run.families[family] += 1
+    }
+    println!("seed {seed}, {listings} listings:");
+    for (name, count) in generator::FAMILIES.iter().zip(&run.families) {
+        println!("  {name}: {count}")
+    }
+    let small = small::Small::new();
+    for length in 1..=longest {
+        println!("every small routine of {length} instructions: {}", small::count(length));
+        for number in 0..small::count(length) {
+            run.one(&small.listing(length, number))
+        }
+    }
+    print!("{}", run.histogram);
+    if let Some(listing) = &run.vanished {
+        let smallest = shrink(listing, |l| {
+            let judged = judge(l);
+            judged.vanished && judged.source == Source::Rust
+        });
+        println!("the smallest accepted though the last run of a block failed: {}", hex(&smallest))
+    }
+    run.close()
+}
+
+#[derive(Default)]
+struct Run {
+    histogram: Histogram,
+    families: [u64; generator::FAMILIES.len()],
+    vanished: Option<Vec<u8>>,
+    #[cfg(feature = "ours")]
+    differing: ours::Differing,
+}
+
+impl Run {
+    fn one(&mut self, listing: &[u8]) {
+        let judged = judge(listing);
+        self.histogram.add(&judged);
+        if judged.vanished && judged.source == Source::Rust {
+            assert!(listing::read(listing).is_ok_and(|r| r.jumps()), "vanished: {}", hex(listing));
+            if self.vanished.as_ref().is_none_or(|v| v.len() > listing.len()) {
+                self.vanished = Some(listing.to_vec())
+            }
+        }
+        #[cfg(feature = "ours")]
+        self.differing.compare(listing, &judged)
+    }
+
+    #[cfg(not(feature = "ours"))]
+    fn close(&self) {
+        println!("our verify is not linked: nothing was compared")
+    }
+
+    #[cfg(feature = "ours")]
+    fn close(&self) {
+        self.differing.close(self.histogram.compared())
+    }
+}
+
+#[cfg(feature = "ours")]
+mod ours {
+    use oracle::{
+        answer::{hex, Answer},
+        judge::{judge, Judged, Source},
+        ours,
+        shrink::shrink,
+    };
+
+    /// What differed in the compared domain, and outside it from document 01 as we read it.
+    #[derive(Default)]
+    pub struct Differing {
+        within: Vec<Vec<u8>>,
+        outside: Vec<Vec<u8>>,
+        number: u64,
+    }
+
+    const SHORT: Answer = Answer { kind: 2, number: 7, place: 0, visits: 0 };
+
+    fn differs(listing: &[u8], judged: &Judged) -> bool {
+        ours::verify(listing) != Ok(judged.answer)
+    }
+
+    impl Differing {
+        pub fn compare(&mut self, listing: &[u8], judged: &Judged) {
+            self.number += 1;
+            if differs(listing, judged) {
+                match judged.source {
+                    Source::Rust => self.within.push(listing.to_vec()),
+                    _ => self.outside.push(listing.to_vec()),
+                }
+            }
+            if self.number % 100 == 0 && ours::verify_short(listing) != Ok(SHORT) {
+                self.outside.push(listing.to_vec())
+            }
+        }
+
+        pub fn close(&self, compared: u64) {
+            println!(
+                "{compared} compared, {} differ; outside {} differ",
+                self.within.len(),
+                self.outside.len()
+            );
+            for (name, found, domain) in [("compared", &self.within, true), ("outside", &self.outside, false)]
+            {
+                let Some(smallest) = found.iter().min_by_key(|l| l.len()) else { continue };
+                let smallest = shrink(smallest, |l| {
+                    let judged = judge(l);
+                    (judged.source == Source::Rust) == domain && differs(l, &judged)
+                });
+                println!("smallest ({name}): {}", hex(&smallest));
+                println!("  the oracle: {:?}", judge(&smallest));
+                println!("  ours: {:?}", ours::verify(&smallest))
+            }
+            if !self.within.is_empty() || !self.outside.is_empty() {
+                std::process::exit(1)
+            }
+        }
+    }
+}

@@ -1,0 +1,65 @@
+//! How often each outcome was reached, and whose answer it was.
+
+use crate::judge::{Judged, Source};
+use std::{collections::BTreeMap, fmt};
+
+#[derive(Default)]
+pub struct Histogram {
+    /// By kind and number: the Rust's own answers, the reader's, the watched run's.
+    outcomes: BTreeMap<(u32, u32), [u64; 3]>,
+    /// Runs of the compared domain by visits: 0, 1, 2-3, 4-7, and so on.
+    visits: BTreeMap<u32, u64>,
+    leftovers: u64,
+    vanished: u64,
+    all: u64,
+}
+
+impl Histogram {
+    pub fn add(&mut self, judged: &Judged) {
+        let Judged { answer, source, leftovers, vanished } = judged;
+        let column = match source {
+            Source::Rust => 0,
+            Source::Reader => 1,
+            Source::Watched => 2,
+        };
+        self.outcomes.entry((answer.kind, answer.number)).or_default()[column] += 1;
+        if *source == Source::Rust {
+            *self.visits.entry(32 - answer.visits.leading_zeros()).or_default() += 1
+        }
+        self.leftovers += *leftovers as u64;
+        self.vanished += *vanished as u64;
+        self.all += 1
+    }
+
+    /// The compared ones.
+    pub fn compared(&self) -> u64 {
+        self.outcomes.values().map(|columns| columns[0]).sum()
+    }
+}
+
+impl fmt::Display for Histogram {
+    fn fmt(&self, f: &mut fmt::Formatter) -> fmt::Result {
+        writeln!(f, "{:16} {:>10} {:>10} {:>10}", "outcome", "compared", "exporter", "outside")?;
+        for ((kind, number), [rust, reader, watched]) in &self.outcomes {
+            let name = match kind {
+                0 => "ACCEPT".to_string(),
+                1 => format!("VIOLATION {number}"),
+                _ => format!("REFUSED {number}"),
+            };
+            writeln!(f, "{name:16} {rust:10} {reader:10} {watched:10}")?
+        }
+        writeln!(
+            f,
+            "{} listings, {} compared, {} with leftovers",
+            self.all,
+            self.compared(),
+            self.leftovers
+        )?;
+        writeln!(f, "{} accepted though the last run of a block failed", self.vanished)?;
+        write!(f, "visits of the compared:")?;
+        for (bits, count) in &self.visits {
+            write!(f, "  <{}: {count}", 1u64 << bits)?
+        }
+        writeln!(f)
+    }
+}

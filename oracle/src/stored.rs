@@ -1,0 +1,96 @@
+//! The stored list: listings with the oracle's answers, to be replayed without the Rust.
+//!
+//! All numbers are 32 bits, little-endian. First the number of entries; then each entry: the listing's length, its
+//! bytes, whose answer it is (0 the Rust's own, 1 an exporter's refusal, 2 the watched run's), and the answer's four
+//! words: 0 accepted, 1 violation, 2 refused; its number; its place; the visits.
+
+use crate::{
+    answer::Answer,
+    generator::{self, cases, load, small},
+    judge::{judge, Judged, Source},
+};
+use std::collections::BTreeMap;
+
+pub struct Entry {
+    pub listing: Vec<u8>,
+    pub source: u32,
+    pub answer: Answer,
+}
+
+fn number(source: Source) -> u32 {
+    match source {
+        Source::Rust => 0,
+        Source::Reader => 1,
+        Source::Watched => 2,
+    }
+}
+
+pub fn entry(listing: Vec<u8>) -> Entry {
+    let Judged { answer, source, .. } = judge(&listing);
+    Entry { listing, source: number(source), answer }
+}
+
+const LONGEST: usize = 450;
+
+/// From each family so many of each outcome and of each scale of visits; more where neither family nor visits vary.
+fn of_each(answer: &Answer) -> u32 {
+    match answer {
+        Answer { kind: 2, number: 1..=6 | 16, .. } => 30,
+        _ => 5,
+    }
+}
+
+/// The cases worked out by hand, some of A7's and of the small routines, and of the generated ones.
+pub fn choose(seed: u64, generated: u64) -> Vec<Entry> {
+    let mut all: Vec<Entry> = cases::all().into_iter().map(|case| entry(case.listing)).collect();
+    all.extend((0..20).map(|start| entry(load::listing(start, 5 * start))));
+    let every = small::Small::new();
+    all.extend((0..small::count(2)).step_by(61).map(|number| entry(every.listing(2, number))));
+    let mut taken = BTreeMap::new();
+    for at in 0..generated {
+        let (family, listing) = generator::listing(seed, at);
+        if listing.len() > LONGEST {
+            continue;
+        }
+        let entry = entry(listing);
+        let Answer { kind, number, visits, .. } = entry.answer;
+        let sort = (family, entry.source, kind, number, visits.checked_ilog2());
+        let count = taken.entry(sort).or_insert(0);
+        *count += 1;
+        if *count <= of_each(&entry.answer) {
+            all.push(entry)
+        }
+    }
+    all
+}
+
+pub fn write(entries: &[Entry]) -> Vec<u8> {
+    let mut out = (entries.len() as u32).to_le_bytes().to_vec();
+    for entry in entries {
+        out.extend((entry.listing.len() as u32).to_le_bytes());
+        out.extend(&entry.listing);
+        out.extend(entry.source.to_le_bytes());
+        out.extend(entry.answer.words().iter().flat_map(|w| w.to_le_bytes()))
+    }
+    out
+}
+
+pub fn read(bytes: &[u8]) -> Vec<Entry> {
+    let mut at = 0;
+    let word = |at: &mut usize| {
+        *at += 4;
+        u32::from_le_bytes(bytes[*at - 4..*at].try_into().unwrap())
+    };
+    let count = word(&mut at);
+    let entries = (0..count)
+        .map(|_| {
+            let length = word(&mut at) as usize;
+            let listing = bytes[at..at + length].to_vec();
+            at += length;
+            let source = word(&mut at);
+            Entry { listing, source, answer: Answer::of([(); 4].map(|_| word(&mut at))) }
+        })
+        .collect();
+    assert_eq!(at, bytes.len());
+    entries
+}
