@@ -15,6 +15,7 @@ use Rattle.borrow_graph.specs.declared.graph.BorrowGraph.{BorrowGraph}
 use Rattle.borrow_graph.specs.declared.graph.Answer.{Answer}
 use Rattle.borrow_graph.specs.declared.graph.Told.{Told}
 use Rattle.borrow_graph.specs.declared.graph.Names.{Names}
+use Rattle.borrow_graph.specs.declared.pairs.Replaced.{Replaced}
 
 abbrev pub refOf : Ref → Name
 refOf a = record { id = a .id .0; mutable = a .mutable }
@@ -43,3 +44,6 @@ toldOf a = told (a .refusal) (a .yes)
 
 abbrev pub namesOf : Names → Ans (List Name)
 namesOf a = told (a .refusal) (refsOf (a .refs))
+
+abbrev pub replacedOf : Replaced → Ans (List GEdge)
+replacedOf a = told (a .refusal) (edgesOf (a .edges))
