@@ -1,7 +1,13 @@
 // The join of two graphs of the same names: the other's edges that ours do not cover are put in.
-use crate::graph::{Answer, BorrowGraph, GraphEdges, Refs};
+use crate::graph::Answer;
+use crate::graph::BorrowGraph;
+use crate::graph::GraphEdges;
+use crate::graph::Refs;
 use crate::pairs::Replaced;
-use references::references::{BorrowEdgeSet, Candidate, Inserted, RefID};
+use references::references::BorrowEdgeSet;
+use references::references::Candidate;
+use references::references::Inserted;
+use references::references::RefID;
 ghost use mathlib.Core.Path.{_≡_};
 ghost use mathlib.Core.Bool.{_&&_};
 ghost use mathlib.Core.List.{[], _∷_};

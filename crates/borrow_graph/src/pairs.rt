@@ -1,6 +1,7 @@
 // The set of a pair gives way to a new one, within the limit of 96 edges.
 use crate::graph::GraphEdges;
-use references::references::{Inserted, RefID};
+use references::references::Inserted;
+use references::references::RefID;
 ghost use mathlib.Core.Path.{_≡_};
 ghost use Rattle.meaning.specs.Base.{andThen};
 ghost use Rattle.meaning.specs.Pairs.{replaceOne};

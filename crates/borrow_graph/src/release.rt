@@ -1,8 +1,14 @@
 // A name is taken out; each way through it stays as an edge.
-use crate::graph::{Answer, BorrowGraph, GraphEdges};
+use crate::graph::Answer;
+use crate::graph::BorrowGraph;
+use crate::graph::GraphEdges;
 use crate::pairs::Replaced;
 use references::paths;
-use references::references::{BorrowEdge, BorrowEdgeSet, Candidate, Inserted, RefID};
+use references::references::BorrowEdge;
+use references::references::BorrowEdgeSet;
+use references::references::Candidate;
+use references::references::Inserted;
+use references::references::RefID;
 ghost use mathlib.Core.Path.{_≡_};
 ghost use mathlib.Core.List.{map};
 ghost use Rattle.meaning.specs.Base.{leaves, keep};

@@ -248,8 +248,8 @@ release-passes g n = release-pairwise g n ∙ go (wellFormed g && held g n) refl
     go true e =
         let v = wf→inv g (and-l (wellFormed g) (held g n) e) in
         let same : (sh : Bool) (es : List GEdge) → replaceLim sh (newSet (without g n) (spliced g n)) (releasePairs g n) es ≡ replaceLim sh (spliceSet (g .edges) n) (releasePairs g n) es =
-          λ sh es. pass-same sh (newSet (without g n) (spliced g n)) (spliceSet (g .edges) n) (pairOk (without g n .names))
-          (λ p c h. let a = stay-apart g n p c h in release-new g n p c v (a .0) (a .1) (a .2)) (releasePairs g n) es (releasePairs-stay g n v) in
+        λ sh es. pass-same sh (newSet (without g n) (spliced g n)) (spliceSet (g .edges) n) (pairOk (without g n .names))
+        (λ p c h. let a = stay-apart g n p c h in release-new g n p c v (a .0) (a .1) (a .2)) (releasePairs g n) es (releasePairs-stay g n v) in
         ap (λ (f : Bool → List GEdge → Ans (List GEdge)). withEdges (without g n) (or21 (f false (without g n .edges)) (andThen (f true (without g n .edges)) (λ fs. f false fs)))) (λ i sh es. same sh es i)
 
 pub join-passes : (g h : Graph) → joinGraphs g h ≡ guard ((wellFormed g && wellFormed h) && sameNames g h) 9 (withEdges g (twoPass (joinSet (g .edges) (h .edges)) (joinPairs h) (g .edges)))

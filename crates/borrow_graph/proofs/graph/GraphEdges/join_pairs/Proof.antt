@@ -71,9 +71,10 @@ loop-less c = omega arith
 loop-again : tie.Need-loop-again Inv-loop μ-loop
 loop-again c =
     let r = (c .before .before .before .before .before .join-pair) .result in
-    let d = (c .before .before .before .before .before .before .before .before .before .before .before .before) in
-    (pass-neat ((c .before .before .before .before .before .before .before .before .before .before .before .before .before .before .before .args) .shrinking) (new d) (joinSet-ok (edgesOf ((c .before .before .before .before .before .before .before .before .before .before .before .before .before .before .before .args) .ours)) (edgesOf ((c .before .before .before .before .before .before .before .before .before .before .before .before .before .before .before .args) .t3)) ((c .before .before .before .before .before .before .before .before .before .before .before .before .before .before .before .pre) .1)) (ends (here d) ∷ []) (edgesOf ((c .before .before .before .before .before .before .before .before .before .before .before .before .before .loop) .es)) (edgesOf (r .edges)) ((c .before .before .before .before .before .before .before .before .before .before .before .before .before .loop) .inv .0) (sym ((c .before .before .before .before .before .join-pair) .ensures) ∙ told-yes (r .refusal) (edgesOf (r .edges)) ((c .before .before .before .if2) .taken)),
-    told-on (r .refusal) (edgesOf (r .edges)) _ _ _ ((c .before .before .before .before .before .join-pair) .ensures) (turn (c .before .before .before .before .before .before)) ((c .before .before .before .if2) .taken))
+    let d = (c .before .before .before .before .before .before .before .before .before .before .before .before) in (
+      pass-neat ((c .before .before .before .before .before .before .before .before .before .before .before .before .before .before .before .args) .shrinking) (new d) (joinSet-ok (edgesOf ((c .before .before .before .before .before .before .before .before .before .before .before .before .before .before .before .args) .ours)) (edgesOf ((c .before .before .before .before .before .before .before .before .before .before .before .before .before .before .before .args) .t3)) ((c .before .before .before .before .before .before .before .before .before .before .before .before .before .before .before .pre) .1)) (ends (here d) ∷ []) (edgesOf ((c .before .before .before .before .before .before .before .before .before .before .before .before .before .loop) .es)) (edgesOf (r .edges)) ((c .before .before .before .before .before .before .before .before .before .before .before .before .before .loop) .inv .0) (sym ((c .before .before .before .before .before .join-pair) .ensures) ∙ told-yes (r .refusal) (edgesOf (r .edges)) ((c .before .before .before .if2) .taken)),
+      told-on (r .refusal) (edgesOf (r .edges)) _ _ _ ((c .before .before .before .before .before .join-pair) .ensures) (turn (c .before .before .before .before .before .before)) ((c .before .before .before .if2) .taken),
+    )
 
 returns : tie.Need-returns Inv-loop μ-loop
 returns c = told-off ((c .before .before .join-pair) .result .refusal) (edgesOf ((c .before .before .join-pair) .result .edges)) _ _ _ ((c .before .before .join-pair) .ensures) (turn (c .before .before .before)) ((c .if2) .left) (edgesOf ((c .before .before .join-pair) .result .edges))

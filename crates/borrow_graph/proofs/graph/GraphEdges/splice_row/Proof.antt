@@ -42,7 +42,7 @@ next c = ap (λ (xs : List GEdge). childrenFrom ((c .before .before .before .arg
 
 turn : (c : tie.Then1 Inv-loop μ-loop) →
     let d = (c .before .before .before .before .before .before) in
-    let y = record { parent = (c .before .before .before .before .before .before .before .before .before .args) .id .0; child = here d .child } in
+    let y : Pair = record { parent = (c .before .before .before .before .before .before .before .before .before .args) .id .0; child = here d .child } in
     andThen (replaceLim ((c .before .before .before .before .before .before .before .before .before .args) .shrinking) (new d) (made d y) (edgesOf ((c .before .before .before .before .before .before .before .loop) .es))) (λ fs. replaceLim ((c .before .before .before .before .before .before .before .before .before .args) .shrinking) (new d) (each (childrenFrom ((c .before .before .before .before .before .before .before .before .before .args) .id .0) (here d .child) (drop ((c .before .before .before .before .before .before .before .loop) .i + 1) (edgesOf ((c .before .before .before .before .before .before .before .before .before .args) .t2)))) (made d)) fs)
     ≡ replaceLim ((c .before .before .before .before .before .before .before .before .before .args) .shrinking) (new d) (childRow (edgesOf ((c .before .before .before .before .before .before .before .before .before .args) .t2)) ((c .before .before .before .before .before .before .before .before .before .args) .id .0) (record { parent = (c .before .before .before .before .before .before .before .before .before .args) .parent .0; child = (c .before .before .before .before .before .before .before .before .before .args) .id .0 })) (edgesOf ((c .before .before .before .before .before .before .before .before .before .args) .self))
 turn c =
@@ -76,9 +76,10 @@ loop-less c = omega arith
 loop-again : tie.Need-loop-again Inv-loop μ-loop
 loop-again c =
     let r = (c .before .before .before .before .splice-pair) .result in
-    let d = (c .before .before .before .before .before .before .before .before .before .before .before) in
-    (pass-neat ((c .before .before .before .before .before .before .before .before .before .before .before .before .before .before .args) .shrinking) (new d) (spliceSet-ok (edgesOf ((c .before .before .before .before .before .before .before .before .before .before .before .before .before .before .args) .t2)) ((c .before .before .before .before .before .before .before .before .before .before .before .before .before .before .args) .id .0) ((c .before .before .before .before .before .before .before .before .before .before .before .before .before .before .pre) .1)) (made d (record { parent = (c .before .before .before .before .before .before .before .before .before .before .before .before .before .before .args) .id .0; child = here d .child })) (edgesOf ((c .before .before .before .before .before .before .before .before .before .before .before .before .loop) .es)) (edgesOf (r .edges)) ((c .before .before .before .before .before .before .before .before .before .before .before .before .loop) .inv .0) (sym ((c .before .before .before .before .splice-pair) .ensures) ∙ told-yes (r .refusal) (edgesOf (r .edges)) ((c .before .before .if2) .taken)),
-    told-on (r .refusal) (edgesOf (r .edges)) _ _ _ ((c .before .before .before .before .splice-pair) .ensures) (turn (c .before .before .before .before .before)) ((c .before .before .if2) .taken))
+    let d = (c .before .before .before .before .before .before .before .before .before .before .before) in (
+      pass-neat ((c .before .before .before .before .before .before .before .before .before .before .before .before .before .before .args) .shrinking) (new d) (spliceSet-ok (edgesOf ((c .before .before .before .before .before .before .before .before .before .before .before .before .before .before .args) .t2)) ((c .before .before .before .before .before .before .before .before .before .before .before .before .before .before .args) .id .0) ((c .before .before .before .before .before .before .before .before .before .before .before .before .before .before .pre) .1)) (made d (record { parent = (c .before .before .before .before .before .before .before .before .before .before .before .before .before .before .args) .id .0; child = here d .child })) (edgesOf ((c .before .before .before .before .before .before .before .before .before .before .before .before .loop) .es)) (edgesOf (r .edges)) ((c .before .before .before .before .before .before .before .before .before .before .before .before .loop) .inv .0) (sym ((c .before .before .before .before .splice-pair) .ensures) ∙ told-yes (r .refusal) (edgesOf (r .edges)) ((c .before .before .if2) .taken)),
+      told-on (r .refusal) (edgesOf (r .edges)) _ _ _ ((c .before .before .before .before .splice-pair) .ensures) (turn (c .before .before .before .before .before)) ((c .before .before .if2) .taken),
+    )
 
 returns : tie.Need-returns Inv-loop μ-loop
 returns c = told-off ((c .before .before .splice-pair) .result .refusal) (edgesOf ((c .before .before .splice-pair) .result .edges)) _ _ _ ((c .before .before .splice-pair) .ensures) (turn (c .before .before .before)) ((c .if2) .left) (edgesOf ((c .before .before .splice-pair) .result .edges))

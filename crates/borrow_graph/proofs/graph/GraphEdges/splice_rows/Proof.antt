@@ -42,7 +42,7 @@ next c = ap (λ (xs : List GEdge). parentsFrom ((c .before .before .before .args
 
 turn : (c : tie.Then1 Inv-loop μ-loop) →
     let d = (c .before .before .before .before .before .before) in
-    let y = record { parent = here d .parent; child = (c .before .before .before .before .before .before .before .before .before .args) .id .0 } in
+    let y : Pair = record { parent = here d .parent; child = (c .before .before .before .before .before .before .before .before .before .args) .id .0 } in
     andThen (replaceLim ((c .before .before .before .before .before .before .before .before .before .args) .shrinking) (new d) (made d y) (edgesOf ((c .before .before .before .before .before .before .before .loop) .es))) (λ fs. replaceLim ((c .before .before .before .before .before .before .before .before .before .args) .shrinking) (new d) (each (parentsFrom ((c .before .before .before .before .before .before .before .before .before .args) .id .0) (here d .parent) (drop ((c .before .before .before .before .before .before .before .loop) .i + 1) (edgesOf ((c .before .before .before .before .before .before .before .before .before .args) .t2)))) (made d)) fs)
     ≡ replaceLim ((c .before .before .before .before .before .before .before .before .before .args) .shrinking) (new d) (splicePairs (edgesOf ((c .before .before .before .before .before .before .before .before .before .args) .t2)) ((c .before .before .before .before .before .before .before .before .before .args) .id .0)) (edgesOf ((c .before .before .before .before .before .before .before .before .before .args) .self))
 turn c =
@@ -77,9 +77,10 @@ loop-less c = omega arith
 loop-again : tie.Need-loop-again Inv-loop μ-loop
 loop-again c =
     let r = (c .before .before .before .before .splice-row) .result in
-    let d = (c .before .before .before .before .before .before .before .before .before .before .before) in
-    (pass-neat ((c .before .before .before .before .before .before .before .before .before .before .before .before .before .before .args) .shrinking) (new d) (spliceSet-ok (edgesOf ((c .before .before .before .before .before .before .before .before .before .before .before .before .before .before .args) .t2)) ((c .before .before .before .before .before .before .before .before .before .before .before .before .before .before .args) .id .0) ((c .before .before .before .before .before .before .before .before .before .before .before .before .before .before .pre) .1)) (made d (record { parent = here d .parent; child = (c .before .before .before .before .before .before .before .before .before .before .before .before .before .before .args) .id .0 })) (edgesOf ((c .before .before .before .before .before .before .before .before .before .before .before .before .loop) .es)) (edgesOf (r .edges)) ((c .before .before .before .before .before .before .before .before .before .before .before .before .loop) .inv .0) (sym ((c .before .before .before .before .splice-row) .ensures) ∙ told-yes (r .refusal) (edgesOf (r .edges)) ((c .before .before .if2) .taken)),
-    told-on (r .refusal) (edgesOf (r .edges)) _ _ _ ((c .before .before .before .before .splice-row) .ensures) (turn (c .before .before .before .before .before)) ((c .before .before .if2) .taken))
+    let d = (c .before .before .before .before .before .before .before .before .before .before .before) in (
+      pass-neat ((c .before .before .before .before .before .before .before .before .before .before .before .before .before .before .args) .shrinking) (new d) (spliceSet-ok (edgesOf ((c .before .before .before .before .before .before .before .before .before .before .before .before .before .before .args) .t2)) ((c .before .before .before .before .before .before .before .before .before .before .before .before .before .before .args) .id .0) ((c .before .before .before .before .before .before .before .before .before .before .before .before .before .before .pre) .1)) (made d (record { parent = here d .parent; child = (c .before .before .before .before .before .before .before .before .before .before .before .before .before .before .args) .id .0 })) (edgesOf ((c .before .before .before .before .before .before .before .before .before .before .before .before .loop) .es)) (edgesOf (r .edges)) ((c .before .before .before .before .before .before .before .before .before .before .before .before .loop) .inv .0) (sym ((c .before .before .before .before .splice-row) .ensures) ∙ told-yes (r .refusal) (edgesOf (r .edges)) ((c .before .before .if2) .taken)),
+      told-on (r .refusal) (edgesOf (r .edges)) _ _ _ ((c .before .before .before .before .splice-row) .ensures) (turn (c .before .before .before .before .before)) ((c .before .before .if2) .taken),
+    )
 
 returns : tie.Need-returns Inv-loop μ-loop
 returns c = told-off ((c .before .before .splice-row) .result .refusal) (edgesOf ((c .before .before .splice-row) .result .edges)) _ _ _ ((c .before .before .splice-row) .ensures) (turn (c .before .before .before)) ((c .if2) .left) (edgesOf ((c .before .before .splice-row) .result .edges))
