@@ -9,6 +9,7 @@ use Rattle.meaning.specs.Graph.{GEdge, Name, isBefore}
 use Rattle.meaning.specs.Chain.{same, link, nextCount, chain, start, climbs}
 use Rattle.borrow_graph.specs.declared.graph.Chain.{Chain}
 use Rattle.borrow_graph.specs.Models.{gedgeOf}
+
 -- ---- names that ascend
 
 pub record Climb : Type 0 where

@@ -1,13 +1,17 @@
 -- The models read and written one element at a time.
-use mathlib.Core.Path.{_≡_, refl}
-use mathlib.Core.Bool.{false}
+use mathlib.Core.Path.{_≡_, refl, sym, ap, _∙_}
+use mathlib.Core.Bool.{Bool, true, false, cond}
 use mathlib.Core.List.{List, [], _∷_, map}
 use Prim.Native.Nat.{ℕ, _+_, _≤_, _<_}
 use native.Mathlib.Omega.{arith}
+use borrow.Author.Tests.{eq-eqb, ne-eqb}
+use lib.Dec.{eqb}
 use lib.ListN.{length, take, drop, getD, drop-of-length-le, length-map, length-take}
+use Rattle.meaning.specs.Base.{Ans, ok, refuse, andThen, leaves}
+use Rattle.meaning.specs.Pairs.{or21}
 use Rattle.meaning.specs.ArrayLaws.{front-map-step, front-take}
 use Rattle.references.specs.ModelLaws as R
-use Rattle.borrow_graph.specs.Models.{refOf, refsOf, gedgeOf, edgesOf}
+use Rattle.borrow_graph.specs.Models.{refOf, refsOf, gedgeOf, edgesOf, told}
 use Rattle.borrow_graph.specs.declared.graph.Ref.{Ref}
 use Rattle.borrow_graph.specs.declared.graph.Refs.{Refs}
 use Rattle.borrow_graph.specs.declared.graph.GraphEdge.{GraphEdge}
@@ -58,3 +62,31 @@ edges-made l n = refl
 pub edges-count : (l : List GraphEdge) (n : ℕ) → n ≤ length l → length (edgesOf (record { list = l; len = n })) ≡ n
 unfolding edgesOf
 edges-count l n h = simp (length-map, length-take) (omega arith)
+
+-- ---- an answer as a number and a value
+
+pub told-yes : {A : Type 0} (n : ℕ) (t : A) → n ≡ 0 → told n t ≡ ok t
+told-yes {A} n t z = ap (λ (b : Bool). cond b (ok t) (refuse n)) (eq-eqb n 0 z)
+
+pub told-no : {A : Type 0} (n : ℕ) (t : A) → (n ≡ 0 → ⊥) → told n t ≡ refuse n
+told-no {A} n t z = ap (λ (b : Bool). cond b (ok t) (refuse n)) (ne-eqb n 0 z)
+
+-- a turn of a loop: a step a that is answered goes on, one that is refused ends it
+module _ {A B : Type 0} (n : ℕ) (t : A) (a : Ans A) (f : A → Ans B) (r : Ans B) (e : told n t ≡ a) (h : andThen a f ≡ r) where
+  pub told-on : n ≡ 0 → f t ≡ r
+  told-on z = ap (λ (b : Ans A). andThen b f) (sym (told-yes n t z) ∙ e) ∙ h
+
+  pub told-off : (n ≡ 0 → ⊥) → (s : B) → told n s ≡ r
+  told-off z s = told-no n s z ∙ ap (λ (b : Ans A). andThen b f) (sym (told-no n t z) ∙ e) ∙ h
+
+-- a call refused with what a callee was refused with
+pub told-declined : {A : Type 0} (n : ℕ) (s : A) (a : Ans A) → (n ≡ 0 → ⊥) → a ≡ refuse n → (told n s ≡ a) × (s ≡ leaves s a)
+told-declined {A} n s a z e = (told-no n s z ∙ sym e, sym (ap (λ (b : Ans A). leaves s b) e))
+
+-- an answer that is not 21 needs no second pass
+pub told-first : {A : Type 0} (n : ℕ) (t : A) (a k : Ans A) → (n ≡ 21 → ⊥) → told n t ≡ a → told n t ≡ or21 a k
+told-first {A} n t a k z e = go (eqb n 0) ∙ ap (λ (b : Ans A). or21 b k) e
+  where
+    go : (b : Bool) → cond b (ok t) (refuse n) ≡ or21 (cond b (ok t) (refuse n)) k
+    go true = refl
+    go false = ap (λ (b : Bool). cond b k (refuse n)) (sym (ne-eqb n 21 z))

@@ -1,5 +1,5 @@
 -- What the values of the code stand for in the definitions. A count beyond an array's length reads as the length.
-use mathlib.Core.Bool.{Bool, true, false}
+use mathlib.Core.Bool.{Bool, cond}
 use mathlib.Core.List.{List, map}
 use Prim.Native.Nat.{ℕ}
 use lib.Dec.{eqb}
@@ -15,6 +15,7 @@ use Rattle.borrow_graph.specs.declared.graph.BorrowGraph.{BorrowGraph}
 use Rattle.borrow_graph.specs.declared.graph.Answer.{Answer}
 use Rattle.borrow_graph.specs.declared.graph.Told.{Told}
 use Rattle.borrow_graph.specs.declared.graph.Names.{Names}
+use Rattle.borrow_graph.specs.declared.pairs.Replaced.{Replaced}
 
 abbrev pub refOf : Ref → Name
 refOf a = record { id = a .id .0; mutable = a .mutable }
@@ -32,12 +33,8 @@ abbrev pub graphOf : BorrowGraph → Graph
 graphOf g = record { names = refsOf (g .refs); edges = edgesOf (g .edges) }
 
 -- a refusal has its number of document 01; 0 is none
-abbrev pub told-by : {A : Type 0} → Bool → ℕ → A → Ans A
-told-by true n a = ok a
-told-by false n a = refuse n
-
 abbrev pub told : {A : Type 0} → ℕ → A → Ans A
-told n a = told-by (eqb n 0) n a
+told n a = cond (eqb n 0) (ok a) (refuse n)
 
 abbrev pub answerOf : Answer → Ans Graph
 answerOf a = told (a .refusal) (graphOf (a .graph))
@@ -47,3 +44,6 @@ toldOf a = told (a .refusal) (a .yes)
 
 abbrev pub namesOf : Names → Ans (List Name)
 namesOf a = told (a .refusal) (refsOf (a .refs))
+
+abbrev pub replacedOf : Replaced → Ans (List GEdge)
+replacedOf a = told (a .refusal) (edgesOf (a .edges))

@@ -1,7 +1,11 @@
 // The edges of all pairs in one list, ascending by parent, child and edge.
-use crate::graph::{Between, GraphEdge, GraphEdges};
+use crate::graph::Between;
+use crate::graph::GraphEdge;
+use crate::graph::GraphEdges;
 use references::paths::Ordering;
-use references::references::{BorrowEdge, BorrowEdgeSet, RefID};
+use references::references::BorrowEdge;
+use references::references::BorrowEdgeSet;
+use references::references::RefID;
 ghost use mathlib.Core.Path.{_≡_};
 ghost use mathlib.Core.Bool.{true};
 ghost use mathlib.Core.List.{_++_};
@@ -81,10 +85,7 @@ impl GraphEdges {
             len: len as u8,
             overflown: overflown,
         };
-        Between {
-            low: low,
-            set: set,
-        }
+        Between { low: low, set: set }
     }
 
     // The `old` edges from `low` on give way to those of a set of this pair.

@@ -1,7 +1,9 @@
 // The borrow graph by value. Every call tests first that the graph is well formed; a call that is refused leaves the graph as
 // it was.
 use references::paths::Ordering;
-use references::references::{BorrowEdge, BorrowEdgeSet, RefID};
+use references::references::BorrowEdge;
+use references::references::BorrowEdgeSet;
+use references::references::RefID;
 ghost use mathlib.Core.Path.{_≡_};
 ghost use mathlib.Core.Bool.{true};
 ghost use mathlib.Core.List.{[]};

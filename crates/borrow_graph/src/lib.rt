@@ -2,4 +2,7 @@
 mod borrow;
 mod edges;
 pub mod graph;
+mod join;
+mod pairs;
 mod refs;
+mod release;

@@ -105,5 +105,5 @@ module _ (p c : ℕ) (es : List GEdge) (neat : Neat es) where
       let a : take (length low) es ≡ low = ap (λ (l : List GEdge). take (length low) l) (sym parts) ∙ take-at low (pair ++ high) (length low) refl in
       let n : length (low ++ pair) ≡ length low + length (edgesAt p c es) = length-append low pair ∙ ap (λ (k : ℕ). length low + k) pair-length in
       let b : drop (length low + length (edgesAt p c es)) es ≡ high =
-        ap (λ (k : ℕ). drop k es) (sym n) ∙ ap (λ (l : List GEdge). drop (length (low ++ pair)) l) (sym (append-assoc low pair high ∙ parts)) ∙ drop-at (low ++ pair) high (length (low ++ pair)) refl in
+      ap (λ (k : ℕ). drop k es) (sym n) ∙ ap (λ (l : List GEdge). drop (length (low ++ pair)) l) (sym (append-assoc low pair high ∙ parts)) ∙ drop-at (low ++ pair) high (length (low ++ pair)) refl in
       λ i. sym a i ++ (tagged p c (s .blurred) (s .edges) ++ sym b i)

@@ -2,7 +2,6 @@ use mathlib.Core.Path.{_≡_, refl, sym, ap, _∙_, subst}
 use mathlib.Core.Bool.{Bool, true, false, not, _&&_}
 use mathlib.Core.List.{List}
 use Prim.Native.Nat.{ℕ, _+_, _≤_}
-use borrow.Author.Tests.{eq-eqb, ne-eqb}
 use lib.Dec.{eqb}
 use lib.ListN.{length}
 use Rattle.meaning.specs.Base.{Ans, ok, refuse, all, keep, answered, declined}
@@ -10,7 +9,8 @@ use Rattle.meaning.specs.Graph.{GEdge, Graph, wellFormed, pairOk}
 use Rattle.meaning.specs.Borrow.{moves, borrowStrong}
 use Rattle.meaning.specs.PutLaws.{Moved, strong-9, stay-formed, moved-pairs, strong-last}
 use Rattle.references.specs.Models.{pathOf}
-use Rattle.borrow_graph.specs.Models.{refsOf, edgesOf, graphOf, answerOf, told-by}
+use Rattle.borrow_graph.specs.ModelLaws.{told-yes, told-no, told-declined}
+use Rattle.borrow_graph.specs.Models.{refsOf, edgesOf, graphOf, answerOf}
 use native.Mathlib.Omega.{arith}
 use borrow.Author.Needs.{needs}
 use Rattle.borrow_graph.proofs.graph.BorrowGraph.factor.Statement.{statement}
@@ -62,14 +62,14 @@ returns : tie.Need-returns
 returns c =
     let a = (c .before .before .add-edge) .result in
     let g = graphOf ((c .before .before .before .before .before .before .before .before .before .before .before .before .before .args) .self) in
-    let e = sym (last (c .before .before)) ∙ ap (λ (b : Bool). told-by b (a .refusal) (graphOf (a .graph))) (eq-eqb (a .refusal) 0 ((c .if2) .taken)) in
+    let e = sym (last (c .before .before)) ∙ told-yes (a .refusal) (graphOf (a .graph)) (((c .if2) .taken)) in
     (last (c .before .before), answered g (graphOf (a .graph)) _ e .1)
 
 returns-2 : tie.Need-returns-2
 returns-2 c =
     let a = (c .before .before .add-edge) .result in
     let g = graphOf ((c .before .before .before .before .before .before .before .before .before .before .before .before .before .args) .self) in
-    rw (ne-eqb (a .refusal) 0 ((c .if2) .left)) (declined g (a .refusal) _ (sym (last (c .before .before)) ∙ ap (λ (b : Bool). told-by b (a .refusal) (graphOf (a .graph))) (ne-eqb (a .refusal) 0 ((c .if2) .left))))
+    told-declined (a .refusal) g _ ((c .if2) .left) (sym (last (c .before .before)) ∙ told-no (a .refusal) (graphOf (a .graph)) ((c .if2) .left))
 
 returns-3 : tie.Need-returns-3
 returns-3 c =
