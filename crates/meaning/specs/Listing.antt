@@ -138,19 +138,25 @@ withinLimits (f ∷ fs) b = within f b && withinLimits fs (drop (width f b) b)
 
 -- ---- what the bodies mean
 
-abbrev pub tokenOf : ℕ → Token
-tokenOf t = cond (eqb t 0) ofValue (ofRef (eqb t 2))
+-- f 0, f 1, .., n of them
+unfoldable pub series : {A : Type 0} → ℕ → (ℕ → A) → List A
+series zero f = []
+series (suc n) f = series n f ++ (f n ∷ [])
 
+-- 0 value, 1 reference, 2 mutable reference
+abbrev pub tokenAs : ℕ → Token
+tokenAs t = cond (eqb t 0) ofValue (ofRef (eqb t 2))
+
+-- 1 mutable, 0 not
 abbrev pub flagAt : List ℕ → ℕ → Bool
 flagAt b i = eqb (getD b i 0) 1
 
 -- n tokens from a place on; n numbers
-unfoldable pub tokensAt : List ℕ → ℕ → ℕ → List Token
-tokensAt b i n = map tokenOf (take n (drop i b))
+abbrev pub tokensAt : List ℕ → ℕ → ℕ → List Token
+tokensAt b i n = series n (λ k. tokenAs (getD b (i + k) 0))
 
-unfoldable pub wordsAt : List ℕ → ℕ → ℕ → List ℕ
-wordsAt b i zero = []
-wordsAt b i (suc n) = u16At b i ∷ wordsAt b (i + 2) n
+abbrev pub wordsAt : List ℕ → ℕ → ℕ → List ℕ
+wordsAt b i n = series n (λ k. u16At b (i + 2 * k))
 
 -- kind 1
 abbrev pub paramsOf : List ℕ → List Token
@@ -189,9 +195,9 @@ instructions b =
     ∷ MoveFrom (u16At b 0)
     ∷ callOf b
     ∷ Ret
-    ∷ Values (u16At b 0) (u16At b 2) (tokenOf (getD b 4 0))
+    ∷ Values (u16At b 0) (u16At b 2) (tokenAs (getD b 4 0))
     ∷ MoveTo
-    ∷ VectorOp (getD b 0 0) (flagAt b 1) (getD b 2 0) (tokenOf (getD b 3 0))
+    ∷ VectorOp (getD b 0 0) (flagAt b 1) (getD b 2 0) (tokenAs (getD b 3 0))
     ∷ BorrowElement (flagAt b 0)
     ∷ []
 
@@ -223,6 +229,9 @@ faultAt s l at =
 pub record Places : Type 0 where
   pub blocks : List ℕ
   pub code : List ℕ
+
+abbrev pub noPlaces : Places
+noPlaces = record { blocks = []; code = [] }
 
 -- more than 16 blocks or 512 instructions: 6
 abbrev pub fullFor : ℕ → Places → Bool
@@ -270,18 +279,21 @@ unfoldable pub repeats : List ℕ → Bool
 repeats [] = false
 repeats (e ∷ es) = any (eqb e) es || repeats es
 
+-- a successor of the block b at position i: it is no block's entry, or it is above b's entry and not listed later
+abbrev pub faultySuccessor : List Block → ℕ → Block → ℕ → Bool
+faultySuccessor bs i b e = not (entryIn bs e) || (ltb (b .entry) e && not (entryIn (drop (i + 1) bs) e))
+
 -- the block at position i of the list, of a routine of n instructions
 unfoldable pub faultyBlock : ℕ → List Block → ℕ → Bool
 unfolding repeats
 faultyBlock n bs i =
     let b : Block = getD bs i noBlock in
     (eqb i 0 && not (eqb (b .entry) 0))
-    || (not (leb (b .entry) (b .exit))
-    || (not (ltb (b .exit) n)
+    || (ltb (b .exit) (b .entry)
+    || (leb n (b .exit)
     || (any (overlap b) (take i bs)
     || (repeats (b .successors)
-    || (any (λ e. not (entryIn bs e)) (b .successors)
-    || any (λ e. ltb (b .entry) e && not (entryIn (drop (suc i) bs) e)) (b .successors))))))
+    || any (faultySuccessor bs i b) (b .successors)))))
 
 -- the exit of a block without successors
 abbrev pub endsBlock : List Block → ℕ → Bool
@@ -328,4 +340,4 @@ unfolding placesFrom
 readListing s =
     ifNot (ltb 65536 (length s)) 6 65536
     (ifNot (empty s) 1 0
-    (afterRecords s (placesFrom (length s) s 0 (record { blocks = []; code = [] }))))
+    (afterRecords s (placesFrom (length s) s 0 noPlaces)))

@@ -1,0 +1,154 @@
+-- What the structs of the code mean in the definitions.
+use Prim.Native.Nat.{ℕ, zero, suc, _+_, _*_, _≤_}
+use mathlib.Core.Path.{_≡_}
+use mathlib.Core.Bool.{Bool, true, false, _&&_, _||_, cond}
+use mathlib.Core.List.{List, [], _∷_, map}
+use lib.ListN.{length, getD, take}
+use lib.Dec.{leb, eqb}
+use Rattle.meaning.specs.Base.{any}
+use Rattle.meaning.specs.Running.{Token}
+use Rattle.meaning.specs.Steps as I
+use Rattle.meaning.specs.Loop as M
+use Rattle.meaning.specs.Blocks as Q
+use Rattle.meaning.specs.Listing as D
+use Rattle.file_format.specs.Models.{tokenOf}
+use Rattle.listing.specs.declared.shapes.Field.{Field}
+use Rattle.listing.specs.declared.shapes.Shape.{Shape}
+use Rattle.listing.specs.declared.records.Cursor.{Cursor}
+use Rattle.listing.specs.declared.records.Found.{Found}
+use Rattle.listing.specs.declared.records.Found.the-variants.{Record, Short, End}
+use Rattle.listing.specs.declared.records.Test.{Test}
+use Rattle.listing.specs.declared.records.Places.{Places}
+use Rattle.listing.specs.declared.decode.Instruction.{Instruction}
+use Rattle.listing.specs.declared.decode.Instruction.the-variants.{Pop, CopyLoc, MoveLoc, StLoc, FreezeRef, Compare, ReadRef, WriteRef, BorrowLoc, BorrowField, BorrowGlobal, MoveFrom, Call, Ret, Values, MoveTo, VectorOp, BorrowElement}
+use Rattle.listing.specs.declared.decode.Decoded.{Decoded}
+use Rattle.listing.specs.declared.Block.{Block}
+use Rattle.listing.specs.declared.Routine.{Routine}
+use Rattle.listing.specs.declared.Listed.{Listed}
+
+-- ---- shapes
+
+abbrev pub fieldOf : Field → D.Field
+fieldOf f =
+    getD
+    (D.Field.byte (f .most) (f .limit)
+    ∷ D.Field.word
+    ∷ D.Field.local
+    ∷ D.Field.words (f .most) (f .limit)
+    ∷ D.Field.tokens (f .limit)
+    ∷ [])
+    (f .kind)
+    D.Field.frame
+
+abbrev pub fieldsIn : Shape → List D.Field
+fieldsIn r = map fieldOf (take (r .count) (r .fields))
+
+pub record ShapeFor (kind : ℕ) (r : Shape) : Type 0 where
+  pub known : r .known ≡ D.known kind
+  pub fields : fieldsIn r ≡ D.fieldsOf kind
+  pub few : r .count ≤ 4
+
+-- ---- records
+
+abbrev pub pickRead : Bool → Found → Found → Found
+pickRead true a b = a
+pickRead false a b = b
+
+unfoldable pub readAt : List ℕ → ℕ → Found
+readAt s at =
+    pickRead (leb (length s) at) End
+    (pickRead (D.wholeAt s at) (Record (D.kindAt s at) (record { at = D.nextAt s at })) Short)
+
+-- the tests of a body: 3, 6; 0 if none of them
+unfoldable pub bodyFault : ℕ → List D.Field → List ℕ → ℕ
+bodyFault l fs b = D.unless (D.fitsBody l fs b) 3 (D.unless (D.withinLimits fs b) 6 0)
+
+pub record Tested (s : List ℕ) (l at : ℕ) (r : Test) : Type 0 where
+  pub number : r .number ≡ D.faultAt s l at
+  pub kind : r .number ≡ 0 → r .kind ≡ D.kindAt s at
+  pub next : r .number ≡ 0 → r .next ≡ D.nextAt s at
+  pub inside : r .number ≡ 0 → r .next ≤ length s
+
+abbrev pub pickPlaces : Bool → D.Places → ℕ → ℕ → D.Listed D.Places
+pickPlaces true w n at = D.Listed.read w
+pickPlaces false w n at = D.Listed.refused n at
+
+abbrev pub placesIn : Places → D.Places
+placesIn r = record { blocks = take (r .«block_count») (r .blocks); code = take (r .«code_count») (r .code) }
+
+unfoldable pub placesOf : Places → D.Listed D.Places
+placesOf r = pickPlaces (eqb (r .number) 0) (placesIn r) (r .number) (r .place)
+
+-- ---- instructions
+
+abbrev pub bytesAt : List ℕ → ℕ → ℕ → List ℕ
+bytesAt b i n = D.series n (λ k. getD b (i + k) 0)
+
+abbrev pub withParts : List ℕ → List Token → Instruction → I.Instr
+withParts a t Pop = I.Instr.Pop
+withParts a t (CopyLoc i) = I.Instr.CopyLoc (i .0)
+withParts a t (MoveLoc i) = I.Instr.MoveLoc (i .0)
+withParts a t (StLoc i) = I.Instr.StLoc (i .0)
+withParts a t FreezeRef = I.Instr.FreezeRef
+withParts a t Compare = I.Instr.Compare
+withParts a t ReadRef = I.Instr.ReadRef
+withParts a t WriteRef = I.Instr.WriteRef
+withParts a t (BorrowLoc i m) = I.Instr.BorrowLoc (i .0) m
+withParts a t (BorrowField n m) = I.Instr.BorrowField n m
+withParts a t (BorrowGlobal n m) = I.Instr.BorrowGlobal n m
+withParts a t (MoveFrom n) = I.Instr.MoveFrom n
+withParts a t (Call p) = I.Instr.Call p a t
+withParts a t Ret = I.Instr.Ret
+withParts a t (Values n m x) = I.Instr.Values n m (tokenOf x)
+withParts a t MoveTo = I.Instr.MoveTo
+withParts a t (VectorOp n m p x) = I.Instr.VectorOp n m p (tokenOf x)
+withParts a t (BorrowElement m) = I.Instr.BorrowElement m
+
+abbrev pub plainOf : Instruction → I.Instr
+plainOf i = withParts [] [] i
+
+unfoldable pub decodedOf : Decoded → I.Instr
+decodedOf d = withParts (take (d .«acquired_count») (d .acquired)) (map D.tokenAs (take (d .«token_count») (d .tokens))) (d .instruction)
+
+abbrev pub pickInstr : Bool → I.Instr → I.Instr → I.Instr
+pickInstr true a b = a
+pickInstr false a b = b
+
+-- a call within the limits
+unfoldable pub callFor : List ℕ → I.Instr
+callFor b = pickInstr (leb (getD b 1 0) 16 && leb (getD b (2 + 2 * getD b 1 0) 0) 8) (D.callOf b) I.Instr.Pop
+
+-- the instruction of the record at a place; Pop, where there is none, or a call beyond the limits
+unfoldable pub decodedAt : List ℕ → ℕ → I.Instr
+decodedAt s at = pickInstr (eqb (D.kindAt s at) 22) (callFor (D.bodyAt s at)) (D.instrOf (D.kindAt s at) (D.bodyAt s at))
+
+-- ---- routines
+
+abbrev pub blockOf : Block → M.Block
+blockOf b = record { entry = b .entry .0; exit = b .exit .0; successors = take (b .count) (b .first .0 ∷ b .second .0 ∷ []) }
+
+unfoldable pub blocksIn : List Block → ℕ → List M.Block
+blocksIn bs n = map blockOf (take n bs)
+
+-- the block record at a place has at most two successors
+abbrev pub twoAt : List ℕ → ℕ → Bool
+twoAt s at = leb (getD (D.bodyAt s at) 4 0) 2
+
+abbrev pub faultySuccessors : List M.Block → ℕ → M.Block → Bool
+faultySuccessors bs i b = D.repeats (b .successors) || any (D.faultySuccessor bs i b) (b .successors)
+
+abbrev pub routineOf : List ℕ → Routine → Q.Routine
+routineOf s r = record {
+  params = map D.tokenAs (take (r .«param_count») (r .params));
+  locals = r .locals;
+  returns = r .returns;
+  blocks = blocksIn (r .blocks) (r .«block_count»);
+  code = map (decodedAt s) (take (r .«code_count») (r .code));
+}
+
+abbrev pub pickListed : Bool → Q.Routine → ℕ → ℕ → D.Listed Q.Routine
+pickListed true q n at = D.Listed.read q
+pickListed false q n at = D.Listed.refused n at
+
+unfoldable pub listedOf : List ℕ → Listed → D.Listed Q.Routine
+listedOf s r = pickListed (eqb (r .number) 0) (routineOf s (r .routine)) (r .number) (r .place)
