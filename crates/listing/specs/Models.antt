@@ -1,18 +1,17 @@
 -- What the structs of the code mean in the definitions.
-use Prim.Native.Nat.{ℕ, zero, suc, _+_, _*_, _≤_}
+use Prim.Native.Nat.{ℕ, zero, suc, _+_, _*_, _≤_, _<_}
 use mathlib.Core.Path.{_≡_}
 use mathlib.Core.Bool.{Bool, true, false, _&&_, _||_, cond}
 use mathlib.Core.List.{List, [], _∷_, map}
 use lib.ListN.{length, getD, take}
 use lib.Dec.{leb, eqb}
-use Rattle.meaning.specs.Base.{any}
+use Rattle.meaning.specs.Base.{all, any}
 use Rattle.meaning.specs.Running.{Token}
 use Rattle.meaning.specs.Steps as I
 use Rattle.meaning.specs.Loop as M
 use Rattle.meaning.specs.Blocks as Q
 use Rattle.meaning.specs.Listing as D
 use Rattle.file_format.specs.Models.{tokenOf}
-use Rattle.listing.specs.declared.shapes.Field.{Field}
 use Rattle.listing.specs.declared.shapes.Shape.{Shape}
 use Rattle.listing.specs.declared.records.Cursor.{Cursor}
 use Rattle.listing.specs.declared.records.Found.{Found}
@@ -28,20 +27,34 @@ use Rattle.listing.specs.declared.Listed.{Listed}
 
 -- ---- shapes
 
-abbrev pub fieldOf : Field → D.Field
-fieldOf f =
-    getD
-    (D.Field.byte (f .most) (f .limit)
+-- the fields by their numbers in the code
+abbrev pub fieldList : List D.Field
+fieldList =
+    D.flag
+    ∷ D.token
+    ∷ D.Field.byte 255 16
     ∷ D.Field.word
     ∷ D.Field.local
-    ∷ D.Field.words (f .most) (f .limit)
-    ∷ D.Field.tokens (f .limit)
-    ∷ [])
-    (f .kind)
-    D.Field.frame
+    ∷ D.Field.words 2 2
+    ∷ D.Field.words 255 16
+    ∷ D.Field.tokens 8
+    ∷ []
+
+abbrev pub fieldOf : ℕ → D.Field
+fieldOf f = getD fieldList f D.Field.frame
 
 abbrev pub fieldsIn : Shape → List D.Field
 fieldsIn r = map fieldOf (take (r .count) (r .fields))
+
+-- the kinds, as the rows of the code's table stand
+abbrev pub kinds : List ℕ
+kinds = 1 ∷ 2 ∷ 10 ∷ 11 ∷ 12 ∷ 13 ∷ 14 ∷ 15 ∷ 16 ∷ 17 ∷ 18 ∷ 19 ∷ 20 ∷ 21 ∷ 22 ∷ 23 ∷ 24 ∷ 25 ∷ 26 ∷ 27 ∷ []
+
+pub record RowFor (kind r : ℕ) : Type 0 where
+  pub small : r ≤ 20
+  pub here : r < 20 → getD kinds r 0 ≡ kind
+  pub none : r ≡ 20 → D.known kind ≡ false
+  pub bare : r ≡ 20 → D.fieldsOf kind ≡ []
 
 pub record ShapeFor (kind : ℕ) (r : Shape) : Type 0 where
   pub known : r .known ≡ D.known kind
@@ -133,6 +146,18 @@ blocksIn bs n = map blockOf (take n bs)
 -- the block record at a place has at most two successors
 abbrev pub twoAt : List ℕ → ℕ → Bool
 twoAt s at = leb (getD (D.bodyAt s at) 4 0) 2
+
+-- what is known of the places that were read, with the first record's body
+pub record Sound (s head : List ℕ) (w : Places) : Type 0 where
+  pub first : head ≡ D.bodyAt s 0
+  pub blocks : w .«block_count» ≤ 16
+  pub code : w .«code_count» ≤ 512
+  pub two : all (twoAt s) (take (w .«block_count») (w .blocks)) ≡ true
+  pub same : map (decodedAt s) (take (w .«code_count») (w .code)) ≡ map (D.instrAt s) (take (w .«code_count») (w .code))
+  pub params : getD head 0 0 ≤ 16
+
+unfoldable pub ruledPlaces : List ℕ → D.Places → D.Listed Q.Routine
+ruledPlaces s w = D.ruled (length s) w (D.routineAt s w)
 
 abbrev pub faultySuccessors : List M.Block → ℕ → M.Block → Bool
 faultySuccessors bs i b = D.repeats (b .successors) || any (D.faultySuccessor bs i b) (b .successors)

@@ -1,7 +1,12 @@
 // The instruction of a record.
-use crate::records::{Cursor, body, byte_at, u16_at};
-use file_format::{LocalIndex, SignatureToken};
-use meaning::{MAX_ACQUIRED, MAX_RETURNS};
+use crate::records::Cursor;
+use crate::records::body;
+use crate::records::byte_at;
+use crate::records::u16_at;
+use file_format::LocalIndex;
+use file_format::SignatureToken;
+use meaning::MAX_ACQUIRED;
+use meaning::MAX_RETURNS;
 ghost use mathlib.Core.Path.{_≡_};
 ghost use Prim.Native.Nat.{_≤_, _<_};
 ghost use lib.ListN.{length, getD, take};
@@ -129,7 +134,7 @@ fn decode_plain(kind: u16, b: &[u8]) -> Instruction
 }
 
 fn alone(instruction: Instruction) -> Decoded
-    ensures { λ r. ⌜ r .instruction ≡ instruction ⌝ }
+    ensures { λ r. ⌜ decodedOf r ≡ plainOf instruction ⌝ }
 {
     Decoded {
         instruction,

@@ -3,9 +3,14 @@ pub mod decode;
 pub mod records;
 mod rules;
 pub mod shapes;
+
 use file_format::CodeOffset;
 use meaning::MAX_BYTES;
-use records::{Cursor, body, byte_at, u16_at};
+use records::Cursor;
+use records::place;
+use records::body;
+use records::byte_at;
+use records::u16_at;
 ghost use mathlib.Core.Path.{_≡_};
 ghost use mathlib.Core.Bool.{true};
 ghost use mathlib.Core.List.{map};
@@ -13,7 +18,7 @@ ghost use Prim.Native.Nat.{_≤_, _<_};
 ghost use lib.ListN.{length, take};
 ghost use Rattle.meaning.specs.Base.{all};
 ghost use Rattle.meaning.specs.Listing.{blockAt, bodyAt, readListing};
-ghost use Rattle.listing.specs.Models.{blockOf, blocksIn, twoAt, listedOf};
+ghost use Rattle.listing.specs.Models.{blockOf, blocksIn, twoAt, placesIn, Sound, ruledPlaces, listedOf};
 
 // A block: its first and its last instruction, and the entries of its successors, of which `count` (0 to 2) are in use.
 pub struct Block {
@@ -96,15 +101,14 @@ fn blocks_at(s: &[u8], places: [u16; 16], n: usize) -> [Block; 16]
     let mut out = [no_block(); 16];
     let mut i: usize = 0;
     while i < n {
-        out[i] = block_at(s, places[i] as usize);
+        out[i] = block_at(s, place(places[i]));
         i += 1;
     }
     out
 }
 
 // A routine whose records were read, under the rules on blocks and on Ret.
-fn ruled(s: &[u8], head: &[u8], w: records::Places) -> Listed
-{
+fn ruled(s: &[u8], head: &[u8], w: records::Places) -> Listed {
     let n = w.block_count;
     let m = w.code_count;
     if n == 0 {
@@ -115,11 +119,11 @@ fn ruled(s: &[u8], head: &[u8], w: records::Places) -> Listed
     let blocks = blocks_at(s, places, n);
     let bad = rules::first_faulty(blocks, n, m);
     if bad < n {
-        return refused(5, places[bad] as usize);
+        return refused(5, place(places[bad]));
     }
     let stray = rules::first_stray(s, code, m, blocks, n);
     if stray < m {
-        return refused(5, code[stray] as usize);
+        return refused(5, place(code[stray]));
     }
     let param_count = byte_at(head, 0) as usize;
     let params = decode::bytes_at(head, 2, param_count);

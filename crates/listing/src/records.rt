@@ -1,9 +1,24 @@
 // The records of a listing: a cursor over the lent bytes, a record's body, and the tests of one record.
 use crate::shapes;
-use crate::shapes::{BYTE, Field, LOCAL, Shape, TOKENS, WORD, WORDS};
-use meaning::{MAX_BLOCKS, MAX_INSTRUCTIONS, MAX_LOCALS};
+use crate::shapes::ACQUIRED;
+use crate::shapes::FLAG;
+use crate::shapes::LOCAL;
+use crate::shapes::PARAMETERS;
+use crate::shapes::RETURNS;
+use crate::shapes::SUCCESSORS;
+use crate::shapes::Shape;
+use crate::shapes::TOKEN;
+use crate::shapes::WORD;
+use meaning::MAX_ACQUIRED;
+use meaning::MAX_BLOCKS;
+use meaning::MAX_INSTRUCTIONS;
+use meaning::MAX_LOCALS;
+use meaning::MAX_PARAMETERS;
+use meaning::MAX_RETURNS;
 ghost use mathlib.Core.Path.{_≡_};
 ghost use Prim.Native.Nat.{_≤_, _<_};
+ghost use mathlib.Core.Bool.{not, Bool·beq};
+ghost use lib.Dec.{eqb};
 ghost use lib.ListN.{length, getD};
 ghost use Rattle.meaning.specs.Base.{all};
 ghost use Rattle.meaning.specs.Listing.{u16At, wholeAt, bodyAt, localsOf, isToken, width, right, within, noPlaces, placesFrom};
@@ -34,6 +49,13 @@ fn wide(b: u8) -> u16
     ensures { λ r. ⌜ r ≡ b ⌝ }
 {
     b as u16
+}
+
+// A place as an index.
+pub(crate) fn place(p: u16) -> usize
+    ensures { λ r. ⌜ (r ≡ p) × (r < 65536) ⌝ }
+{
+    p as usize
 }
 
 // Two bytes, little-endian; 0 for those past the end.
@@ -95,16 +117,19 @@ pub fn body<'a>(s: &'a [u8], c: Cursor) -> &'a [u8]
 // ---- the tests of a body
 
 // The bytes that a field takes that starts these bytes.
-fn width_of(b: &[u8], f: Field) -> usize
+fn width_of(b: &[u8], f: u8) -> usize
     ensures { λ r. ⌜ r ≡ width (fieldOf f) (now (b .entry)) ⌝ }
 {
     let n = byte_at(b, 0) as usize;
-    let kind = f.kind;
-    match kind {
-        BYTE | LOCAL => 1,
+    match f {
+        FLAG => 1,
+        TOKEN => 1,
+        PARAMETERS => 1,
         WORD => 2,
-        WORDS => 1 + 2 * n,
-        TOKENS => 1 + n,
+        LOCAL => 1,
+        SUCCESSORS => 1 + 2 * n,
+        ACQUIRED => 1 + 2 * n,
+        RETURNS => 1 + n,
         _ => 2 + n,
     }
 }
@@ -123,36 +148,44 @@ fn tokens_only(b: &[u8]) -> bool
 }
 
 // That the field that starts these bytes, and does not run past their end, holds what it may (refusal 3).
-fn is_right(b: &[u8], f: Field, locals: u8) -> bool
+fn is_right(b: &[u8], f: u8, locals: u8) -> bool
     requires { ⌜ width (fieldOf f) (now b) ≤ length (now b) ⌝ }
     ensures { λ r. ⌜ r ≡ right locals (fieldOf f) (now (b .entry)) ⌝ }
 {
     let first = byte_at(b, 0);
-    let n = first as usize;
-    let kind = f.kind;
-    match kind {
-        BYTE | WORDS => first <= f.most,
+    match f {
+        FLAG => first <= 1,
+        TOKEN => first <= 2,
+        PARAMETERS => true,
         WORD => true,
         LOCAL => first < locals,
-        TOKENS => {
-            let end = 1 + n;
+        SUCCESSORS => first <= 2,
+        ACQUIRED => true,
+        RETURNS => {
+            let end = 1 + first as usize;
             tokens_only(&b[1..end])
         }
         _ => {
-            let end = 2 + n;
+            let end = 2 + first as usize;
             (first <= byte_at(b, 1)) & tokens_only(&b[2..end])
         }
     }
 }
 
 // That the field is within the limits (refusal 6).
-fn is_within(b: &[u8], f: Field) -> bool
+fn is_within(b: &[u8], f: u8) -> bool
     ensures { λ r. ⌜ r ≡ within (fieldOf f) (now (b .entry)) ⌝ }
 {
-    let kind = f.kind;
-    match kind {
-        BYTE | WORDS | TOKENS => byte_at(b, 0) <= f.limit,
-        WORD | LOCAL => true,
+    let first = byte_at(b, 0);
+    match f {
+        FLAG => first <= 1,
+        TOKEN => first <= 2,
+        PARAMETERS => first <= MAX_PARAMETERS,
+        WORD => true,
+        LOCAL => true,
+        SUCCESSORS => first <= 2,
+        ACQUIRED => first <= MAX_ACQUIRED,
+        RETURNS => first <= MAX_RETURNS,
         _ => byte_at(b, 1) <= MAX_LOCALS,
     }
 }
@@ -205,6 +238,13 @@ fn failed(number: u8) -> Test
     }
 }
 
+// The first record is of kind 1, and no other.
+fn misplaced(kind: u16, at: usize) -> bool
+    ensures { λ r. ⌜ r ≡ not (Bool·beq (eqb kind 1) (eqb at 0)) ⌝ }
+{
+    if at == 0 { kind != 1 } else { kind == 1 }
+}
+
 pub(crate) fn test_record(s: &[u8], at: usize, locals: u8) -> Test
     ensures { λ r. ⌜ Tested (now (s .entry)) locals at r ⌝ }
 {
@@ -214,7 +254,7 @@ pub(crate) fn test_record(s: &[u8], at: usize, locals: u8) -> Test
             if !shape.known {
                 return failed(2);
             }
-            if (kind == 1) != (at == 0) {
+            if misplaced(kind, at) {
                 return failed(4);
             }
             Test {
@@ -241,7 +281,7 @@ pub(crate) struct Places {
 }
 
 fn refused_at(number: u8, place: usize) -> Places
-    ensures { λ r. ⌜ (r .number ≡ number) × (r .place ≡ place) ⌝ }
+    ensures { λ r. ⌜ (r .number ≡ number) × (r .place ≡ place) × (r .«block_count» ≡ 0) × (r .«code_count» ≡ 0) ⌝ }
 {
     Places {
         number,

@@ -1,13 +1,12 @@
 // The rules on blocks and on Ret (refusal 5).
 use crate::Block;
-use crate::records::u16_at;
+use crate::records::{place, u16_at};
 ghost use mathlib.Core.Path.{_≡_};
 ghost use Prim.Native.Nat.{_≤_, _<_};
 ghost use mathlib.Core.List.{map};
-ghost use lib.ListN.{length, getD, take, drop};
+ghost use lib.ListN.{take, drop};
 ghost use Rattle.meaning.specs.Base.{any};
 ghost use Rattle.meaning.specs.Listing.{overlap, entryIn, endsBlock, faultySuccessor, faultyBlock, firstOf, strayRet, instrAt};
-ghost use Rattle.meaning.specs.Loop.{noBlock};
 ghost use Rattle.listing.specs.Models.{blockOf, blocksIn, faultySuccessors};
 
 // That a block listed at `from` or later has this entry.
@@ -43,31 +42,29 @@ fn overlaps(blocks: [Block; 16], n: usize, b: Block) -> bool
 }
 
 // That a successor of the block at `i` is no block's entry, or above the block's own and not listed later.
-fn faulty_successor(blocks: [Block; 16], n: usize, i: usize, e: u16) -> bool
+fn faulty_successor(blocks: [Block; 16], n: usize, i: usize, b: Block, e: u16) -> bool
     requires { ⌜ (n ≤ 16) × (i < n) ⌝ }
-    ensures { λ r. ⌜ r ≡ faultySuccessor (blocksIn blocks n) i (getD (blocksIn blocks n) i noBlock) e ⌝ }
+    ensures { λ r. ⌜ r ≡ faultySuccessor (blocksIn blocks n) i (blockOf b) e ⌝ }
 {
     if !entry_from(blocks, n, 0, e) {
         return true;
     }
-    let b = blocks[i];
     if e <= b.entry.0 {
         return false;
     }
     !entry_from(blocks, n, i + 1, e)
 }
 
-fn faulty_successors(blocks: [Block; 16], n: usize, i: usize) -> bool
+fn faulty_successors(blocks: [Block; 16], n: usize, i: usize, b: Block) -> bool
     requires { ⌜ (n ≤ 16) × (i < n) ⌝ }
-    ensures { λ r. ⌜ r ≡ faultySuccessors (blocksIn blocks n) i (getD (blocksIn blocks n) i noBlock) ⌝ }
+    ensures { λ r. ⌜ r ≡ faultySuccessors (blocksIn blocks n) i (blockOf b) ⌝ }
 {
-    let b = blocks[i];
     let count = b.count;
     if count == 0 {
         return false;
     }
     let e = b.first.0;
-    if faulty_successor(blocks, n, i, e) {
+    if faulty_successor(blocks, n, i, b, e) {
         return true;
     }
     if count == 1 {
@@ -77,7 +74,7 @@ fn faulty_successors(blocks: [Block; 16], n: usize, i: usize) -> bool
     if e == f {
         return true;
     }
-    faulty_successor(blocks, n, i, f)
+    faulty_successor(blocks, n, i, b, f)
 }
 
 // That the block at `i`, in a routine of `code_count` instructions, breaks a rule.
@@ -87,20 +84,19 @@ fn faulty_block(blocks: [Block; 16], n: usize, i: usize, code_count: usize) -> b
 {
     let b = blocks[i];
     let entry = b.entry.0;
-    let exit = b.exit.0;
     if (i == 0) & (entry != 0) {
         return true;
     }
-    if exit < entry {
+    if b.exit.0 < entry {
         return true;
     }
-    if code_count <= exit as usize {
+    if code_count <= b.exit.0 as usize {
         return true;
     }
     if overlaps(blocks, i, b) {
         return true;
     }
-    faulty_successors(blocks, n, i)
+    faulty_successors(blocks, n, i, b)
 }
 
 // The first block that breaks a rule; n, if none does.
@@ -135,13 +131,19 @@ fn ends_block(blocks: [Block; 16], n: usize, k: usize) -> bool
 }
 
 // The first Ret that is not the exit of a block without successors; m, if there is none.
-pub(crate) fn first_stray(s: &[u8], code: [u16; 512], m: usize, blocks: [Block; 16], n: usize) -> usize
+pub(crate) fn first_stray(
+    s: &[u8],
+    code: [u16; 512],
+    m: usize,
+    blocks: [Block; 16],
+    n: usize,
+) -> usize
     requires { ⌜ (n ≤ 16) × (m ≤ 512) ⌝ }
     ensures { λ r. ⌜ r ≡ firstOf (strayRet (map (instrAt (now (s .entry))) (take m code)) (blocksIn blocks n)) 0 m ⌝ }
 {
     let mut k: usize = 0;
     while k < m {
-        let start = code[k] as usize;
+        let start = place(code[k]);
         if u16_at(s, start + 2) == 23 {
             if !ends_block(blocks, n, k) {
                 return k;

@@ -1,17 +1,16 @@
+-- `listing::decode::flag_at` meets its contract. Assumes nothing.
+use mathlib.Core.Path.{_≡_, refl, sym, ap, _∙_}
+use Prim.Native.Nat.{ℕ}
+use lib.Dec.{eqb}
 use borrow.Author.Needs.{needs}
 use Rattle.listing.proofs.decode.flag_at.Statement.{statement}
 use Rattle.listing.proofs.decode.flag_at.Tie as tie
-use Rattle.listing.proofs.decode.flag_at.Reads as reads
-use Rattle.listing.proofs.decode.flag_at.Lts as lts
-use Rattle.listing.proofs.records.byte_at.Reads as byte-at-reads
 
--- src/decode.rt:90:5
 byte-at-requires : tie.Need-byte-at-requires
 byte-at-requires c κs = search needs
 
--- src/decode.rt:87:1
 returns : tie.Need-returns
-returns c = ?
+returns c = ap (λ (n : ℕ). eqb n 1) (c .byte-at .ensures)
 
 pub flag-at-spec : {M : Type 1} → statement M
 flag-at-spec = tie.close (tie.spec byte-at-requires returns)

@@ -1,19 +1,18 @@
+-- `listing::decode::token_of` meets its contract. Assumes nothing.
+use mathlib.Core.Path.{_≡_, refl, sym, ap, _∙_}
+use borrow.Author.Tests.{lt-ltb, le-ltb, le-leb, lt-leb, eq-eqb, ne-eqb, leb-true, leb-false, ltb-true, ltb-false, eqb-true, eqb-false, not-true, not-false}
+use Rattle.meaning.specs.Listing.{tokenAs}
 use Rattle.listing.proofs.decode.token_of.Statement.{statement}
 use Rattle.listing.proofs.decode.token_of.Tie as tie
-use Rattle.listing.proofs.decode.token_of.Reads as reads
-use Rattle.listing.proofs.decode.token_of.Lts as lts
 
--- src/decode.rt:49:1
 returns : tie.Need-returns
-returns c = ?
+returns c = sym (ap tokenAs (c .match .keys1))
 
--- src/decode.rt:49:1
 returns-2 : tie.Need-returns-2
-returns-2 c = ?
+returns-2 c = sym (ap tokenAs (c .match .keys2))
 
--- src/decode.rt:49:1
 returns-3 : tie.Need-returns-3
-returns-3 c = ?
+returns-3 c = simp (ne-eqb _ _ (c .match .rest .0 .1), ne-eqb _ _ (c .match .rest .1))
 
 pub token-of-spec : {M : Type 1} → statement M
 token-of-spec = tie.close (tie.spec returns returns-2 returns-3)

@@ -1,50 +1,51 @@
+-- `listing::records::read` meets its contract. Assumes nothing.
+use mathlib.Core.Path.{_≡_, refl, sym, ap, _∙_}
+use borrow.Author.Tests.{lt-ltb, le-ltb, le-leb, lt-leb, eq-eqb, ne-eqb, leb-true, leb-false, ltb-true, ltb-false, eqb-true, eqb-false, not-true, not-false}
+use mathlib.Core.Bool.{true, false}
+use lib.ListN.{length}
+use lib.Dec.{leb}
+use Rattle.meaning.specs.Listing.{wholeAt}
+use Rattle.listing.specs.Models.{readAt}
 use borrow.Author.Needs.{needs}
 use Rattle.listing.proofs.records.read.Statement.{statement}
 use Rattle.listing.proofs.records.read.Tie as tie
-use Rattle.listing.proofs.records.read.Reads as reads
-use Rattle.listing.proofs.records.read.Lts as lts
-use Rattle.listing.proofs.records.u16_at.Reads as u16-at-reads
-use Rattle.listing.proofs.records.whole_at.Reads as whole-at-reads
 
--- src/records.rt:67:9
 returns : tie.Need-returns
-returns c = ?
+unfolding readAt
+returns c = simp (le-leb _ _ (c .if1 .taken))
 
--- src/records.rt:69:8
 whole-at-requires : tie.Need-whole-at-requires
 whole-at-requires c κs = search needs
 
--- src/records.rt:70:30
 add-u16-at : tie.Need-add-u16-at
 add-u16-at c = search needs
 
--- src/records.rt:70:13
 u16-at-requires : tie.Need-u16-at-requires
 u16-at-requires c κs = search needs
 
--- src/records.rt:71:20
 add-next : tie.Need-add-next
 add-next c = search needs
 
--- src/records.rt:71:29
 u16-at-requires-2 : tie.Need-u16-at-requires-2
 u16-at-requires-2 c κs = search needs
 
--- src/records.rt:71:29
 cast-next : tie.Need-cast-next
 cast-next c = search needs
 
--- src/records.rt:71:20
 add-next-2 : tie.Need-add-next-2
 add-next-2 c = search needs
 
--- src/records.rt:62:1
 returns-2 : tie.Need-returns-2
-returns-2 c = ?
+unfolding readAt
+returns-2 c = let w : wholeAt (c .before .before .before .before .before .before .args .s .now) (c .before .before .before .before .before .before .args .c .at) ≡ true = sym (c .before .before .before .whole-at .ensures) ∙ c .before .before .if2 .taken in
+    let f : leb (length (c .before .before .before .before .before .before .args .s .now)) (c .before .before .before .before .before .before .args .c .at) ≡ false = lt-leb _ _ (c .before .before .before .before .if1 .left) in
+    rw (f, w) (cc)
 
--- src/records.rt:62:1
 returns-3 : tie.Need-returns-3
-returns-3 c = ?
+unfolding readAt
+returns-3 c = let w : wholeAt (c .before .before .before .before .args .s .now) (c .before .before .before .before .args .c .at) ≡ false = sym (c .before .whole-at .ensures) ∙ c .if2 .left in
+    let f : leb (length (c .before .before .before .before .args .s .now)) (c .before .before .before .before .args .c .at) ≡ false = lt-leb _ _ (c .before .before .if1 .left) in
+    rw (f, w)
 
 pub read-spec : {M : Type 1} → statement M
 read-spec =

@@ -1,46 +1,46 @@
+-- `listing::records::u16_at` meets its contract. Assumes nothing.
+use mathlib.Core.Path.{_≡_, refl, sym, ap, _∙_}
+use Prim.Native.Nat.{ℕ, _+_, _≤_}
+use lib.ListN.{length, getD, List·getD-eq-default}
+use Rattle.meaning.specs.Listing.{u16At}
 use borrow.Author.Needs.{needs}
+use native.Mathlib.Omega.{arith}
 use Rattle.listing.proofs.records.u16_at.Statement.{statement}
 use Rattle.listing.proofs.records.u16_at.Tie as tie
-use Rattle.listing.proofs.records.u16_at.Reads as reads
-use Rattle.listing.proofs.records.u16_at.Lts as lts
-use Rattle.listing.proofs.records.byte_at.Reads as byte-at-reads
-use Rattle.listing.proofs.records.wide.Reads as wide-reads
 
--- src/records.rt:44:14
 shared-slice-read-wide : tie.Need-shared-slice-read-wide
 shared-slice-read-wide c = search needs
 
--- src/records.rt:44:9
 wide-requires : tie.Need-wide-requires
 wide-requires c κs = search needs
 
--- src/records.rt:44:44
 add-byte-at : tie.Need-add-byte-at
 add-byte-at c = search needs
 
--- src/records.rt:44:33
 byte-at-requires : tie.Need-byte-at-requires
 byte-at-requires c κs = search needs
 
--- src/records.rt:44:28
 wide-requires-2 : tie.Need-wide-requires-2
 wide-requires-2 c κs = search needs
 
--- src/records.rt:44:22
 mul-result : tie.Need-mul-result
 mul-result c = search needs
 
--- src/records.rt:44:9
 add-result : tie.Need-add-result
-add-result c = ?
+add-result c = omega (arith, c .before .before .before .shared-slice-known2 .given (c .before .before .before .before .before .before .args .i), c .before .byte-at .ok)
 
--- src/records.rt:40:1
 returns : tie.Need-returns
-returns c = ?
+unfolding u16At
+returns c = let a : c .before .before .wide .result ≡ getD (c .before .before .before .before .before .before .args .s .now) (c .before .before .before .before .before .before .args .i) 0 = c .before .before .wide .ensures in
+    let b : c .wide2 .result ≡ getD (c .before .before .before .before .before .before .args .s .now) (c .before .before .before .before .before .before .args .i + 1) 0 = c .wide2 .ensures ∙ c .before .byte-at .ensures in
+    omega arith
 
--- src/records.rt:40:1
 returns-2 : tie.Need-returns-2
-returns-2 c = ?
+unfolding u16At
+returns-2 c = let a : getD (c .before .before .args .s .now) (c .before .before .args .i) 0 ≡ 0 = List·getD-eq-default (c .before .before .args .s .now) 0 (c .if1 .left) in
+    let h : length (c .before .before .args .s .now) ≤ c .before .before .args .i + 1 = omega arith in
+    let b : getD (c .before .before .args .s .now) (c .before .before .args .i + 1) 0 ≡ 0 = List·getD-eq-default (c .before .before .args .s .now) 0 h in
+    omega arith
 
 pub u16-at-spec : {M : Type 1} → statement M
 u16-at-spec =

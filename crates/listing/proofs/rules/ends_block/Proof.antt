@@ -1,49 +1,53 @@
+-- `listing::rules::ends_block` meets its contract. Assumes nothing.
+use mathlib.Core.Path.{_≡_, refl, sym, ap, _∙_}
+use borrow.Author.Tests.{lt-ltb, le-ltb, le-leb, lt-leb, eq-eqb, ne-eqb, leb-true, leb-false, ltb-true, ltb-false, eqb-true, eqb-false, not-true, not-false}
+use Prim.Native.Nat.{ℕ, _-_}
+use mathlib.Core.Bool.{_&&_}
+use lib.ListN.{length, drop}
+use lib.Dec.{eqb, leb}
+use Rattle.meaning.specs.Base.{any}
+use Rattle.listing.specs.Models.{blockOf, blocksIn}
+use Rattle.listing.proofs.Laws.{found, passed, missed, unmapped, noneBlock, no-successor, block-here, block-count, block-part}
+use Rattle.meaning.specs.Blocks.{empty}
+use native.Mathlib.Omega.{arith}
 use Rattle.listing.proofs.rules.ends_block.Statement.{statement}
 use Rattle.listing.proofs.rules.ends_block.Tie as tie
-use Rattle.listing.proofs.rules.ends_block.Reads as reads
-use Rattle.listing.proofs.rules.ends_block.Lts as lts
 
 abbrev Inv-loop : tie.InvT-loop
-Inv-loop n k blocks i₀ i = ?
+Inv-loop n k blocks i₀ i = any (λ b. eqb k (b .exit) && empty (b .successors)) (drop i (blocksIn blocks n)) ≡ any (λ b. eqb k (b .exit) && empty (b .successors)) (blocksIn blocks n)
 
 abbrev μ-loop : tie.MeasureT-loop
-μ-loop n k blocks i₀ i = ?
+μ-loop n k blocks i₀ i = n - i
 
--- src/rules.rt:127:5
 loop-holds : tie.Need-loop-holds Inv-loop μ-loop
-loop-holds c = ?
+loop-holds c = refl
 
--- src/rules.rt:128:17
 mul-b : tie.Need-mul-b Inv-loop μ-loop
-mul-b c = ?
+mul-b c = omega arith
 
--- src/rules.rt:128:17
 array-copy-out-b : tie.Need-array-copy-out-b Inv-loop μ-loop
-array-copy-out-b c = ?
+array-copy-out-b c = omega arith
 
--- src/rules.rt:129:18
 cast-if1 : tie.Need-cast-if1 Inv-loop μ-loop
-cast-if1 c = ?
+cast-if1 c = omega arith
 
--- src/rules.rt:130:13
 returns : tie.Need-returns Inv-loop μ-loop
-returns c = ?
+returns c = let full : length (c .before .before .before .before .before .before .args .t1) ≡ 16 = search (unmapped) in
+    found (c .before .before .before .before .before .before .args .t1) (c .before .before .before .before .before .before .args .n) full (c .before .before .before .before .before .before .pre) (λ b. eqb (c .before .before .before .before .before .before .args .k) (b .exit) && empty (b .successors)) _ (c .before .before .before .before .before .loop .i) (c .before .before .before .before .loop-test .taken) (c .before .before .before .before .before .loop .inv) (rw no-successor (c .if1 .taken))
 
--- src/rules.rt:132:9
 add-i : tie.Need-add-i Inv-loop μ-loop
-add-i c = ?
+add-i c = omega arith
 
--- src/rules.rt:127:5
 loop-less : tie.Need-loop-less Inv-loop μ-loop
-loop-less c = ?
+loop-less c = omega arith
 
--- src/rules.rt:127:5
 loop-again : tie.Need-loop-again Inv-loop μ-loop
-loop-again c = ?
+loop-again c = let full : length (c .before .before .before .before .before .before .args .t1) ≡ 16 = search (unmapped) in
+    passed (c .before .before .before .before .before .before .args .t1) (c .before .before .before .before .before .before .args .n) full (c .before .before .before .before .before .before .pre) (λ b. eqb (c .before .before .before .before .before .before .args .k) (b .exit) && empty (b .successors)) _ (c .before .before .before .before .before .loop .i) (c .before .before .before .before .loop-test .taken) (c .before .before .before .before .before .loop .inv) (rw no-successor (c .if1 .left))
 
--- src/rules.rt:122:1
 returns-2 : tie.Need-returns-2 Inv-loop μ-loop
-returns-2 c = ?
+returns-2 c = let full : length (c .before .before .args .t1) ≡ 16 = search (unmapped) in
+    missed (c .before .before .args .t1) (c .before .before .args .n) full (c .before .before .pre) (λ b. eqb (c .before .before .args .k) (b .exit) && empty (b .successors)) _ (c .before .loop .i) (c .loop-test .left) (c .before .loop .inv)
 
 pub ends-block-spec : {M : Type 1} → statement M
 ends-block-spec =
