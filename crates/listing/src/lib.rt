@@ -108,7 +108,10 @@ fn blocks_at(s: &[u8], places: [u16; 16], n: usize) -> [Block; 16]
 }
 
 // A routine whose records were read, under the rules on blocks and on Ret.
-fn ruled(s: &[u8], head: &[u8], w: records::Places) -> Listed {
+fn ruled(s: &[u8], head: &[u8], w: records::Places) -> Listed
+    requires { ⌜ Sound (now s) (now head) w ⌝ }
+    ensures { λ r. ⌜ listedOf (now (s .entry)) r ≡ ruledPlaces (now (s .entry)) (placesIn w) ⌝ }
+{
     let n = w.block_count;
     let m = w.code_count;
     if n == 0 {

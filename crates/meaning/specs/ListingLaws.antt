@@ -201,3 +201,18 @@ first-passed s v h e = passed s (localsOf (bodyAt s 0)) 0 (fine-read (faultAt s 
 
 pub first-kind : (s : List ℕ) (l : ℕ) → Passed s l 0 → kindAt s 0 ≡ 1
 first-kind s l p = eqb-eq (p .first)
+
+-- ---- a routine that was read meets what its run asks
+
+abbrev routine : List ℕ → Places → Routine
+routine s v = routineAt s v
+
+-- a store's local is one, a call returns at most eight
+code-fits : (s : List ℕ) (p : ℕ) → okCode s p ≡ true → fits (localsOf (bodyAt s 0)) (instrAt s p) ≡ true
+unfolding instrAt instrOf callOf
+code-fits s p e = go (kindAt s p - 10) refl
+  where
+    l : ℕ
+    l = localsOf (bodyAt s 0)
+    go : (j : ℕ) → kindAt s p - 10 ≡ j → fits (localsOf (bodyAt s 0)) (getD (instructions (bodyAt s p)) j Pop) ≡ true
+    go j q = ?

@@ -73,7 +73,7 @@ loop-again c = let full : length (c .before .before .before .before .before .bef
     let t : take (length (c .before .before .before .before .before .before .before .before .before .before .args .b .now) - c .before .before .before .before .before .before .before .before .loop .i) (drop (c .before .before .before .before .before .before .before .before .loop .i) (c .before .before .before .before .before .before .before .before .before .before .args .b .now)) ≡ drop (c .before .before .before .before .before .before .before .before .loop .i) (c .before .before .before .before .before .before .before .before .before .before .args .b .now) = tail-part (c .before .before .before .before .before .before .before .before .before .before .args .b .now) (c .before .before .before .before .before .before .before .before .loop .i) in
     let d : length (drop (c .before .before .before .before .before .before .before .before .loop .i) (c .before .before .before .before .before .before .before .before .before .before .args .b .now)) ≡ length (c .before .before .before .before .before .before .before .before .before .before .args .b .now) - c .before .before .before .before .before .before .before .before .loop .i = length-drop (c .before .before .before .before .before .before .before .before .loop .i) (c .before .before .before .before .before .before .before .before .before .before .args .b .now) in
     let h : c .before .before .before .before .width-of .result ≤ length (drop (c .before .before .before .before .before .before .before .before .loop .i) (c .before .before .before .before .before .before .before .before .before .before .args .b .now)) = omega arith in
-    (omega arith, omega arith, fit-turn (c .before .before .before .before .before .before .before .before .before .before .args .locals) (fieldsIn (c .before .before .before .before .before .before .before .before .before .before .args .t2)) (c .before .before .before .before .before .before .before .before .before .before .args .b .now) (c .before .before .before .before .before .before .before .before .loop .k) (c .before .before .before .before .before .before .before .before .loop .i) (c .before .before .before .before .width-of .result) (fieldOf (getD (c .before .before .before .before .before .before .before .before .before .before .args .t2 .fields) (c .before .before .before .before .before .before .before .before .loop .k) 0)) (fields-here (c .before .before .before .before .before .before .before .before .before .before .args .t2) (c .before .before .before .before .before .before .before .before .loop .k) full (c .before .before .before .before .before .before .before .before .before .before .pre) (c .before .before .before .before .before .before .before .loop-test .taken)) (c .before .before .before .before .width-of .ensures ∙ ap (width (fieldOf (getD (c .before .before .before .before .before .before .before .before .before .before .args .t2 .fields) (c .before .before .before .before .before .before .before .before .loop .k) 0))) t) _ (c .before .before .before .before .before .before .before .before .loop .inv .2) h (sym (c .before .before .is-right .ensures ∙ ap (right (c .before .before .before .before .before .before .before .before .before .before .args .locals) (fieldOf (getD (c .before .before .before .before .before .before .before .before .before .before .args .t2 .fields) (c .before .before .before .before .before .before .before .before .loop .k) 0))) t) ∙ not-false _ (c .before .if2 .left)), within-turn (c .before .before .before .before .before .before .before .before .before .before .args .locals) (fieldsIn (c .before .before .before .before .before .before .before .before .before .before .args .t2)) (c .before .before .before .before .before .before .before .before .before .before .args .b .now) (c .before .before .before .before .before .before .before .before .loop .k) (c .before .before .before .before .before .before .before .before .loop .i) (c .before .before .before .before .width-of .result) (fieldOf (getD (c .before .before .before .before .before .before .before .before .before .before .args .t2 .fields) (c .before .before .before .before .before .before .before .before .loop .k) 0)) (fields-here (c .before .before .before .before .before .before .before .before .before .before .args .t2) (c .before .before .before .before .before .before .before .before .loop .k) full (c .before .before .before .before .before .before .before .before .before .before .pre) (c .before .before .before .before .before .before .before .loop-test .taken)) (c .before .before .before .before .width-of .ensures ∙ ap (width (fieldOf (getD (c .before .before .before .before .before .before .before .before .before .before .args .t2 .fields) (c .before .before .before .before .before .before .before .before .loop .k) 0))) t) _ _ _ (c .before .before .before .before .before .before .before .before .loop .inv .3) (c .is-within .ensures ∙ ap (within (fieldOf (getD (c .before .before .before .before .before .before .before .before .before .before .args .t2 .fields) (c .before .before .before .before .before .before .before .before .loop .k) 0))) t))
+    (omega arith, omega arith, fit-turn (c .before .before .before .before .before .before .before .before .before .before .args .locals) (fieldsIn (c .before .before .before .before .before .before .before .before .before .before .args .t2)) (c .before .before .before .before .before .before .before .before .before .before .args .b .now) (c .before .before .before .before .before .before .before .before .loop .k) (c .before .before .before .before .before .before .before .before .loop .i) (c .before .before .before .before .width-of .result) (fieldOf (getD (c .before .before .before .before .before .before .before .before .before .before .args .t2 .fields) (c .before .before .before .before .before .before .before .before .loop .k) 0)) (fields-here (c .before .before .before .before .before .before .before .before .before .before .args .t2) (c .before .before .before .before .before .before .before .before .loop .k) full (c .before .before .before .before .before .before .before .before .before .before .pre) (c .before .before .before .before .before .before .before .loop-test .taken)) (c .before .before .before .before .width-of .ensures ∙ ap (width (fieldOf (getD (c .before .before .before .before .before .before .before .before .before .before .args .t2 .fields) (c .before .before .before .before .before .before .before .before .loop .k) 0))) t) _ (c .before .before .before .before .before .before .before .before .loop .inv .2) h (sym (c .before .before .is-right .ensures ∙ ap (right (c .before .before .before .before .before .before .before .before .before .before .args .locals) (fieldOf (getD (c .before .before .before .before .before .before .before .before .before .before .args .t2 .fields) (c .before .before .before .before .before .before .before .before .loop .k) 0))) t) ∙ not-false _ (c .before .if2 .left)), within-turn (c .before .before .before .before .before .before .before .before .before .before .args .locals) (fieldsIn (c .before .before .before .before .before .before .before .before .before .before .args .t2)) (c .before .before .before .before .before .before .before .before .before .before .args .b .now) (c .before .before .before .before .before .before .before .before .loop .k) (c .before .before .before .before .before .before .before .before .loop .i) (c .before .before .before .before .width-of .result) (fieldOf (getD (c .before .before .before .before .before .before .before .before .before .before .args .t2 .fields) (c .before .before .before .before .before .before .before .before .loop .k) 0)) (fields-here (c .before .before .before .before .before .before .before .before .before .before .args .t2) (c .before .before .before .before .before .before .before .before .loop .k) full (c .before .before .before .before .before .before .before .before .before .before .pre) (c .before .before .before .before .before .before .before .loop-test .taken)) (c .before .before .before .before .width-of .ensures ∙ ap (width (fieldOf (getD (c .before .before .before .before .before .before .before .before .before .before .args .t2 .fields) (c .before .before .before .before .before .before .before .before .loop .k) 0))) t) (c .before .before .before .before .before .before .before .before .loop .within) (c .is-within .result) (withinLimits (fieldsIn (c .before .before .before .before .before .before .before .before .before .before .args .t2)) (c .before .before .before .before .before .before .before .before .before .before .args .b .now)) (c .before .before .before .before .before .before .before .before .loop .inv .3) (c .is-within .ensures ∙ ap (within (fieldOf (getD (c .before .before .before .before .before .before .before .before .before .before .args .t2 .fields) (c .before .before .before .before .before .before .before .before .loop .k) 0))) t))
 
 returns-3 : tie.Need-returns-3 Inv-loop μ-loop
 unfolding bodyFault

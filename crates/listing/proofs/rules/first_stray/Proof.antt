@@ -2,7 +2,7 @@
 use mathlib.Core.Path.{_≡_, refl, sym, ap, _∙_}
 use borrow.Author.Tests.{lt-ltb, le-ltb, le-leb, lt-leb, eq-eqb, ne-eqb, leb-true, leb-false, ltb-true, ltb-false, eqb-true, eqb-false, not-true, not-false}
 use Prim.Native.Nat.{ℕ, _-_, _≤_}
-use mathlib.Core.Bool.{not, and-false}
+use mathlib.Core.Bool.{not}
 use mathlib.Core.List.{map}
 use lib.ListN.{length, take}
 use lib.Dec.{eqb}
@@ -59,7 +59,7 @@ loop-again c = let full : length (c .before .before .before .before .before .bef
     let fits : c .before .before .before .before .before .before .args .m ≤ length (c .before .before .before .before .before .before .args .t2) = omega arith in
     (omega arith, first-turn (strayRet (map (instrAt (c .before .before .before .before .before .before .args .s .now)) (take (c .before .before .before .before .before .before .args .m) (c .before .before .before .before .before .before .args .t2))) (blocksIn (c .before .before .before .before .before .before .args .blocks) (c .before .before .before .before .before .before .args .n))) (c .before .before .before .before .loop .k) (c .before .before .before .before .before .before .args .m) _ (c .before .before .before .loop-test .taken) (c .before .before .before .before .loop .inv .1)
     (cases (c .if1 .came)
-    (λ w. rw (stray-eq (c .before .before .before .before .before .before .args .s .now) (c .before .before .before .before .before .before .args .t2) (c .before .before .before .before .before .before .args .m) fits (blocksIn (c .before .before .before .before .before .before .args .blocks) (c .before .before .before .before .before .before .args .n)) (c .before .before .before .before .loop .k) (c .before .before .before .loop-test .taken), sym (w .1 .ensures) ∙ not-false _ (w .2 .left)) (and-false _))
+    (λ w. rw (stray-eq (c .before .before .before .before .before .before .args .s .now) (c .before .before .before .before .before .before .args .t2) (c .before .before .before .before .before .before .args .m) fits (blocksIn (c .before .before .before .before .before .before .args .blocks) (c .before .before .before .before .before .before .args .n)) (c .before .before .before .before .loop .k) (c .before .before .before .loop-test .taken), (ap (λ (n : ℕ). eqb n 23) (sym (c .before .u16-at .ensures ∙ ap (kindAt (c .before .before .before .before .before .before .args .s .now)) (c .before .before .place .ensures .0))) ∙ eq-eqb _ 23 (w .0 .taken)), sym (w .1 .ensures) ∙ not-false _ (w .2 .left)))
     (λ w. rw (stray-eq (c .before .before .before .before .before .before .args .s .now) (c .before .before .before .before .before .before .args .t2) (c .before .before .before .before .before .before .args .m) fits (blocksIn (c .before .before .before .before .before .before .args .blocks) (c .before .before .before .before .before .before .args .n)) (c .before .before .before .before .loop .k) (c .before .before .before .loop-test .taken), (ap (λ (n : ℕ). eqb n 23) (sym (c .before .u16-at .ensures ∙ ap (kindAt (c .before .before .before .before .before .before .args .s .now)) (c .before .before .place .ensures .0))) ∙ ne-eqb _ 23 (w .left))))))
 
 returns-2 : tie.Need-returns-2 Inv-loop μ-loop
