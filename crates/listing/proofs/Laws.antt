@@ -18,7 +18,7 @@ use Rattle.meaning.specs.Loop as M
 use Rattle.meaning.specs.Steps as I
 use Rattle.meaning.specs.Blocks.{empty, isRet}
 use Rattle.meaning.specs.Listing.{series}
-use Rattle.meaning.specs.ListingLaws.{places-step}
+use Rattle.meaning.specs.ListingLaws.{Every, every-at, places-step}
 use Rattle.meaning.specs.Listing as D
 use Rattle.listing.specs.Models.{fieldList, fieldOf, fieldsIn, blockOf, blocksIn, faultySuccessors, pickRead, readAt, bodyFault, Tested, placesOf}
 use Rattle.listing.specs.declared.records.Places.{Places}
@@ -90,11 +90,6 @@ module _ {A B : Type 0} (g : A → B) (f : ℕ → B) (out : List A) (i : ℕ) (
   unfolding series
   filled h e w = rw (add-one, take-suc-set out i v, map-append, e, w)
 
-pub series-length : {A : Type 0} (n : ℕ) (f : ℕ → A) → length (series n f) ≡ n
-unfolding series
-series-length zero f = refl
-series-length (suc n) f = simp (lib.ListN.length-append, series-length n f) (omega arith)
-
 pub map-id : (xs : List ℕ) → map (λ x. x) xs ≡ xs
 map-id [] = refl
 map-id (x ∷ xs) = ap (λ l. x ∷ l) (map-id xs)
@@ -108,19 +103,6 @@ map-series g (suc n) f = map-append g (series n f) (f n ∷ []) ∙ ap (λ l. l 
 
 pub frame-else : (f : ℕ) → 8 ≤ f → fieldOf f ≡ D.Field.frame
 frame-else f h = List·getD-eq-default fieldList D.Field.frame {n = f} h
-
--- ---- what holds of each number below n, shown one by one
-
-abbrev pub Every : (ℕ → Type 0) → ℕ → Type 0
-Every P zero = Unit {0}
-Every P (suc n) = Every P n × P n
-
-pub every-at : (P : ℕ → Type 0) (n : ℕ) → Every P n → (i : ℕ) → i < n → P i
-every-at P zero e i h = absurd (not-suc-le-zero h)
-every-at P (suc n) e i h =
-    decide (eqb i n)
-    (λ q. subst P (sym (eqb-eq q)) (e .1))
-    (λ q. let d : i ≢ n = eqb-ne q in every-at P n (e .0) i (omega arith))
 
 -- a kind of no row
 pub unused : (k : ℕ) (rs : List D.Row) → all (λ r. not (eqb k (r .kind))) rs ≡ true → (D.inUse k rs ≡ false) × (D.fieldsIn k rs ≡ [])

@@ -1,19 +1,21 @@
 -- Laws of the reading of listings: a record after another, and what holds of a listing that was read.
 use Prim.Native.Nat.{ℕ, zero, suc, _+_, _*_, _-_, _≤_, _<_}
-use native.Mathlib.Nat.{not-suc-le-zero, le-of-suc-le-suc}
+use native.Mathlib.Nat.{not-suc-le-zero, le-of-suc-le-suc, add-suc, suc-add}
 use native.Mathlib.Numerals.{add-one}
 use native.Mathlib.Omega.{arith}
 use mathlib.Core.Path.{_≡_, refl, sym, ap, _∙_, subst}
 use mathlib.Core.Logic.{_⊎_, inl, inr, _≢_}
 use mathlib.Core.Bool.{Bool, true, false, not, _&&_, _||_, cond, true≢false, false≢true, Bool·beq}
 use mathlib.Core.List.{List, [], _∷_, _++_, map}
-use lib.ListN.{length, getD, take, drop, length-append}
-use lib.Seq.{getD-drop, drop-drop}
+use lib.ListN.{length, getD, take, drop, length-append, length-take, length-drop, length-map, List·getD-eq-default}
+use lib.Seq.{getD-drop, getD-take, drop-drop}
 use lib.Dec.{leb, ltb, eqb}
-use borrow.Author.Tests.{le-leb, lt-leb, ltb-true, ltb-false}
+use borrow.Author.Tests.{le-leb, lt-leb, ltb-true, ltb-false, not-false}
 use Rattle.meaning.specs.Base.{all, any, decide, both, and-l, and-r, and-i, all-append, eqb-eq, eqb-ne, eqb-self, eqb-no, leb-le, leb-gt}
-use Rattle.meaning.specs.Blocks.{Routine, empty}
-use Rattle.meaning.specs.Listing.{u16At, wholeAt, kindAt, bodyAt, nextAt, Field, byte, word, local, words, tokens, frame, known, fieldsIn, fieldsOf, inUse, width, right, within, isToken, fitsBody, withinLimits, localsOf, Listed, read, refused, unless, faultAt, Places, noPlaces, fullFor, putAt, ifFine, ifNot, placesFrom}
+use Rattle.meaning.specs.Steps.{Instr, Pop}
+use Rattle.meaning.specs.Loop.{Block, noBlock}
+use Rattle.meaning.specs.Blocks.{Routine, empty, isRet, fits, placed, instrsOf, promised}
+use Rattle.meaning.specs.Listing.{u16At, wholeAt, kindAt, bodyAt, nextAt, Field, byte, word, local, words, tokens, frame, known, fieldsIn, fieldsOf, inUse, width, right, within, isToken, fitsBody, withinLimits, localsOf, Listed, read, refused, unless, faultAt, Places, noPlaces, fullFor, putAt, ifFine, ifNot, placesFrom, series, tokenAs, instructions, callOf, instrOf, instrAt, firstOf, overlap, repeats, endsBlock, faultySuccessor, faultyBlock, strayRet, routineAt, afterRecords, readListing}
 
 -- ---- the records in turn
 
@@ -202,17 +204,250 @@ first-passed s v h e = passed s (localsOf (bodyAt s 0)) 0 (fine-read (faultAt s 
 pub first-kind : (s : List ℕ) (l : ℕ) → Passed s l 0 → kindAt s 0 ≡ 1
 first-kind s l p = eqb-eq (p .first)
 
+-- ---- what holds of each number below n, shown one by one
+
+abbrev pub Every : (ℕ → Type 0) → ℕ → Type 0
+Every P zero = Unit {0}
+Every P (suc n) = Every P n × P n
+
+pub every-at : (P : ℕ → Type 0) (n : ℕ) → Every P n → (i : ℕ) → i < n → P i
+every-at P zero e i h = absurd (not-suc-le-zero h)
+every-at P (suc n) e i h =
+    decide (eqb i n)
+    (λ q. subst P (sym (eqb-eq q)) (e .1))
+    (λ q. let d : i ≢ n = eqb-ne q in every-at P n (e .0) i (omega arith))
+
 -- ---- a routine that was read meets what its run asks
 
-abbrev routine : List ℕ → Places → Routine
-routine s v = routineAt s v
+pub series-length : {A : Type 0} (n : ℕ) (f : ℕ → A) → length (series n f) ≡ n
+unfolding series
+series-length zero f = refl
+series-length (suc n) f = simp (length-append, series-length n f) (omega arith)
 
--- a store's local is one, a call returns at most eight
-code-fits : (s : List ℕ) (p : ℕ) → okCode s p ≡ true → fits (localsOf (bodyAt s 0)) (instrAt s p) ≡ true
-unfolding instrAt instrOf callOf
-code-fits s p e = go (kindAt s p - 10) refl
+-- the instructions that are no store and no call have nothing to meet
+abbrev Free : ℕ → Type 0
+Free j = (j ≡ 3 → ⊥) → (j ≡ 12 → ⊥) → (l : ℕ) (b : List ℕ) → fits l (getD (instructions b) j Pop) ≡ true
+
+free : Every Free 18
+unfolding callOf
+free = ((((((((((((((((((tt, λ a c l b. refl), λ a c l b. refl), λ a c l b. refl), λ a c l b. absurd (a refl)), λ a c l b. refl), λ a c l b. refl), λ a c l b. refl), λ a c l b. refl), λ a c l b. refl), λ a c l b. refl), λ a c l b. refl), λ a c l b. refl), λ a c l b. absurd (c refl)), λ a c l b. refl), λ a c l b. refl), λ a c l b. refl), λ a c l b. refl), λ a c l b. refl)
+
+module _ (s : List ℕ) (l at : ℕ) (p : Passed s l at) where
+  store-local : kindAt s at ≡ 13 → ltb (getD (bodyAt s at) 0 0) l ≡ true
+  unfolding fieldsOf fieldsIn
+  store-local k =
+      let f : fitsBody l (local ∷ []) (bodyAt s at) ≡ true = (rw k at (p .fits)) in
+      fits-cons l local [] (bodyAt s at) f .1
+
+  -- a store's local is one, a call returns at most eight
+  code-fits : fits l (instrAt s at) ≡ true
+  unfolding instrAt instrOf callOf
+  code-fits =
+      decide (eqb (kindAt s at) 13)
+      (λ q. let k : kindAt s at ≡ 13 = eqb-eq q in rw k (store-local k))
+      (λ q. decide (eqb (kindAt s at) 22)
+      (λ r. let k : kindAt s at ≡ 22 = eqb-eq r in
+      let n : ℕ = getD (bodyAt s at) (2 + 2 * getD (bodyAt s at) 1 0) 0 in
+      rw k (rw (series-length n (λ j. tokenAs (getD (bodyAt s at) (3 + 2 * getD (bodyAt s at) 1 0 + j) 0))) (le-leb _ _ (call-limits s l at p k .1))))
+      (λ r. decide (leb 18 (kindAt s at - 10))
+      (λ h. let g : 18 ≤ kindAt s at - 10 = leb-le h in
+      ap (fits l) (List·getD-eq-default (instructions (bodyAt s at)) Pop g))
+      (λ h. let a : kindAt s at ≢ 13 = eqb-ne q in
+      let b : kindAt s at ≢ 22 = eqb-ne r in
+      every-at Free 18 free (kindAt s at - 10) (leb-gt h) (λ e. a (omega arith)) (λ e. b (omega arith)) l (bodyAt s at))))
+
+all-map : {A : Type 0} (p : ℕ → Bool) (f : A → Bool) (g : ℕ → A) → ((x : ℕ) → p x ≡ true → f (g x) ≡ true) → (xs : List ℕ) → all p xs ≡ true → all f (map g xs) ≡ true
+all-map p f g h [] e = refl
+all-map p f g h (x ∷ xs) e = and-i (h x (and-l (p x) (all p xs) e)) (all-map p f g h xs (and-r (p x) (all p xs) e))
+
+ok-fits : (s : List ℕ) (x : ℕ) → okCode s x ≡ true → fits (localsOf (bodyAt s 0)) (instrAt s x) ≡ true
+ok-fits s x e =
+    code-fits s (localsOf (bodyAt s 0)) x (passed s (localsOf (bodyAt s 0)) x
+    (eqb-eq (and-l (eqb (faultAt s (localsOf (bodyAt s 0)) x) 0) (not (eqb (kindAt s x) 1) && not (eqb (kindAt s x) 2)) e)))
+
+none-go : (p : ℕ → Bool) (i n k : ℕ) → i ≤ k → (x : Bool) → p i ≡ x → (r : ℕ) → (ltb r (i + suc n) ≡ false → suc i ≤ k → p k ≡ false)
+    → ltb (cond x i r) (i + suc n) ≡ false → p k ≡ false
+none-go p i n k a true h r f q = let z : i + suc n ≤ i = ltb-false _ _ q in absurd (omega arith)
+none-go p i n k a false h r f q =
+    decide (eqb k i)
+    (λ e. subst (λ (j : ℕ). p j ≡ false) (sym (eqb-eq e)) h)
+    (λ e. let d : k ≢ i = eqb-ne e in f q (omega arith))
+
+-- no number passes the test
+first-none : (p : ℕ → Bool) (i n : ℕ) → ltb (firstOf p i n) (i + n) ≡ false → (k : ℕ) → i ≤ k → k < i + n → p k ≡ false
+unfolding firstOf
+first-none p i zero e k a b = absurd (omega arith)
+first-none p i (suc n) e k a b =
+    none-go p i n k a (p i) refl (firstOf p (suc i) n)
+    (λ q h. first-none p (suc i) n (subst (λ (m : ℕ). ltb (firstOf p (suc i) n) m ≡ false) (add-suc i n ∙ sym (suc-add i n)) q) k h (omega arith)) e
+
+first-none-below : (p : ℕ → Bool) (n : ℕ) → ltb (firstOf p 0 n) n ≡ false → (k : ℕ) → k < n → p k ≡ false
+first-none-below p n e k h =
+    let z : 0 + n ≡ n = omega arith in
+    first-none p 0 n (subst (λ (m : ℕ). ltb (firstOf p 0 n) m ≡ false) (sym z) e) k (omega arith) (omega arith)
+
+index-go : {A : Type 0} (p : A → Bool) (d x : A) (xs : List A) (b : Bool) → p x ≡ b → (any p xs ≡ true → (j : ℕ) × (j < length xs) × (p (getD xs j d) ≡ true))
+    → (b || any p xs) ≡ true → (j : ℕ) × (j < length (x ∷ xs)) × (p (getD (x ∷ xs) j d) ≡ true)
+index-go p d x xs true h f q = (0, omega arith, h)
+index-go p d x xs false h f q = let w = f q in (suc (w .0), omega (arith, w .1), w .2)
+
+any-index : {A : Type 0} (p : A → Bool) (d : A) (xs : List A) → any p xs ≡ true → (j : ℕ) × (j < length xs) × (p (getD xs j d) ≡ true)
+any-index p d [] e = absurd (false≢true e)
+any-index p d (x ∷ xs) e = index-go p d x xs (p x) refl (λ q. any-index p d xs q) e
+
+or-none-l : (a b : Bool) → (a || b) ≡ false → a ≡ false
+or-none-l true b e = e
+or-none-l false b e = refl
+
+or-none-r : (a b : Bool) → (a || b) ≡ false → b ≡ false
+or-none-r true b e = absurd (true≢false e)
+or-none-r false b e = e
+
+any-none : {A : Type 0} (p : A → Bool) (d : A) (xs : List A) → any p xs ≡ false → (j : ℕ) → j < length xs → p (getD xs j d) ≡ false
+any-none p d [] e j h = absurd (not-suc-le-zero h)
+any-none p d (x ∷ xs) e zero h = or-none-l (p x) (any p xs) e
+any-none p d (x ∷ xs) e (suc j) h = any-none p d xs (or-none-r (p x) (any p xs) e) j (le-of-suc-le-suc h)
+
+-- ---- a block's instructions
+
+-- what the rules of number 5 say of the block at position i
+pub record Ruled (n : ℕ) (bs : List Block) (i : ℕ) : Type 0 where
+  pub forth : getD bs i noBlock .entry ≤ getD bs i noBlock .exit
+  pub inside : getD bs i noBlock .exit < n
+  pub apart : any (overlap (getD bs i noBlock)) (take i bs) ≡ false
+
+ruled-block : (n : ℕ) (bs : List Block) (i : ℕ) → faultyBlock n bs i ≡ false → Ruled n bs i
+unfolding faultyBlock
+ruled-block n bs i e =
+    let b : Block = getD bs i noBlock in
+    let x1 : Bool = eqb i 0 && not (eqb (b .entry) 0) in
+    let x2 : Bool = ltb (b .exit) (b .entry) in
+    let x3 : Bool = leb n (b .exit) in
+    let x4 : Bool = any (overlap b) (take i bs) in
+    let x5 : Bool = repeats (b .successors) || any (faultySuccessor bs i b) (b .successors) in
+    let e1 : (x2 || (x3 || (x4 || x5))) ≡ false = or-none-r x1 (x2 || (x3 || (x4 || x5))) e in
+    let e2 : (x3 || (x4 || x5)) ≡ false = or-none-r x2 (x3 || (x4 || x5)) e1 in
+    record {
+      forth = ltb-false _ _ (or-none-l x2 (x3 || (x4 || x5)) e1);
+      inside = leb-gt (or-none-l x3 (x4 || x5) e2);
+      apart = or-none-l x4 x5 (or-none-r x3 (x4 || x5) e2);
+    }
+
+module _ (is : List Instr) (bs : List Block) (blocks : (i : ℕ) → i < length bs → Ruled (length is) bs i)
+    (rets : (k : ℕ) → k < length is → strayRet is bs k ≡ false) where
+  abbrev block : ℕ → Block
+  block i = getD bs i noBlock
+
+  -- two blocks share no instruction
+  apart-2 : (i j : ℕ) → j < length bs → i < j → overlap (block j) (block i) ≡ false
+  apart-2 i j h l =
+      let m : i < length (take j bs) = simp length-take (omega arith) in
+      rw (getD-take j bs i noBlock l) at (any-none (overlap (block j)) noBlock (take j bs) (blocks j h .apart) i m)
+
+  overlap-no : (b c : Block) → overlap b c ≡ false → b .entry ≤ c .exit → c .entry ≤ b .exit → ⊥
+  overlap-no b c e h k = true≢false (sym (and-i (le-leb _ _ h) (le-leb _ _ k)) ∙ e)
+
+  -- a Ret of the block at i is its exit, and the block has no successors
+  ret-last : (i k : ℕ) → i < length bs → block i .entry ≤ k → k ≤ block i .exit → isRet (getD is k Pop) ≡ true → (k ≡ block i .exit) × (empty (block i .successors) ≡ true)
+  unfolding strayRet
+  ret-last i k h a b r =
+      let w : k < length is = omega (arith, blocks i h .inside) in
+      let e : not (endsBlock bs k) ≡ false = (rw r at (rets k w)) in
+      let f : endsBlock bs k ≡ true = not-false _ e in
+      let p : Block → Bool = λ x. eqb k (x .exit) && empty (x .successors) in
+      let g = any-index p noBlock bs f in
+      let j : ℕ = g .0 in
+      let jx : k ≡ block j .exit = eqb-eq (and-l (eqb k (block j .exit)) (empty (block j .successors)) (g .2)) in
+      let je : empty (block j .successors) ≡ true = and-r (eqb k (block j .exit)) (empty (block j .successors)) (g .2) in
+      let jf : block j .entry ≤ block j .exit = blocks j (g .1) .forth in
+      decide (eqb i j)
+      (λ q. let m : i ≡ j = eqb-eq q in subst (λ (x : ℕ). (k ≡ block x .exit) × (empty (block x .successors) ≡ true)) (sym m) (jx, je))
+      (λ q. let d : i ≢ j = eqb-ne q in
+      decide (ltb i j)
+      (λ l. absurd (overlap-no (block j) (block i) (apart-2 i j (g .1) (ltb-true _ _ l)) (omega arith) (omega arith)))
+      (λ l. let m : j ≤ i = ltb-false _ _ l in
+      let n : j < i = omega arith in
+      absurd (overlap-no (block i) (block j) (apart-2 j i h n) (omega arith) (omega arith))))
+
+  placed-of : (es : List ℕ) (js : List Instr) → ((j : ℕ) → j < length js → isRet (getD js j Pop) ≡ true → (suc j ≡ length js) × (empty es ≡ true)) → placed es js ≡ true
+  unfolding placed
+  placed-of es [] f = refl
+  placed-of es (x ∷ js) f =
+      and-i (head-ok (isRet x) refl)
+      (placed-of es js (λ j h r. let w = f (suc j) (omega arith) r in (omega (arith, w .0), w .1)))
+    where
+      no-rest : (ys : List Instr) → 1 ≡ suc (length ys) → empty ys ≡ true
+      no-rest [] e = refl
+      no-rest (y ∷ ys) e = absurd (omega arith)
+      head-ok : (b : Bool) → isRet x ≡ b → (not b || (empty js && empty es)) ≡ true
+      head-ok true e = let w = f 0 (omega arith) e in and-i (no-rest js (w .0)) (w .1)
+      head-ok false e = refl
+
+  block-placed : (i : ℕ) → i < length bs → placed (block i .successors) (instrsOf (block i) is) ≡ true
+  unfolding instrsOf
+  block-placed i h =
+      let b : Block = block i in
+      let f : b .entry ≤ b .exit = blocks i h .forth in
+      let g : b .exit < length is = blocks i h .inside in
+      let c : length (take (suc (b .exit - b .entry)) (drop (b .entry) is)) ≡ suc (b .exit - b .entry) = simp (length-take, length-drop) (omega arith) in
+      placed-of (b .successors) (take (suc (b .exit - b .entry)) (drop (b .entry) is)) (λ j l r.
+      let m : j < suc (b .exit - b .entry) = omega arith in
+      let r′ : isRet (getD is (b .entry + j) Pop) ≡ true = (rw (getD-take (suc (b .exit - b .entry)) (drop (b .entry) is) j Pop m, getD-drop (b .entry) is j Pop) at r) in
+      let w = ret-last i (b .entry + j) h (omega arith) (omega arith) r′ in
+      (omega (arith, w .0), w .1))
+
+all-index : {A : Type 0} (p : A → Bool) (d : A) (xs : List A) → ((j : ℕ) → j < length xs → p (getD xs j d) ≡ true) → all p xs ≡ true
+all-index p d [] f = refl
+all-index p d (x ∷ xs) f = and-i (f 0 (omega arith)) (all-index p d xs (λ j h. f (suc j) (omega arith)))
+
+-- ---- a listing that was read
+
+pub record Accepted (s : List ℕ) (q : Routine) : Type 0 where
+  pub places : Places
+  pub read-so : placesFrom (length s) s 0 noPlaces ≡ read places
+  pub routine : q ≡ routineAt s places
+  pub some : 0 < length s
+  pub fine-blocks : ltb (firstOf (faultyBlock (length (routineAt s places .code)) (routineAt s places .blocks)) 0 (length (routineAt s places .blocks))) (length (routineAt s places .blocks)) ≡ false
+  pub fine-rets : ltb (firstOf (strayRet (routineAt s places .code) (routineAt s places .blocks)) 0 (length (routineAt s places .code))) (length (routineAt s places .code)) ≡ false
+
+some-bytes : (s : List ℕ) → empty s ≡ false → 0 < length s
+some-bytes [] e = absurd (true≢false e)
+some-bytes (x ∷ xs) e = omega arith
+
+pub accepted : (s : List ℕ) (q : Routine) → readListing s ≡ read q → Accepted s q
+unfolding readListing
+accepted s q e =
+    let a = not-read (ltb 65536 (length s)) 6 65536 (ifNot (empty s) 1 0 (afterRecords s (placesFrom (length s) s 0 noPlaces))) q e in
+    let b = not-read (empty s) 1 0 (afterRecords s (placesFrom (length s) s 0 noPlaces)) q (a .1) in
+    go (placesFrom (length s) s 0 noPlaces) refl (some-bytes s (b .0)) (b .1)
   where
-    l : ℕ
-    l = localsOf (bodyAt s 0)
-    go : (j : ℕ) → kindAt s p - 10 ≡ j → fits (localsOf (bodyAt s 0)) (getD (instructions (bodyAt s p)) j Pop) ≡ true
-    go j q = ?
+    go : (x : Listed Places) → placesFrom (length s) s 0 noPlaces ≡ x → 0 < length s → afterRecords s x ≡ read q → Accepted s q
+    go (refused n at) h l r = absurd (refused≢read r)
+    go (read v) h l r =
+        let p : Routine = routineAt s v in
+        let c = not-read (empty (p .blocks)) 5 (length s) _ q r in
+        let d = not-read (ltb (firstOf (faultyBlock (length (p .code)) (p .blocks)) 0 (length (p .blocks))) (length (p .blocks))) 5 _ _ q (c .1) in
+        let f = not-read (ltb (firstOf (strayRet (p .code) (p .blocks)) 0 (length (p .code))) (length (p .code))) 5 _ _ q (d .1) in
+        record { places = v; read-so = h; routine = sym (read-inj (f .1)); some = l; fine-blocks = d .0; fine-rets = f .0 }
+
+pub accepted-promised : (s : List ℕ) (q : Routine) → readListing s ≡ read q → promised q ≡ true
+unfolding promised
+accepted-promised s q e =
+    let a : Accepted s q = accepted s q e in
+    let v : Places = a .places in
+    let p : Routine = routineAt s v in
+    let l : ℕ = localsOf (bodyAt s 0) in
+    let g : Good s v = places-good (length s) s 0 noPlaces v (none-good s) (a .read-so) in
+    let w = first-passed s v (a .some) (a .read-so) in
+    let f = frame-limits s l 0 w (first-kind s l w) in
+    let bs : List Block = p .blocks in
+    let is : List Instr = p .code in
+    let rb : (i : ℕ) → i < length bs → Ruled (length is) bs i = λ i h. ruled-block (length is) bs i (first-none-below (faultyBlock (length is) bs) (length bs) (a .fine-blocks) i h) in
+    let rr : (k : ℕ) → k < length is → strayRet is bs k ≡ false = λ k h. first-none-below (strayRet is bs) (length is) (a .fine-rets) k h in
+    let few : length is ≤ 512 = rw (length-map (v .code) (instrAt s)) (g .few) in
+    subst (λ (r : Routine). promised r ≡ true) (sym (a .routine))
+    (and-i
+    (and-i (le-leb _ _ (f .1)) (le-leb _ _ few))
+    (and-i
+    (all-map (okCode s) (fits l) (instrAt s) (ok-fits s) (v .code) (g .code))
+    (all-index (λ b. placed (b .successors) (instrsOf b is)) noBlock bs (λ j h. block-placed is bs rb rr j h))))

@@ -3,7 +3,8 @@ use mathlib.Core.Path.{_≡_, refl, sym, ap, _∙_}
 use Prim.Native.Nat.{ℕ, _+_, _-_, _≤_}
 use lib.ListN.{getD}
 use Rattle.listing.specs.Models.{RowFor, kinds}
-use Rattle.listing.proofs.Laws.{Every, every-at, unused-kind}
+use Rattle.listing.proofs.Laws.{unused-kind}
+use Rattle.meaning.specs.ListingLaws.{Every, every-at}
 use borrow.Author.Needs.{needs}
 use native.Mathlib.Omega.{arith}
 use Rattle.listing.proofs.shapes.row_of.Statement.{statement}

@@ -7,7 +7,7 @@ use lib.ListN.{getD, take}
 use Rattle.meaning.specs.Listing as D
 use Rattle.listing.specs.declared.shapes.Row.{Row}
 use Rattle.listing.specs.Models.{ShapeFor, fieldOf, kinds}
-use Rattle.listing.proofs.Laws.{Every, every-at}
+use Rattle.meaning.specs.ListingLaws.{Every, every-at}
 use borrow.Author.Needs.{needs}
 use native.Mathlib.Omega.{arith}
 use Rattle.listing.proofs.shapes.shape_of.Statement.{statement}
