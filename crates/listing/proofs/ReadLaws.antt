@@ -16,11 +16,12 @@ use Rattle.meaning.specs.Steps as I
 use Rattle.meaning.specs.Blocks.{empty}
 use Rattle.meaning.specs.Blocks as Q
 use Rattle.meaning.specs.Listing as D
-use Rattle.meaning.specs.ListingLaws.{passed, two-successors, call-limits, frame-limits, okBlock, okCode, Good, places-good, none-good, first-passed, first-kind}
-use Rattle.listing.specs.declared.records.Places.{Places}
+use Rattle.meaning.specs.ListingLaws.{passed, two-successors, call-limits, frame-limits, okBlock, okCode, Good, places-good, none-good, first-passed, first-kind, read-places}
+use Rattle.records.specs.declared.Places.{Places}
 use Rattle.listing.specs.declared.Listed.{Listed}
-use Rattle.listing.specs.Models.{pickPlaces, placesIn, placesOf, pickInstr, callFor, decodedAt, twoAt, Sound, ruledPlaces, bytesAt, pickListed, routineOf, listedOf}
-use Rattle.listing.proofs.Laws.{counted, map-series}
+use Rattle.listing.specs.Models.{pickInstr, callFor, decodedAt, twoAt, Sound, ruledPlaces, bytesAt, pickListed, routineOf, listedOf}
+use Rattle.records.specs.Models.{pickPlaces, placesIn, placesOf}
+use Rattle.records.proofs.Lists.{counted, map-series}
 
 -- ---- number 5
 
@@ -112,16 +113,16 @@ two-of s p e =
     let f : D.faultAt s (D.localsOf (D.bodyAt s 0)) p ≡ 0 = eqb-eq (and-l a b e) in
     le-leb (two-successors s (D.localsOf (D.bodyAt s 0)) p (passed s (D.localsOf (D.bodyAt s 0)) p f) (eqb-eq (and-r a b e)))
 
-module _ (s : List ℕ) (w : Places) (some : 0 < length s) (number : w .number ≡ 0)
-    (told : placesOf w ≡ D.placesFrom (length s) s 0 D.noPlaces) (few-blocks : w .«block_count» ≤ 16) (few : w .«code_count» ≤ 512) where
-  pub were-read : D.placesFrom (length s) s 0 D.noPlaces ≡ D.Listed.read (placesIn w)
+module _ (s : List ℕ) (w : Places) (number : w .number ≡ 0) (told : placesOf w ≡ D.readPlaces s) (few-blocks : w .«block_count» ≤ 16) (few : w .«code_count» ≤ 512) where
+  pub were-read : D.readPlaces s ≡ D.Listed.read (placesIn w)
   were-read = sym told ∙ places-number w number
 
   pub sound : (head : List ℕ) → head ≡ D.bodyAt s 0 → Sound s head w
   sound head h =
-      let g : Good s (placesIn w) = places-good (length s) s 0 D.noPlaces (placesIn w) (none-good s) were-read in
+      let r = read-places s (placesIn w) were-read in
+      let g : Good s (placesIn w) = places-good (length s) s 0 D.noPlaces (placesIn w) (none-good s) (r .1) in
       let l : ℕ = D.localsOf (D.bodyAt s 0) in
-      let p = first-passed s (placesIn w) some were-read in
+      let p = first-passed s (placesIn w) (r .0) (r .1) in
       let f = frame-limits s l 0 p (first-kind s l p) in
       record {
         first = h;
@@ -131,28 +132,6 @@ module _ (s : List ℕ) (w : Places) (some : 0 < length s) (number : w .number �
         same = map-same (okCode s) (decodedAt s) (D.instrAt s) (decoded-same s) (take (w .«code_count») (w .code)) (g .code);
         params = rw h (omega (arith, f .0, f .1));
       }
-
-empty-nil : (s : List ℕ) → length s ≡ 0 → empty s ≡ true
-empty-nil [] h = refl
-empty-nil (x ∷ xs) h = absurd (omega arith)
-
-empty-some : (s : List ℕ) → (length s ≡ 0 → ⊥) → empty s ≡ false
-empty-some [] h = absurd (h refl)
-empty-some (x ∷ xs) h = refl
-
-module _ (s : List ℕ) where
-  pub too-long : 65536 < length s → D.Listed.refused 6 65536 ≡ D.readListing s
-  unfolding D.readListing
-  too-long h = rw (lt-ltb 65536 (length s) h)
-
-  module _ (fits : length s ≤ 65536) where
-    pub nothing : length s ≡ 0 → D.Listed.refused 1 0 ≡ D.readListing s
-    unfolding D.readListing
-    nothing h = rw (le-ltb 65536 (length s) fits, empty-nil s h)
-
-    pub after : (length s ≡ 0 → ⊥) → D.readListing s ≡ D.afterRecords s (D.placesFrom (length s) s 0 D.noPlaces)
-    unfolding D.readListing
-    after h = rw (le-ltb 65536 (length s) fits, empty-some s h)
 
 pub places-stop : (w : Places) → (w .number ≡ 0 → ⊥) → placesOf w ≡ D.Listed.refused (w .number) (w .place)
 unfolding placesOf

@@ -12,85 +12,13 @@ use Rattle.meaning.specs.Loop as M
 use Rattle.meaning.specs.Blocks as Q
 use Rattle.meaning.specs.Listing as D
 use Rattle.file_format.specs.Models.{tokenOf}
-use Rattle.listing.specs.declared.shapes.Shape.{Shape}
-use Rattle.listing.specs.declared.records.Cursor.{Cursor}
-use Rattle.listing.specs.declared.records.Found.{Found}
-use Rattle.listing.specs.declared.records.Found.the-variants.{Record, Short, End}
-use Rattle.listing.specs.declared.records.Test.{Test}
-use Rattle.listing.specs.declared.records.Places.{Places}
+use Rattle.records.specs.declared.Places.{Places}
 use Rattle.listing.specs.declared.decode.Instruction.{Instruction}
 use Rattle.listing.specs.declared.decode.Instruction.the-variants.{Pop, CopyLoc, MoveLoc, StLoc, FreezeRef, Compare, ReadRef, WriteRef, BorrowLoc, BorrowField, BorrowGlobal, MoveFrom, Call, Ret, Values, MoveTo, VectorOp, BorrowElement}
 use Rattle.listing.specs.declared.decode.Decoded.{Decoded}
 use Rattle.listing.specs.declared.Block.{Block}
 use Rattle.listing.specs.declared.Routine.{Routine}
 use Rattle.listing.specs.declared.Listed.{Listed}
-
--- ---- shapes
-
--- the fields by their numbers in the code
-abbrev pub fieldList : List D.Field
-fieldList =
-    D.flag
-    ∷ D.token
-    ∷ D.Field.byte 255 16
-    ∷ D.Field.word
-    ∷ D.Field.local
-    ∷ D.Field.words 2 2
-    ∷ D.Field.words 255 16
-    ∷ D.Field.tokens 8
-    ∷ []
-
-abbrev pub fieldOf : ℕ → D.Field
-fieldOf f = getD fieldList f D.Field.frame
-
-abbrev pub fieldsIn : Shape → List D.Field
-fieldsIn r = map fieldOf (take (r .count) (r .fields))
-
--- the kinds, as the rows of the code's table stand
-abbrev pub kinds : List ℕ
-kinds = 1 ∷ 2 ∷ 10 ∷ 11 ∷ 12 ∷ 13 ∷ 14 ∷ 15 ∷ 16 ∷ 17 ∷ 18 ∷ 19 ∷ 20 ∷ 21 ∷ 22 ∷ 23 ∷ 24 ∷ 25 ∷ 26 ∷ 27 ∷ []
-
-pub record RowFor (kind r : ℕ) : Type 0 where
-  pub small : r ≤ 20
-  pub here : r < 20 → getD kinds r 0 ≡ kind
-  pub none : r ≡ 20 → D.known kind ≡ false
-  pub bare : r ≡ 20 → D.fieldsOf kind ≡ []
-
-pub record ShapeFor (kind : ℕ) (r : Shape) : Type 0 where
-  pub known : r .known ≡ D.known kind
-  pub fields : fieldsIn r ≡ D.fieldsOf kind
-  pub few : r .count ≤ 4
-
--- ---- records
-
-abbrev pub pickRead : Bool → Found → Found → Found
-pickRead true a b = a
-pickRead false a b = b
-
-unfoldable pub readAt : List ℕ → ℕ → Found
-readAt s at =
-    pickRead (leb (length s) at) End
-    (pickRead (D.wholeAt s at) (Record (D.kindAt s at) (record { at = D.nextAt s at })) Short)
-
--- the tests of a body: 3, 6; 0 if none of them
-unfoldable pub bodyFault : ℕ → List D.Field → List ℕ → ℕ
-bodyFault l fs b = D.unless (D.fitsBody l fs b) 3 (D.unless (D.withinLimits fs b) 6 0)
-
-pub record Tested (s : List ℕ) (l at : ℕ) (r : Test) : Type 0 where
-  pub number : r .number ≡ D.faultAt s l at
-  pub kind : r .number ≡ 0 → r .kind ≡ D.kindAt s at
-  pub next : r .number ≡ 0 → r .next ≡ D.nextAt s at
-  pub inside : r .number ≡ 0 → r .next ≤ length s
-
-abbrev pub pickPlaces : Bool → D.Places → ℕ → ℕ → D.Listed D.Places
-pickPlaces true w n at = D.Listed.read w
-pickPlaces false w n at = D.Listed.refused n at
-
-abbrev pub placesIn : Places → D.Places
-placesIn r = record { blocks = take (r .«block_count») (r .blocks); code = take (r .«code_count») (r .code) }
-
-unfoldable pub placesOf : Places → D.Listed D.Places
-placesOf r = pickPlaces (eqb (r .number) 0) (placesIn r) (r .number) (r .place)
 
 -- ---- instructions
 

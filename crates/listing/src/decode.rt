@@ -1,8 +1,8 @@
 // The instruction of a record.
-use crate::records::Cursor;
-use crate::records::body;
-use crate::records::byte_at;
-use crate::records::u16_at;
+use records::Cursor;
+use records::body;
+use records::byte_at;
+use records::u16_at;
 use file_format::LocalIndex;
 use file_format::SignatureToken;
 use meaning::MAX_ACQUIRED;

@@ -1,15 +1,14 @@
 // The listing of one routine (document 01): its bytes are read into a routine, or refused by a number of 1 to 6 with a place.
 pub mod decode;
-pub mod records;
 mod rules;
-pub mod shapes;
 
 use file_format::CodeOffset;
-use meaning::MAX_BYTES;
 use records::Cursor;
+use records::Places;
 use records::place;
 use records::body;
 use records::byte_at;
+use records::read_places;
 use records::u16_at;
 ghost use mathlib.Core.Path.{_≡_};
 ghost use mathlib.Core.Bool.{true};
@@ -18,7 +17,8 @@ ghost use Prim.Native.Nat.{_≤_, _<_};
 ghost use lib.ListN.{length, take};
 ghost use Rattle.meaning.specs.Base.{all};
 ghost use Rattle.meaning.specs.Listing.{blockAt, bodyAt, readListing};
-ghost use Rattle.listing.specs.Models.{blockOf, blocksIn, twoAt, placesIn, Sound, ruledPlaces, listedOf};
+ghost use Rattle.listing.specs.Models.{blockOf, blocksIn, twoAt, Sound, ruledPlaces, listedOf};
+ghost use Rattle.records.specs.Models.{placesIn};
 
 // A block: its first and its last instruction, and the entries of its successors, of which `count` (0 to 2) are in use.
 pub struct Block {
@@ -108,7 +108,7 @@ fn blocks_at(s: &[u8], places: [u16; 16], n: usize) -> [Block; 16]
 }
 
 // A routine whose records were read, under the rules on blocks and on Ret.
-fn ruled(s: &[u8], head: &[u8], w: records::Places) -> Listed
+fn ruled(s: &[u8], head: &[u8], w: Places) -> Listed
     requires { ⌜ Sound (now s) (now head) w ⌝ }
     ensures { λ r. ⌜ listedOf (now (s .entry)) r ≡ ruledPlaces (now (s .entry)) (placesIn w) ⌝ }
 {
@@ -150,16 +150,9 @@ fn ruled(s: &[u8], head: &[u8], w: records::Places) -> Listed
 pub fn read_listing(s: &[u8]) -> Listed
     ensures { λ r. ⌜ listedOf (now (s .entry)) r ≡ readListing (now (s .entry)) ⌝ }
 {
-    if MAX_BYTES < s.len() {
-        return refused(6, MAX_BYTES);
-    }
-    if s.len() == 0 {
-        return refused(1, 0);
-    }
-    let head = body(s, Cursor { at: 0 });
-    let w = records::read_places(s, byte_at(head, 1));
+    let w = read_places(s);
     if w.number != 0 {
         return refused(w.number, w.place);
     }
-    ruled(s, head, w)
+    ruled(s, body(s, Cursor { at: 0 }), w)
 }

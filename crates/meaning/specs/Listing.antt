@@ -335,9 +335,14 @@ abbrev pub afterRecords : List ℕ → Listed Places → Listed Routine
 afterRecords s (read w) = ruled (length s) w (routineAt s w)
 afterRecords s (refused n at) = refused n at
 
-unfoldable pub readListing : List ℕ → Listed Routine
+-- 6 for length; 1 if empty; then each record
+unfoldable pub readPlaces : List ℕ → Listed Places
 unfolding placesFrom
-readListing s =
+readPlaces s =
     ifNot (ltb 65536 (length s)) 6 65536
     (ifNot (empty s) 1 0
-    (afterRecords s (placesFrom (length s) s 0 noPlaces)))
+    (placesFrom (length s) s 0 noPlaces))
+
+unfoldable pub readListing : List ℕ → Listed Routine
+unfolding readPlaces
+readListing s = afterRecords s (readPlaces s)

@@ -15,7 +15,7 @@ use Rattle.meaning.specs.Base.{all, any, decide, both, and-l, and-r, and
 use Rattle.meaning.specs.Steps.{Instr, Pop}
 use Rattle.meaning.specs.Loop.{Block, noBlock}
 use Rattle.meaning.specs.Blocks.{Routine, empty, isRet, fits, placed, instrsOf, promised}
-use Rattle.meaning.specs.Listing.{u16At, wholeAt, kindAt, bodyAt, nextAt, Field, byte, word, local, words, tokens, frame, known, fieldsIn, fieldsOf, inUse, width, right, within, isToken, fitsBody, withinLimits, localsOf, Listed, read, refused, unless, faultAt, Places, noPlaces, fullFor, putAt, ifFine, ifNot, placesFrom, series, tokenAs, instructions, callOf, instrOf, instrAt, firstOf, overlap, repeats, endsBlock, faultySuccessor, faultyBlock, strayRet, routineAt, afterRecords, readListing}
+use Rattle.meaning.specs.Listing.{u16At, wholeAt, kindAt, bodyAt, nextAt, Field, byte, word, local, words, tokens, frame, known, fieldsIn, fieldsOf, inUse, width, right, within, isToken, fitsBody, withinLimits, localsOf, Listed, read, refused, unless, faultAt, Places, noPlaces, fullFor, putAt, ifFine, ifNot, placesFrom, series, tokenAs, instructions, callOf, instrOf, instrAt, firstOf, overlap, repeats, endsBlock, faultySuccessor, faultyBlock, strayRet, routineAt, afterRecords, readPlaces, readListing}
 
 -- ---- the records in turn
 
@@ -414,21 +414,27 @@ some-bytes : (s : List ℕ) → empty s ≡ false → 0 < length s
 some-bytes [] e = absurd (true≢false e)
 some-bytes (x ∷ xs) e = omega arith
 
+-- the places were read: there are bytes, and each record passed
+pub read-places : (s : List ℕ) (v : Places) → readPlaces s ≡ read v → (0 < length s) × (placesFrom (length s) s 0 noPlaces ≡ read v)
+unfolding readPlaces
+read-places s v e =
+    let a = not-read (ltb 65536 (length s)) 6 65536 (ifNot (empty s) 1 0 (placesFrom (length s) s 0 noPlaces)) v e in
+    let b = not-read (empty s) 1 0 (placesFrom (length s) s 0 noPlaces) v (a .1) in
+    (some-bytes s (b .0), b .1)
+
 pub accepted : (s : List ℕ) (q : Routine) → readListing s ≡ read q → Accepted s q
 unfolding readListing
-accepted s q e =
-    let a = not-read (ltb 65536 (length s)) 6 65536 (ifNot (empty s) 1 0 (afterRecords s (placesFrom (length s) s 0 noPlaces))) q e in
-    let b = not-read (empty s) 1 0 (afterRecords s (placesFrom (length s) s 0 noPlaces)) q (a .1) in
-    go (placesFrom (length s) s 0 noPlaces) refl (some-bytes s (b .0)) (b .1)
+accepted s q e = go (readPlaces s) refl e
   where
-    go : (x : Listed Places) → placesFrom (length s) s 0 noPlaces ≡ x → 0 < length s → afterRecords s x ≡ read q → Accepted s q
-    go (refused n at) h l r = absurd (refused≢read r)
-    go (read v) h l r =
+    go : (x : Listed Places) → readPlaces s ≡ x → afterRecords s x ≡ read q → Accepted s q
+    go (refused n at) h r = absurd (refused≢read r)
+    go (read v) h r =
         let p : Routine = routineAt s v in
         let c = not-read (empty (p .blocks)) 5 (length s) _ q r in
         let d = not-read (ltb (firstOf (faultyBlock (length (p .code)) (p .blocks)) 0 (length (p .blocks))) (length (p .blocks))) 5 _ _ q (c .1) in
         let f = not-read (ltb (firstOf (strayRet (p .code) (p .blocks)) 0 (length (p .code))) (length (p .code))) 5 _ _ q (d .1) in
-        record { places = v; read-so = h; routine = sym (read-inj (f .1)); some = l; fine-blocks = d .0; fine-rets = f .0 }
+        let g = read-places s v h in
+        record { places = v; read-so = g .1; routine = sym (read-inj (f .1)); some = g .0; fine-blocks = d .0; fine-rets = f .0 }
 
 pub accepted-promised : (s : List ℕ) (q : Routine) → readListing s ≡ read q → promised q ≡ true
 unfolding promised

@@ -9,7 +9,7 @@ use Rattle.meaning.specs.Running.{Token, ofValue, ofRef}
 use Rattle.meaning.specs.Steps.{Instr, Pop, StLoc, MoveLoc, Values, BorrowLoc}
 use Rattle.meaning.specs.Loop.{Block}
 use Rattle.meaning.specs.Blocks.{Routine}
-use Rattle.meaning.specs.Listing.{u16At, wholeAt, bodyAt, fieldsIn, inUse, known, fieldsOf, fitsBody, withinLimits, series, blockOf, callOf, instrOf, faultAt, placesFrom, firstOf, repeats, faultyBlock, strayRet, blockAt, instrAt, readListing, Listed, read, refused}
+use Rattle.meaning.specs.Listing.{u16At, wholeAt, bodyAt, fieldsIn, inUse, known, fieldsOf, fitsBody, withinLimits, series, blockOf, callOf, instrOf, faultAt, placesFrom, firstOf, repeats, faultyBlock, strayRet, blockAt, instrAt, readPlaces, readListing, Listed, read, refused}
 
 abbrev marked : List ℕ
 marked =
@@ -27,10 +27,10 @@ listing = record {
 }
 
 pub marked-read : readListing marked ≡ read listing
-unfolding u16At wholeAt bodyAt fieldsIn inUse known fieldsOf fitsBody withinLimits series blockOf callOf instrOf faultAt placesFrom firstOf repeats faultyBlock strayRet blockAt instrAt readListing
+unfolding u16At wholeAt bodyAt fieldsIn inUse known fieldsOf fitsBody withinLimits series blockOf callOf instrOf faultAt placesFrom firstOf repeats faultyBlock strayRet blockAt instrAt readPlaces readListing
 marked-read = refl
 
 -- cut one byte short
 pub marked-cut : readListing (take 40 marked) ≡ refused 1 36
-unfolding u16At wholeAt bodyAt fieldsIn inUse known fieldsOf fitsBody withinLimits series blockOf callOf instrOf faultAt placesFrom firstOf repeats faultyBlock strayRet blockAt instrAt readListing
+unfolding u16At wholeAt bodyAt fieldsIn inUse known fieldsOf fitsBody withinLimits series blockOf callOf instrOf faultAt placesFrom firstOf repeats faultyBlock strayRet blockAt instrAt readPlaces readListing
 marked-cut = refl

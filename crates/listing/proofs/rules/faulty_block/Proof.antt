@@ -2,7 +2,8 @@
 use mathlib.Core.Path.{_≡_, refl, sym, ap, _∙_}
 use borrow.Author.Tests.{lt-ltb, le-ltb, le-leb, lt-leb, eq-eqb, ne-eqb, leb-true, leb-false, ltb-true, ltb-false, eqb-true, eqb-false, not-true, not-false}
 use lib.ListN.{length}
-use Rattle.listing.proofs.Laws.{unmapped, faulty-eq}
+use Rattle.listing.proofs.Laws.{faulty-eq}
+use Rattle.records.proofs.Lists.{unmapped}
 use borrow.Author.Needs.{needs}
 use Rattle.listing.proofs.rules.faulty_block.Statement.{statement}
 use Rattle.listing.proofs.rules.faulty_block.Tie as tie

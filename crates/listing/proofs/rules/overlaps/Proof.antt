@@ -7,7 +7,8 @@ use lib.ListN.{length, drop}
 use lib.Dec.{eqb, leb}
 use Rattle.meaning.specs.Base.{any}
 use Rattle.listing.specs.Models.{blockOf, blocksIn}
-use Rattle.listing.proofs.Laws.{found, passed, missed, unmapped, noneBlock, no-successor, block-here, block-count, block-part}
+use Rattle.listing.proofs.Laws.{found, passed, missed, noneBlock, no-successor, block-here, block-count, block-part}
+use Rattle.records.proofs.Lists.{unmapped}
 use Rattle.meaning.specs.Listing.{overlap}
 use native.Mathlib.Omega.{arith}
 use Rattle.listing.proofs.rules.overlaps.Statement.{statement}
