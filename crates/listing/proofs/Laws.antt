@@ -1,18 +1,17 @@
 -- Laws of the rules on blocks and of the instructions of records.
 -- Assumes nothing.
 use mathlib.Core.Path.{_≡_, refl, sym, ap, _∙_, subst}
-use mathlib.Core.Logic.{_≢_, _⊎_, inl, inr}
-use mathlib.Core.Bool.{Bool, true, false, not, _&&_, _||_, and-assoc, and-true, Bool·beq}
-use mathlib.Core.List.{List, [], _∷_, _++_, map}
-use Prim.Native.Nat.{ℕ, zero, suc, _+_, _-_, _≤_, _<_, min}
-use native.Mathlib.Nat.{not-suc-le-zero, le-of-suc-le-suc}
+use mathlib.Core.Logic.{_⊎_, inl, inr}
+use mathlib.Core.Bool.{Bool, true, false, not, _&&_, _||_}
+use mathlib.Core.List.{List, [], _∷_, map}
+use Prim.Native.Nat.{ℕ, zero, suc, _+_, _-_, _≤_, _<_}
 use native.Mathlib.Numerals.{add-one}
 use native.Mathlib.Omega.{arith}
-use lib.ListN.{length, take, drop, getD, set, length-take, length-drop, length-map, drop-of-length-le, List·getD-map, List·getD-eq-default}
-use lib.Seq.{drop-cons, drop-drop, getD-take, take-take, take-suc-set, take-suc, take-nil, take-all, length-take-le}
+use lib.ListN.{length, take, drop, getD, length-take, List·getD-eq-default}
+use lib.Seq.{getD-take, take-take, take-nil}
 use lib.Dec.{leb, ltb, eqb, eqb·suc-zero}
-use borrow.Author.Tests.{lt-leb, lt-ltb, le-ltb, eq-eqb, ne-eqb}
-use Rattle.meaning.specs.Base.{all, any, decide, leb-le, le-leb, leb-gt, eqb-eq, eqb-ne, and-i, and-l, and-r, not-true, or-false}
+use borrow.Author.Tests.{lt-ltb, le-ltb, eq-eqb, ne-eqb}
+use Rattle.meaning.specs.Base.{any, decide, leb-le, leb-gt, or-false}
 use Rattle.meaning.specs.Loop.{noBlock}
 use Rattle.meaning.specs.Loop as M
 use Rattle.meaning.specs.Steps as I

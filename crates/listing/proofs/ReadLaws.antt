@@ -1,15 +1,15 @@
 -- Laws of the whole listing: the rules of number 5 over the places that were read, and what is known of those places.
 -- Assumes nothing.
-use mathlib.Core.Path.{_≡_, refl, sym, ap, _∙_, subst}
-use mathlib.Core.Bool.{Bool, true, false, not, _&&_, _||_}
-use mathlib.Core.List.{List, [], _∷_, _++_, map}
+use mathlib.Core.Path.{_≡_, refl, sym, ap, _∙_}
+use mathlib.Core.Bool.{Bool, true, false, not, _&&_}
+use mathlib.Core.List.{List, [], _∷_, map}
 use Prim.Native.Nat.{ℕ, zero, suc, _+_, _*_, _≤_, _<_}
 use native.Mathlib.Omega.{arith}
 use lib.ListN.{length, take, getD}
 use lib.Seq.{getD-take}
-use lib.Dec.{leb, ltb, eqb, eqb·suc-zero}
+use lib.Dec.{ltb, eqb, eqb·suc-zero}
 use borrow.Author.Tests.{lt-ltb, le-ltb, eq-eqb, ne-eqb}
-use Rattle.meaning.specs.Base.{all, decide, and-l, and-r, eqb-eq, eqb-ne, le-leb, all-imp}
+use Rattle.meaning.specs.Base.{all, decide, and-l, and-r, eqb-eq, le-leb, all-imp}
 use Rattle.meaning.specs.Running.{Token}
 use Rattle.meaning.specs.Loop as M
 use Rattle.meaning.specs.Steps as I
@@ -19,8 +19,8 @@ use Rattle.meaning.specs.Listing as D
 use Rattle.meaning.specs.ListingLaws.{passed, two-successors, call-limits, frame-limits, okBlock, okCode, Good, places-good, none-good, first-passed, first-kind, read-places}
 use Rattle.records.specs.declared.Places.{Places}
 use Rattle.listing.specs.declared.Listed.{Listed}
-use Rattle.listing.specs.Models.{pickInstr, callFor, decodedAt, twoAt, Sound, ruledPlaces, bytesAt, pickListed, routineOf, listedOf}
-use Rattle.records.specs.Models.{pickPlaces, placesIn, placesOf}
+use Rattle.listing.specs.Models.{callFor, decodedAt, twoAt, Sound, ruledPlaces, bytesAt, listedOf}
+use Rattle.records.specs.Models.{placesIn, placesOf}
 use Rattle.records.proofs.Lists.{counted, map-series}
 
 -- ---- number 5

@@ -1,15 +1,15 @@
 // The instruction of a record.
-use records::Cursor;
-use records::body;
-use records::byte_at;
-use records::u16_at;
 use file_format::LocalIndex;
 use file_format::SignatureToken;
 use meaning::MAX_ACQUIRED;
 use meaning::MAX_RETURNS;
+use records::Cursor;
+use records::body;
+use records::byte_at;
+use records::u16_at;
 ghost use mathlib.Core.Path.{_≡_};
 ghost use Prim.Native.Nat.{_≤_, _<_};
-ghost use lib.ListN.{length, getD, take};
+ghost use lib.ListN.{getD, take};
 ghost use Rattle.file_format.specs.Models.{tokenOf};
 ghost use Rattle.meaning.specs.Listing.{tokenAs, flagAt, wordsAt, instrOf};
 ghost use Rattle.listing.specs.Models.{bytesAt, plainOf, decodedOf, decodedAt, callFor};

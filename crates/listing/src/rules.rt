@@ -1,6 +1,7 @@
 // The rules on blocks and on Ret (refusal 5).
 use crate::Block;
-use records::{place, u16_at};
+use records::place;
+use records::u16_at;
 ghost use mathlib.Core.Path.{_≡_};
 ghost use Prim.Native.Nat.{_≤_, _<_};
 ghost use mathlib.Core.List.{map};

@@ -1,21 +1,20 @@
 -- Laws of the reading of listings: a record after another, and what holds of a listing that was read.
 use Prim.Native.Nat.{ℕ, zero, suc, _+_, _*_, _-_, _≤_, _<_}
 use native.Mathlib.Nat.{not-suc-le-zero, le-of-suc-le-suc, add-suc, suc-add}
-use native.Mathlib.Numerals.{add-one}
 use native.Mathlib.Omega.{arith}
 use mathlib.Core.Path.{_≡_, refl, sym, ap, _∙_, subst}
-use mathlib.Core.Logic.{_⊎_, inl, inr, _≢_}
+use mathlib.Core.Logic.{_≢_}
 use mathlib.Core.Bool.{Bool, true, false, not, _&&_, _||_, cond, true≢false, false≢true, Bool·beq}
 use mathlib.Core.List.{List, [], _∷_, _++_, map}
 use lib.ListN.{length, getD, take, drop, length-append, length-take, length-drop, length-map, List·getD-eq-default}
 use lib.Seq.{getD-drop, getD-take, drop-drop}
 use lib.Dec.{leb, ltb, eqb}
 use borrow.Author.Tests.{le-leb, lt-leb, ltb-true, ltb-false, not-false}
-use Rattle.meaning.specs.Base.{all, any, decide, both, and-l, and-r, and-i, all-append, eqb-eq, eqb-ne, eqb-self, eqb-no, leb-le, leb-gt}
+use Rattle.meaning.specs.Base.{all, any, decide, and-l, and-r, and-i, all-append, eqb-eq, eqb-ne, leb-le, leb-gt}
 use Rattle.meaning.specs.Steps.{Instr, Pop}
 use Rattle.meaning.specs.Loop.{Block, noBlock}
 use Rattle.meaning.specs.Blocks.{Routine, empty, isRet, fits, placed, instrsOf, promised}
-use Rattle.meaning.specs.Listing.{u16At, wholeAt, kindAt, bodyAt, nextAt, Field, byte, word, local, words, tokens, frame, known, fieldsIn, fieldsOf, inUse, width, right, within, isToken, fitsBody, withinLimits, localsOf, Listed, read, refused, unless, faultAt, Places, noPlaces, fullFor, putAt, ifFine, ifNot, placesFrom, series, tokenAs, instructions, callOf, instrOf, instrAt, firstOf, overlap, repeats, endsBlock, faultySuccessor, faultyBlock, strayRet, routineAt, afterRecords, readPlaces, readListing}
+use Rattle.meaning.specs.Listing.{wholeAt, kindAt, bodyAt, nextAt, Field, byte, word, local, words, tokens, frame, known, fieldsIn, fieldsOf, width, right, within, isToken, fitsBody, withinLimits, localsOf, Listed, read, refused, unless, faultAt, Places, noPlaces, fullFor, putAt, ifFine, ifNot, placesFrom, series, tokenAs, instructions, callOf, instrOf, instrAt, firstOf, overlap, repeats, endsBlock, faultySuccessor, faultyBlock, strayRet, routineAt, afterRecords, readPlaces, readListing}
 
 -- ---- the records in turn
 
@@ -130,9 +129,10 @@ module _ (s : List ℕ) (l at : ℕ) (p : Passed s l at) where
       let b : List ℕ = bodyAt s at in
       let f : fitsBody l (frame ∷ tokens 8 ∷ []) b ≡ true = (rw k at (p .fits)) in
       let g : withinLimits (frame ∷ tokens 8 ∷ []) b ≡ true = (rw k at (p .within)) in
-      let x = fits-cons l frame (tokens 8 ∷ []) b f .1 in
-      (leb-le (and-l (leb (getD b 0 0) (getD b 1 0)) (all isToken (take (getD b 0 0) (drop 2 b))) x),
-       leb-le (within-cons frame (tokens 8 ∷ []) b g .0))
+      let x = fits-cons l frame (tokens 8 ∷ []) b f .1 in (
+        leb-le (and-l (leb (getD b 0 0) (getD b 1 0)) (all isToken (take (getD b 0 0) (drop 2 b))) x),
+        leb-le (within-cons frame (tokens 8 ∷ []) b g .0),
+      )
 
 -- ---- what holds of the places that were read
 
@@ -379,6 +379,7 @@ module _ (is : List Instr) (bs : List Block) (blocks : (i : ℕ) → i < length 
       no-rest : (ys : List Instr) → 1 ≡ suc (length ys) → empty ys ≡ true
       no-rest [] e = refl
       no-rest (y ∷ ys) e = absurd (omega arith)
+
       head-ok : (b : Bool) → isRet x ≡ b → (not b || (empty js && empty es)) ≡ true
       head-ok true e = let w = f 0 (omega arith) e in and-i (no-rest js (w .0)) (w .1)
       head-ok false e = refl

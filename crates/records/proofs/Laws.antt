@@ -1,18 +1,16 @@
 -- Laws of shapes, of the tests of a record, and of the records in turn.
 -- Assumes nothing.
-use mathlib.Core.Path.{_≡_, refl, sym, ap, _∙_, subst}
-use mathlib.Core.Logic.{_≢_, _⊎_, inl, inr}
-use mathlib.Core.Bool.{Bool, true, false, not, _&&_, _||_, and-assoc, and-true, Bool·beq}
-use mathlib.Core.List.{List, [], _∷_, _++_, map}
-use Prim.Native.Nat.{ℕ, zero, suc, _+_, _-_, _≤_, _<_, min}
-use native.Mathlib.Nat.{not-suc-le-zero, le-of-suc-le-suc}
+use mathlib.Core.Path.{_≡_, refl, sym, ap, _∙_}
+use mathlib.Core.Bool.{Bool, true, false, not, _&&_, and-assoc, and-true, Bool·beq}
+use mathlib.Core.List.{List, [], _∷_}
+use Prim.Native.Nat.{ℕ, zero, suc, _+_, _-_, _≤_, _<_}
 use native.Mathlib.Numerals.{add-one}
 use native.Mathlib.Omega.{arith}
-use lib.ListN.{length, take, drop, getD, set, length-take, length-drop, length-map, drop-of-length-le, List·getD-map, List·getD-eq-default}
-use lib.Seq.{drop-cons, drop-drop, getD-take, take-take, take-suc-set, take-suc, take-nil, take-all, length-take-le}
-use lib.Dec.{leb, ltb, eqb, eqb·suc-zero}
+use lib.ListN.{length, take, drop, getD, set, length-take, length-drop, drop-of-length-le, List·getD-eq-default}
+use lib.Seq.{drop-cons, drop-drop, getD-take, take-suc-set, take-all, length-take-le}
+use lib.Dec.{leb, eqb}
 use borrow.Author.Tests.{lt-leb, lt-ltb, le-ltb, eq-eqb, ne-eqb}
-use Rattle.meaning.specs.Base.{all, any, decide, leb-le, le-leb, leb-gt, eqb-eq, eqb-ne, and-i, and-l, and-r, not-true, or-false}
+use Rattle.meaning.specs.Base.{all, leb-le, le-leb, and-i, and-l, and-r, not-true}
 use Rattle.meaning.specs.Blocks.{empty}
 use Rattle.meaning.specs.Listing as D
 use Rattle.meaning.specs.ListingLaws.{places-step}
@@ -105,6 +103,7 @@ unused-kind k a b far = unused k D.shapes tests
   where
     no : (j : ℕ) → 10 ≤ j → j ≤ 27 → not (eqb k j) ≡ true
     no j p q = ap not (ne-eqb k j (far j p q))
+
     tests : all (λ r. not (eqb k (r .kind))) D.shapes ≡ true
     tests =
         and-i (ap not (ne-eqb k 1 a)) (and-i (ap not (ne-eqb k 2 b))

@@ -1,18 +1,18 @@
 -- Laws of lists and tests: a search goes on from element to element, an array is filled from the front.
 -- Assumes nothing.
-use mathlib.Core.Path.{_≡_, refl, sym, ap, _∙_, subst}
-use mathlib.Core.Logic.{_≢_, _⊎_, inl, inr}
-use mathlib.Core.Bool.{Bool, true, false, not, _&&_, _||_, and-assoc, and-true, Bool·beq}
+use mathlib.Core.Path.{_≡_, refl, sym, ap, _∙_}
+use mathlib.Core.Logic.{_⊎_, inl, inr}
+use mathlib.Core.Bool.{Bool, true, false, _||_}
 use mathlib.Core.List.{List, [], _∷_, _++_, map}
-use Prim.Native.Nat.{ℕ, zero, suc, _+_, _-_, _≤_, _<_, min}
+use Prim.Native.Nat.{ℕ, zero, suc, _+_, _-_, _≤_, _<_}
 use native.Mathlib.Nat.{not-suc-le-zero, le-of-suc-le-suc}
 use native.Mathlib.Numerals.{add-one}
 use native.Mathlib.Omega.{arith}
-use lib.ListN.{length, take, drop, getD, set, length-take, length-drop, length-map, drop-of-length-le, List·getD-map, List·getD-eq-default}
-use lib.Seq.{drop-cons, drop-drop, getD-take, take-take, take-suc-set, take-suc, take-nil, take-all, length-take-le}
-use lib.Dec.{leb, ltb, eqb, eqb·suc-zero}
-use borrow.Author.Tests.{lt-leb, lt-ltb, le-ltb, eq-eqb, ne-eqb}
-use Rattle.meaning.specs.Base.{all, any, decide, leb-le, le-leb, leb-gt, eqb-eq, eqb-ne, and-i, and-l, and-r, not-true, or-false}
+use lib.ListN.{length, take, drop, getD, set, length-take, length-map, drop-of-length-le, List·getD-map}
+use lib.Seq.{drop-cons, getD-take, take-suc-set, take-suc}
+use lib.Dec.{leb, eqb}
+use borrow.Author.Tests.{eq-eqb, ne-eqb}
+use Rattle.meaning.specs.Base.{all, any, decide, leb-le, le-leb, leb-gt, eqb-eq, eqb-ne, and-l, and-r}
 use Rattle.meaning.specs.Listing.{series}
 
 pub leb-iff : (a b c d : ℕ) → (a ≤ b → c ≤ d) → (c ≤ d → a ≤ b) → leb a b ≡ leb c d

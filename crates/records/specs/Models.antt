@@ -7,7 +7,6 @@ use lib.ListN.{length, getD, take}
 use lib.Dec.{leb, eqb}
 use Rattle.meaning.specs.Listing as D
 use Rattle.records.specs.declared.shapes.Shape.{Shape}
-use Rattle.records.specs.declared.Cursor.{Cursor}
 use Rattle.records.specs.declared.Found.{Found}
 use Rattle.records.specs.declared.Found.the-variants.{Record, Short, End}
 use Rattle.records.specs.declared.Test.{Test}

@@ -1,6 +1,13 @@
 // The records of a listing (document 01): a cursor over the lent bytes, a record's body, the tests of a record, and where all of them start.
 pub mod shapes;
 
+use meaning::MAX_ACQUIRED;
+use meaning::MAX_BLOCKS;
+use meaning::MAX_BYTES;
+use meaning::MAX_INSTRUCTIONS;
+use meaning::MAX_LOCALS;
+use meaning::MAX_PARAMETERS;
+use meaning::MAX_RETURNS;
 use shapes::ACQUIRED;
 use shapes::FLAG;
 use shapes::LOCAL;
@@ -10,13 +17,6 @@ use shapes::SUCCESSORS;
 use shapes::Shape;
 use shapes::TOKEN;
 use shapes::WORD;
-use meaning::MAX_ACQUIRED;
-use meaning::MAX_BLOCKS;
-use meaning::MAX_BYTES;
-use meaning::MAX_INSTRUCTIONS;
-use meaning::MAX_LOCALS;
-use meaning::MAX_PARAMETERS;
-use meaning::MAX_RETURNS;
 ghost use mathlib.Core.Path.{_≡_};
 ghost use Prim.Native.Nat.{_≤_, _<_};
 ghost use mathlib.Core.Bool.{not, Bool·beq};

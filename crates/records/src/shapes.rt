@@ -1,6 +1,4 @@
 // The shape table: the fields of each kind's body.
-ghost use mathlib.Core.Path.{_≡_};
-ghost use Prim.Native.Nat.{_≤_};
 ghost use Rattle.records.specs.Models.{RowFor, ShapeFor};
 
 // The fields. A range that is passed is refusal 3, a limit that is passed is refusal 6.

@@ -1,6 +1,6 @@
 -- `listing::blocks_at` meets its contract. Assumes nothing.
-use mathlib.Core.Path.{_≡_, refl, sym, ap, _∙_}
-use Prim.Native.Nat.{ℕ, _-_, _≤_}
+use mathlib.Core.Path.{_≡_, refl, ap, _∙_}
+use Prim.Native.Nat.{_-_, _≤_}
 use mathlib.Core.List.{map}
 use lib.ListN.{length, take, length-set}
 use Rattle.meaning.specs.Listing.{blockAt}

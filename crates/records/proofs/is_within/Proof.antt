@@ -1,5 +1,5 @@
 -- `records::is_within` meets its contract. Assumes nothing.
-use mathlib.Core.Path.{_≡_, refl, sym, ap, _∙_}
+use mathlib.Core.Path.{ap}
 use Prim.Native.Nat.{ℕ, zero-le}
 use lib.Dec.{leb}
 use Rattle.records.proofs.Laws.{frame-else}

@@ -1,6 +1,6 @@
 -- `records::misplaced` meets its contract. Assumes nothing.
-use mathlib.Core.Path.{_≡_, refl, sym, ap, _∙_}
-use borrow.Author.Tests.{lt-ltb, le-ltb, le-leb, lt-leb, eq-eqb, ne-eqb, leb-true, leb-false, ltb-true, ltb-false, eqb-true, eqb-false, not-true, not-false}
+use mathlib.Core.Path.{sym}
+use borrow.Author.Tests.{eq-eqb, ne-eqb}
 use Rattle.records.proofs.Laws.{beq-first, beq-later}
 use Rattle.records.proofs.misplaced.Statement.{statement}
 use Rattle.records.proofs.misplaced.Tie as tie

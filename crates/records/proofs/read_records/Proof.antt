@@ -1,8 +1,7 @@
 -- `records::read_records` meets its contract. Assumes nothing.
-use mathlib.Core.Path.{_≡_, refl, sym, ap, _∙_}
-use borrow.Author.Tests.{lt-ltb, le-ltb, le-leb, lt-leb, eq-eqb, ne-eqb, leb-true, leb-false, ltb-true, ltb-false, eqb-true, eqb-false, not-true, not-false}
-use Prim.Native.Nat.{ℕ, _-_, _≤_}
-use lib.ListN.{length, take, set, length-set}
+use mathlib.Core.Path.{_≡_, refl, sym, _∙_}
+use Prim.Native.Nat.{_-_, _≤_}
+use lib.ListN.{length, take, length-set}
 use Rattle.meaning.specs.Listing.{nextAt, placesFrom, noPlaces}
 use Rattle.meaning.specs.ListingLaws.{places-end}
 use Rattle.records.specs.Models.{placesOf}

@@ -1,10 +1,10 @@
 -- `records::test_record` meets its contract. Assumes nothing.
-use mathlib.Core.Path.{_≡_, refl, sym, ap, _∙_}
-use borrow.Author.Tests.{lt-ltb, le-ltb, le-leb, lt-leb, eq-eqb, ne-eqb, leb-true, leb-false, ltb-true, ltb-false, eqb-true, eqb-false, not-true, not-false}
+use mathlib.Core.Path.{_≡_, sym, ap, _∙_}
+use borrow.Author.Tests.{not-true, not-false}
 use mathlib.Core.Bool.{true, false, Bool·beq}
 use lib.Dec.{eqb}
 use Rattle.meaning.specs.Listing.{known, kindAt, fieldsOf, faultAt}
-use Rattle.records.specs.Models.{Tested, fieldsIn}
+use Rattle.records.specs.Models.{fieldsIn}
 use Rattle.records.proofs.Laws.{record-inv, short-inv, end-inv, refused-test, fault-1, fault-2, fault-4, fault-body, inside}
 use borrow.Author.Needs.{needs}
 use Rattle.records.proofs.test_record.Statement.{statement}

@@ -1,6 +1,6 @@
 -- `records::u16_at` meets its contract. Assumes nothing.
-use mathlib.Core.Path.{_≡_, refl, sym, ap, _∙_}
-use Prim.Native.Nat.{ℕ, _+_, _≤_}
+use mathlib.Core.Path.{_≡_, _∙_}
+use Prim.Native.Nat.{_+_, _≤_}
 use lib.ListN.{length, getD, List·getD-eq-default}
 use Rattle.meaning.specs.Listing.{u16At}
 use borrow.Author.Needs.{needs}

@@ -1,5 +1,5 @@
 -- `listing::decode::alone` meets its contract. Assumes nothing.
-use mathlib.Core.Path.{_≡_, refl, sym, ap, _∙_}
+use mathlib.Core.Path.{refl}
 use Rattle.listing.specs.Models.{decodedOf}
 use Rattle.listing.proofs.decode.alone.Statement.{statement}
 use Rattle.listing.proofs.decode.alone.Tie as tie

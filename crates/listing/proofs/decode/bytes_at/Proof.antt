@@ -1,9 +1,9 @@
 -- `listing::decode::bytes_at` meets its contract. Assumes nothing.
-use mathlib.Core.Path.{_≡_, refl, sym, ap, _∙_}
-use Prim.Native.Nat.{ℕ, _+_, _*_, _≤_, _-_}
+use mathlib.Core.Path.{_≡_, refl, sym, _∙_}
+use Prim.Native.Nat.{_+_, _≤_, _-_}
 use lib.ListN.{length, getD, take, length-set}
 use mathlib.Core.List.{map}
-use Rattle.meaning.specs.Listing.{u16At, series}
+use Rattle.meaning.specs.Listing.{series}
 use Rattle.records.proofs.Lists.{filled, map-id}
 use borrow.Author.Needs.{needs}
 use native.Mathlib.Omega.{arith}

@@ -1,7 +1,7 @@
 -- `listing::decode::decode_call` meets its contract. Assumes nothing.
-use mathlib.Core.Path.{_≡_, refl, sym, ap, _∙_}
-use borrow.Author.Tests.{lt-ltb, le-ltb, le-leb, lt-leb, eq-eqb, ne-eqb, leb-true, leb-false, ltb-true, ltb-false, eqb-true, eqb-false, not-true, not-false}
-use Prim.Native.Nat.{ℕ, _+_, _*_}
+use mathlib.Core.Path.{_≡_, sym, ap, _∙_}
+use borrow.Author.Tests.{le-leb, lt-leb}
+use Prim.Native.Nat.{_+_, _*_}
 use mathlib.Core.List.{map}
 use lib.ListN.{getD, take}
 use Rattle.meaning.specs.Listing.{callOf, series, tokenAs}

@@ -1,5 +1,4 @@
 -- `listing::decode::decode_plain` meets its contract. Assumes nothing.
-use mathlib.Core.Path.{_≡_, refl, sym, ap, _∙_}
 use Prim.Native.Nat.{_≤_}
 use mathlib.Core.Logic.{inl, inr}
 use lib.Dec.{leb}

@@ -1,5 +1,5 @@
 -- `listing::decode::token_at` meets its contract. Assumes nothing.
-use mathlib.Core.Path.{_≡_, refl, sym, ap, _∙_}
+use mathlib.Core.Path.{ap, _∙_}
 use Rattle.meaning.specs.Listing.{tokenAs}
 use borrow.Author.Needs.{needs}
 use Rattle.listing.proofs.decode.token_at.Statement.{statement}

@@ -1,6 +1,6 @@
 -- `listing::decode::token_of` meets its contract. Assumes nothing.
-use mathlib.Core.Path.{_≡_, refl, sym, ap, _∙_}
-use borrow.Author.Tests.{lt-ltb, le-ltb, le-leb, lt-leb, eq-eqb, ne-eqb, leb-true, leb-false, ltb-true, ltb-false, eqb-true, eqb-false, not-true, not-false}
+use mathlib.Core.Path.{sym, ap}
+use borrow.Author.Tests.{ne-eqb}
 use Rattle.meaning.specs.Listing.{tokenAs}
 use Rattle.listing.proofs.decode.token_of.Statement.{statement}
 use Rattle.listing.proofs.decode.token_of.Tie as tie

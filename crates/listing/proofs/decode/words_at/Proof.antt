@@ -1,7 +1,7 @@
 -- `listing::decode::words_at` meets its contract. Assumes nothing.
-use mathlib.Core.Path.{_≡_, refl, sym, ap, _∙_}
-use Prim.Native.Nat.{ℕ, _+_, _*_, _≤_, _-_}
-use lib.ListN.{length, getD, take, length-set}
+use mathlib.Core.Path.{_≡_, refl, sym, _∙_}
+use Prim.Native.Nat.{_+_, _*_, _≤_, _-_}
+use lib.ListN.{length, take, length-set}
 use mathlib.Core.List.{map}
 use Rattle.meaning.specs.Listing.{u16At, series}
 use Rattle.records.proofs.Lists.{filled, map-id}

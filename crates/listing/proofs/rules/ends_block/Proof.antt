@@ -1,13 +1,12 @@
 -- `listing::rules::ends_block` meets its contract. Assumes nothing.
-use mathlib.Core.Path.{_≡_, refl, sym, ap, _∙_}
-use borrow.Author.Tests.{lt-ltb, le-ltb, le-leb, lt-leb, eq-eqb, ne-eqb, leb-true, leb-false, ltb-true, ltb-false, eqb-true, eqb-false, not-true, not-false}
-use Prim.Native.Nat.{ℕ, _-_}
+use mathlib.Core.Path.{_≡_, refl}
+use Prim.Native.Nat.{_-_}
 use mathlib.Core.Bool.{_&&_}
 use lib.ListN.{length, drop}
-use lib.Dec.{eqb, leb}
+use lib.Dec.{eqb}
 use Rattle.meaning.specs.Base.{any}
-use Rattle.listing.specs.Models.{blockOf, blocksIn}
-use Rattle.listing.proofs.Laws.{found, passed, missed, noneBlock, no-successor, block-here, block-count, block-part}
+use Rattle.listing.specs.Models.{blocksIn}
+use Rattle.listing.proofs.Laws.{found, passed, missed, no-successor}
 use Rattle.records.proofs.Lists.{unmapped}
 use Rattle.meaning.specs.Blocks.{empty}
 use native.Mathlib.Omega.{arith}

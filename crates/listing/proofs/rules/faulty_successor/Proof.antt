@@ -1,6 +1,6 @@
 -- `listing::rules::faulty_successor` meets its contract. Assumes nothing.
-use mathlib.Core.Path.{_≡_, refl, sym, ap, _∙_}
-use borrow.Author.Tests.{lt-ltb, le-ltb, le-leb, lt-leb, eq-eqb, ne-eqb, leb-true, leb-false, ltb-true, ltb-false, eqb-true, eqb-false, not-true, not-false}
+use mathlib.Core.Path.{sym, ap, _∙_}
+use borrow.Author.Tests.{not-true, not-false}
 use mathlib.Core.Bool.{not}
 use Rattle.listing.specs.Models.{blockOf, blocksIn}
 use Rattle.listing.proofs.Laws.{succ-none, succ-back, succ-forth}

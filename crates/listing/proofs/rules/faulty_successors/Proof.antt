@@ -1,6 +1,5 @@
 -- `listing::rules::faulty_successors` meets its contract. Assumes nothing.
-use mathlib.Core.Path.{_≡_, refl, sym, ap, _∙_}
-use borrow.Author.Tests.{lt-ltb, le-ltb, le-leb, lt-leb, eq-eqb, ne-eqb, leb-true, leb-false, ltb-true, ltb-false, eqb-true, eqb-false, not-true, not-false}
+use mathlib.Core.Path.{sym, _∙_}
 use Rattle.meaning.specs.Listing.{faultySuccessor}
 use Rattle.listing.specs.Models.{blockOf, blocksIn}
 use Rattle.listing.proofs.Laws.{succ-0, succ-first, succ-1, succ-same, succ-second}

@@ -1,5 +1,5 @@
 -- `listing::rules::first_faulty` meets its contract. Assumes nothing.
-use mathlib.Core.Path.{_≡_, refl, sym, ap, _∙_}
+use mathlib.Core.Path.{_≡_, sym, ap, _∙_}
 use Prim.Native.Nat.{ℕ, _-_, _≤_}
 use Rattle.meaning.specs.Listing.{firstOf, faultyBlock}
 use Rattle.listing.specs.Models.{blocksIn}

@@ -1,8 +1,7 @@
 -- `listing::rules::first_stray` meets its contract. Assumes nothing.
-use mathlib.Core.Path.{_≡_, refl, sym, ap, _∙_}
-use borrow.Author.Tests.{lt-ltb, le-ltb, le-leb, lt-leb, eq-eqb, ne-eqb, leb-true, leb-false, ltb-true, ltb-false, eqb-true, eqb-false, not-true, not-false}
+use mathlib.Core.Path.{_≡_, sym, ap, _∙_}
+use borrow.Author.Tests.{eq-eqb, ne-eqb, not-true, not-false}
 use Prim.Native.Nat.{ℕ, _-_, _≤_}
-use mathlib.Core.Bool.{not}
 use mathlib.Core.List.{map}
 use lib.ListN.{length, take}
 use lib.Dec.{eqb}
@@ -57,11 +56,13 @@ loop-less c = omega arith
 
 loop-again : tie.Need-loop-again Inv-loop μ-loop
 loop-again c = let full : length (c .before .before .before .before .before .before .args .t2) ≡ 512 = search needs in
-    let fits : c .before .before .before .before .before .before .args .m ≤ length (c .before .before .before .before .before .before .args .t2) = omega arith in
-    (omega arith, first-turn (strayRet (map (instrAt (c .before .before .before .before .before .before .args .s .now)) (take (c .before .before .before .before .before .before .args .m) (c .before .before .before .before .before .before .args .t2))) (blocksIn (c .before .before .before .before .before .before .args .blocks) (c .before .before .before .before .before .before .args .n))) (c .before .before .before .before .loop .k) (c .before .before .before .before .before .before .args .m) _ (c .before .before .before .loop-test .taken) (c .before .before .before .before .loop .inv .1)
-    (cases (c .if1 .came)
-    (λ w. rw (stray-eq (c .before .before .before .before .before .before .args .s .now) (c .before .before .before .before .before .before .args .t2) (c .before .before .before .before .before .before .args .m) fits (blocksIn (c .before .before .before .before .before .before .args .blocks) (c .before .before .before .before .before .before .args .n)) (c .before .before .before .before .loop .k) (c .before .before .before .loop-test .taken), (ap (λ (n : ℕ). eqb n 23) (sym (c .before .u16-at .ensures ∙ ap (kindAt (c .before .before .before .before .before .before .args .s .now)) (c .before .before .place .ensures .0))) ∙ eq-eqb _ 23 (w .0 .taken)), sym (w .1 .ensures) ∙ not-false _ (w .2 .left)))
-    (λ w. rw (stray-eq (c .before .before .before .before .before .before .args .s .now) (c .before .before .before .before .before .before .args .t2) (c .before .before .before .before .before .before .args .m) fits (blocksIn (c .before .before .before .before .before .before .args .blocks) (c .before .before .before .before .before .before .args .n)) (c .before .before .before .before .loop .k) (c .before .before .before .loop-test .taken), (ap (λ (n : ℕ). eqb n 23) (sym (c .before .u16-at .ensures ∙ ap (kindAt (c .before .before .before .before .before .before .args .s .now)) (c .before .before .place .ensures .0))) ∙ ne-eqb _ 23 (w .left))))))
+    let fits : c .before .before .before .before .before .before .args .m ≤ length (c .before .before .before .before .before .before .args .t2) = omega arith in (
+      omega arith,
+      first-turn (strayRet (map (instrAt (c .before .before .before .before .before .before .args .s .now)) (take (c .before .before .before .before .before .before .args .m) (c .before .before .before .before .before .before .args .t2))) (blocksIn (c .before .before .before .before .before .before .args .blocks) (c .before .before .before .before .before .before .args .n))) (c .before .before .before .before .loop .k) (c .before .before .before .before .before .before .args .m) _ (c .before .before .before .loop-test .taken) (c .before .before .before .before .loop .inv .1)
+          (cases (c .if1 .came)
+          (λ w. rw (stray-eq (c .before .before .before .before .before .before .args .s .now) (c .before .before .before .before .before .before .args .t2) (c .before .before .before .before .before .before .args .m) fits (blocksIn (c .before .before .before .before .before .before .args .blocks) (c .before .before .before .before .before .before .args .n)) (c .before .before .before .before .loop .k) (c .before .before .before .loop-test .taken), (ap (λ (n : ℕ). eqb n 23) (sym (c .before .u16-at .ensures ∙ ap (kindAt (c .before .before .before .before .before .before .args .s .now)) (c .before .before .place .ensures .0))) ∙ eq-eqb _ 23 (w .0 .taken)), sym (w .1 .ensures) ∙ not-false _ (w .2 .left)))
+          (λ w. rw (stray-eq (c .before .before .before .before .before .before .args .s .now) (c .before .before .before .before .before .before .args .t2) (c .before .before .before .before .before .before .args .m) fits (blocksIn (c .before .before .before .before .before .before .args .blocks) (c .before .before .before .before .before .before .args .n)) (c .before .before .before .before .loop .k) (c .before .before .before .loop-test .taken), (ap (λ (n : ℕ). eqb n 23) (sym (c .before .u16-at .ensures ∙ ap (kindAt (c .before .before .before .before .before .before .args .s .now)) (c .before .before .place .ensures .0))) ∙ ne-eqb _ 23 (w .left))))),
+    )
 
 returns-2 : tie.Need-returns-2 Inv-loop μ-loop
 returns-2 c = let e : c .before .loop .k ≡ c .before .before .before .args .m = omega arith in

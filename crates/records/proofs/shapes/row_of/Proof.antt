@@ -1,8 +1,8 @@
 -- `records::shapes::row_of` meets its contract. The rows of the kinds 10 to 27 stand eight before their numbers. Assumes nothing.
-use mathlib.Core.Path.{_≡_, refl, sym, ap, _∙_}
+use mathlib.Core.Path.{_≡_, refl, sym, _∙_}
 use Prim.Native.Nat.{ℕ, _+_, _-_, _≤_}
 use lib.ListN.{getD}
-use Rattle.records.specs.Models.{RowFor, kinds}
+use Rattle.records.specs.Models.{kinds}
 use Rattle.records.proofs.Laws.{unused-kind}
 use Rattle.meaning.specs.ListingLaws.{Every, every-at}
 use borrow.Author.Needs.{needs}

@@ -1,12 +1,12 @@
 -- `records::shapes::shape_of` meets its contract. The table's rule is one computed statement over its rows. Assumes nothing.
-use mathlib.Core.Path.{_≡_, refl, sym, ap, _∙_}
+use mathlib.Core.Path.{_≡_, refl, sym}
 use Prim.Native.Nat.{ℕ, _≤_}
 use mathlib.Core.Bool.{true}
 use mathlib.Core.List.{List, [], _∷_, map}
 use lib.ListN.{getD, take}
 use Rattle.meaning.specs.Listing as D
 use Rattle.records.specs.declared.shapes.Row.{Row}
-use Rattle.records.specs.Models.{ShapeFor, fieldOf, kinds}
+use Rattle.records.specs.Models.{fieldOf, kinds}
 use Rattle.meaning.specs.ListingLaws.{Every, every-at}
 use borrow.Author.Needs.{needs}
 use native.Mathlib.Omega.{arith}
