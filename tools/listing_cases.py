@@ -1,5 +1,5 @@
 #!/usr/bin/env python3
-"""Writes the cases of crates/listing_cases: `stdin` (each case as four bytes of length and its bytes) and `stdout` (the answers).
+"""Writes the cases of crates/listing_cases: `stdin` (each case as three bytes of length and its bytes) and `stdout` (the answers).
 
 The answers are stated beside the cases, and a reader written from document 01 must agree with each of them.
 """
@@ -261,7 +261,7 @@ def main():
     for n, (s, (number, place)) in enumerate(cases()):
         if read(s) != (number, place):
             sys.exit(f"case {n}: {s[:40].hex()} ({len(s)} bytes): stated {number} {place}, read {read(s)}")
-        given += len(s).to_bytes(4, "little") + s
+        given += len(s).to_bytes(3, "little") + s
         answers += f"{number} {place:05}\n"
     (folder / "stdin").write_bytes(given)
     (folder / "stdout").write_text(answers)

@@ -1,17 +1,17 @@
-// Reads listings from standard input, each after four bytes with its length, and writes for each a line with the number and the place
+// Reads listings from standard input, each after three bytes with its length, and writes for each a line with the number and the place
 // of its refusal, or 0 and how many instructions it has.
 use libc::STDIN_FILENO;
 use libc::STDOUT_FILENO;
 use listing::read_listing;
 ghost use mathlib.Core.Path.{_≡_};
-ghost use Prim.Native.Nat.{_≤_};
+ghost use Prim.Native.Nat.{_+_, _≤_};
 ghost use lib.ListN.{length};
 
-// Room for a listing that is one byte too long.
-fn room() -> [u8; 65537]
-    ensures { λ r. ⌜ 65537 ≡ length r ⌝ }
+// Room for all cases.
+fn room() -> [u8; 300000]
+    ensures { λ r. ⌜ 300000 ≡ length r ⌝ }
 {
-    [0; 65537]
+    [0; 300000]
 }
 
 fn wide(b: u8) -> usize
@@ -20,12 +20,12 @@ fn wide(b: u8) -> usize
     b as usize
 }
 
-// The length that four bytes state, or 65,537 if that is less.
-fn stated(h: [u8; 4]) -> usize
-    ensures { λ r. ⌜ r ≤ 65537 ⌝ }
+// The length that the three bytes from a place on state.
+fn stated(s: &[u8], at: usize) -> usize
+    requires { ⌜ at + 3 ≤ length (now s) ⌝ }
+    ensures { λ r. ⌜ r ≤ 16777215 ⌝ }
 {
-    let n = wide(h[0]) + 256 * wide(h[1]) + 65536 * wide(h[2]) + 16777216 * wide(h[3]);
-    if n <= 65537 { n } else { 65537 }
+    wide(s[at]) + 256 * wide(s[at + 1]) + 65536 * wide(s[at + 2])
 }
 
 fn digit(n: usize) -> u8 {
@@ -55,23 +55,28 @@ fn answer(s: &[u8]) -> bool {
     }
 }
 
-// One case; false at the input's end.
-fn run_case() -> bool {
-    let mut h = [0u8; 4];
-    if io::read_full(STDIN_FILENO, &mut h) < 4 {
-        return false;
+fn run_all(s: &[u8]) {
+    let mut at: usize = 0;
+    while at < s.len() {
+        let left = s.len() - at;
+        if left < 3 {
+            return;
+        }
+        let n = stated(s, at);
+        if left - 3 < n {
+            return;
+        }
+        let start = at + 3;
+        let end = start + n;
+        if !answer(&s[start..end]) {
+            return;
+        }
+        at = end;
     }
-    let mut buffer = room();
-    let n = stated(h);
-    if io::read_full(STDIN_FILENO, &mut buffer[..n]) < n {
-        return false;
-    }
-    answer(&buffer[..n])
 }
 
 fn main() {
-    let mut left: u16 = 1000;
-    while left > 0 && run_case() {
-        left -= 1;
-    }
+    let mut buffer = room();
+    let n = io::read_full(STDIN_FILENO, &mut buffer);
+    run_all(&buffer[..n]);
 }
