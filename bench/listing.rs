@@ -63,12 +63,12 @@ fn time(name: &str, s: &[u8], records: usize) {
     let number = unsafe { listing_number(s.as_ptr(), s.len()) };
     assert_eq!(number, 0, "{name} is refused");
     let mut best = f64::MAX;
-    for _ in 0..50 {
+    for _ in 0..5000 {
         let start = Instant::now();
-        for _ in 0..200 {
+        for _ in 0..4 {
             black_box(unsafe { listing_number(black_box(s.as_ptr()), s.len()) });
         }
-        best = best.min(start.elapsed().as_nanos() as f64 / 200.0);
+        best = best.min(start.elapsed().as_nanos() as f64 / 4.0);
     }
     println!("{name}: {} bytes, {records} records, {:.2} us, {:.1} ns a record", s.len(), best / 1000.0, best / records as f64);
 }
