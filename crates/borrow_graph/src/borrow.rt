@@ -1,8 +1,14 @@
 // Borrows: an edge put in, and the strong borrow, which moves what is borrowed below it (the Rust's `factor`).
-use crate::graph::{Answer, BorrowGraph, GraphEdges, Taken};
+use crate::graph::Answer;
+use crate::graph::BorrowGraph;
+use crate::graph::GraphEdges;
+use crate::graph::Taken;
 use references::paths;
-use references::paths::{Label, Path};
-use references::references::{BorrowEdge, Candidate, RefID};
+use references::paths::Label;
+use references::paths::Path;
+use references::references::BorrowEdge;
+use references::references::Candidate;
+use references::references::RefID;
 ghost use mathlib.Core.Path.{_≡_};
 ghost use mathlib.Core.Bool.{true, false, not};
 ghost use mathlib.Core.List.{[], _∷_};

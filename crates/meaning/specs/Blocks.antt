@@ -14,6 +14,7 @@ use Rattle.meaning.specs.Steps.{Instr, Pop, CopyLoc, MoveLoc, StLoc, Fre
 use Rattle.meaning.specs.Loop.{Result, Block, noBlock}
 
 pub record Routine : Type 0 where
+  pub params : List Token
   pub locals : ℕ
   pub returns : ℕ
   pub blocks : List Block

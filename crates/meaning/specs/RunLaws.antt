@@ -20,10 +20,13 @@ use Rattle.meaning.specs.BlockLaws.{Ends, ends, breaks, bars, exec-ends,
 use Rattle.meaning.specs.JoinLaws.{Sure, sure, unsure, join-sure, join-strong}
 use Rattle.meaning.specs.FirstLaws.{first-strong}
 
--- q: a routine that the reader accepted; ts: its parameters' tokens
-module _ (q : Routine) (ts : List Token) (p : promised q ≡ true) where
+-- q: a routine that the reader accepted
+module _ (q : Routine) (p : promised q ≡ true) where
   abbrev l : ℕ
   l = q .locals
+
+  abbrev ts : List Token
+  ts = q .params
 
   abbrev blocks : List Block
   blocks = q .blocks

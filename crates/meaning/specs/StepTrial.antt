@@ -21,49 +21,43 @@ use Rattle.meaning.specs.Blocks.{Routine, instrsOf, runFrom, runBlock, e
 -- load, store 0, mutable borrow of local 0, move 0
 abbrev listing : Routine
 listing = record {
+  params = [];
   locals = 1;
   returns = 0;
   blocks = record { entry = 0; exit = 3; successors = [] } ∷ [];
   code = Values 0 1 ofValue ∷ StLoc 0 ∷ BorrowLoc 0 true ∷ MoveLoc 0 ∷ [];
 }
 
-abbrev atFirst : State
-atFirst = record { locals = absent ∷ []; graph = record { names = record { id = 1; mutable = true } ∷ []; edges = [] } }
-
-pub marked-listing : verdict (listing .blocks) (run State join changed (exec listing) (listing .blocks) 10 atFirst) ≡ violation 102 3
-unfolding run steps loopStep spread startSlots position verdict lowest exec runBlock runFrom instrsOf step popValues popMany push pushAll pushNew valueFor newRef stLoc borrowLoc moveLoc addLocalBorrow borrowed mutablyBorrowed isMutable newName borrowStrong placeName wellFormed holds ascending setAt setTo setOk ordered short inOrder isBlur addAll addEdge insert limit has put prefix eqEdge eqPath ltEdge ltPath
+pub marked-listing : verdict (listing .blocks) (run State join changed (exec listing) (listing .blocks) 10 (firstState (listing .locals) (listing .params))) ≡ violation 102 3
+unfolding firstState firstLocals firstNames run steps loopStep spread startSlots position verdict lowest exec runBlock runFrom instrsOf step popValues popMany push pushAll pushNew valueFor newRef stLoc borrowLoc moveLoc addLocalBorrow borrowed mutablyBorrowed isMutable newName borrowStrong placeName wellFormed holds ascending setAt setTo setOk ordered short inOrder isBlur addAll addEdge insert limit has put prefix eqEdge eqPath ltEdge ltPath
 marked-listing = refl
 
 -- move 0, move 1, store 0, store 1: both names held, a successor
 abbrev exchange : Routine
 exchange = record {
+  params = ofRef true ∷ ofRef true ∷ [];
   locals = 2;
   returns = 0;
   blocks = record { entry = 0; exit = 3; successors = 4 ∷ [] } ∷ record { entry = 4; exit = 4; successors = [] } ∷ [];
   code = MoveLoc 0 ∷ MoveLoc 1 ∷ StLoc 0 ∷ StLoc 1 ∷ Ret ∷ [];
 }
 
-abbrev twoRefs : State
-twoRefs = record { locals = ref 0 ∷ ref 1 ∷ []; graph = record { names = record { id = 0; mutable = true } ∷ record { id = 1; mutable = true } ∷ record { id = 2; mutable = true } ∷ []; edges = [] } }
-
-pub marked-exchange : verdict (exchange .blocks) (run State join changed (exec exchange) (exchange .blocks) 10 twoRefs) ≡ refusal 16 3
-unfolding run steps loopStep spread startSlots position verdict lowest exec runBlock runFrom instrsOf step popValues popMany push pushAll pushNew valueFor newRef stLoc borrowLoc moveLoc addLocalBorrow borrowed mutablyBorrowed isMutable newName borrowStrong placeName wellFormed holds ascending setAt setTo setOk ordered short inOrder isBlur addAll addEdge insert limit has put prefix eqEdge eqPath ltEdge ltPath canonical crosses
+pub marked-exchange : verdict (exchange .blocks) (run State join changed (exec exchange) (exchange .blocks) 10 (firstState (exchange .locals) (exchange .params))) ≡ refusal 16 3
+unfolding firstState firstLocals firstNames run steps loopStep spread startSlots position verdict lowest exec runBlock runFrom instrsOf step popValues popMany push pushAll pushNew valueFor newRef stLoc borrowLoc moveLoc addLocalBorrow borrowed mutablyBorrowed isMutable newName borrowStrong placeName wellFormed holds ascending setAt setTo setOk ordered short inOrder isBlur addAll addEdge insert limit has put prefix eqEdge eqPath ltEdge ltPath canonical crosses
 marked-exchange = refl
 
 -- move 0 to local 1, local 1 absent before; then a call that takes it and returns a reference; then return it: accepted
 abbrev moved : Routine
 moved = record {
+  params = ofRef true ∷ [];
   locals = 2;
   returns = 1;
   blocks = record { entry = 0; exit = 1; successors = 2 ∷ [] } ∷ record { entry = 2; exit = 4; successors = [] } ∷ [];
   code = MoveLoc 0 ∷ StLoc 1 ∷ MoveLoc 1 ∷ Call 1 (7 ∷ []) (ofRef true ∷ []) ∷ Ret ∷ [];
 }
 
-abbrev oneRef : State
-oneRef = record { locals = ref 0 ∷ absent ∷ []; graph = record { names = record { id = 0; mutable = true } ∷ record { id = 2; mutable = true } ∷ []; edges = [] } }
-
-pub moved-accepted : verdict (moved .blocks) (run State join changed (exec moved) (moved .blocks) 10 oneRef) ≡ accept
-unfolding run steps loopStep spread startSlots position verdict lowest exec runBlock runFrom instrsOf step popValues popMany push pushAll pushNew valueFor newRef stLoc borrowLoc moveLoc addLocalBorrow addBorrow borrowed mutablyBorrowed isMutable newName borrowStrong borrowWeak placeName wellFormed holds ascending setAt setTo setOk ordered short inOrder isBlur addAll addEdge insert limit has put prefix eqEdge eqPath ltEdge ltPath canonical crosses renamed renameNames renameEdges placeEdge ownNames newNameOf indexOf call notAcquired handOver returnValues borrowFrom releaseAll releaseName release spliced without splice ascend placeNumber ret
+pub moved-accepted : verdict (moved .blocks) (run State join changed (exec moved) (moved .blocks) 10 (firstState (moved .locals) (moved .params))) ≡ accept
+unfolding firstState firstLocals firstNames run steps loopStep spread startSlots position verdict lowest exec runBlock runFrom instrsOf step popValues popMany push pushAll pushNew valueFor newRef stLoc borrowLoc moveLoc addLocalBorrow addBorrow borrowed mutablyBorrowed isMutable newName borrowStrong borrowWeak placeName wellFormed holds ascending setAt setTo setOk ordered short inOrder isBlur addAll addEdge insert limit has put prefix eqEdge eqPath ltEdge ltPath canonical crosses renamed renameNames renameEdges placeEdge ownNames newNameOf indexOf call notAcquired handOver returnValues borrowFrom releaseAll releaseName release spliced without splice ascend placeNumber ret
 moved-accepted = refl
 
 -- ---- one block without successors, for each number of document 01
@@ -84,8 +78,8 @@ unfoldable pub whole : ℕ → List Token → ℕ → List Instr → Verdict →
 unfolding run verdict exec firstState
 whole l ts n is v =
     let b : List Block = record { entry = 0; exit = length is - 1; successors = [] } ∷ [] in
-    let q : Routine = record { locals = l; returns = n; blocks = b; code = is } in
-    isVerdict (verdict b (run State join changed (exec q) b 3 (firstState l ts))) v
+    let q : Routine = record { params = ts; locals = l; returns = n; blocks = b; code = is } in
+    isVerdict (verdict b (run State join changed (exec q) b 3 (firstState l (q .params)))) v
 
 abbrev load : Instr
 load = Values 0 1 ofValue

@@ -94,9 +94,9 @@ returns-2 c =
     let es = edges b in
     let s = made (c .before .before .before .before .before .before) in
     let z : edgesOf ((c .replace) .result) ≡ setTo p d (new b) es =
-      (c .replace) .ensures
-      ∙ (λ i. take ((c .before .before .before .before .before .before .before .before .between) .ensures .1 i) es ++ (tagged p d (s i .blurred) (s i .edges) ++ drop ((c .before .before .before .before .before .before .before .before .between) .ensures .1 i + old-size (c .before .before .before .before) i) es))
-      ∙ sym (setTo-cut p d es (inv-neat (graphOf (a .self)) (wf→inv (graphOf (a .self)) ((c .before .before .before .before .before .before .before .before .before .before .before .pre)))) (new b)) in
+    (c .replace) .ensures
+    ∙ (λ i. take ((c .before .before .before .before .before .before .before .before .between) .ensures .1 i) es ++ (tagged p d (s i .blurred) (s i .edges) ++ drop ((c .before .before .before .before .before .before .before .before .between) .ensures .1 i + old-size (c .before .before .before .before) i) es))
+    ∙ sym (setTo-cut p d es (inv-neat (graphOf (a .self)) (wf→inv (graphOf (a .self)) ((c .before .before .before .before .before .before .before .before .before .before .before .pre)))) (new b)) in
     answered (graphOf (a .self)) _ _ (add-fits (graphOf (a .self)) p d (edgeOf (a .edge)) (new b) (put b) (omega (arith, total (c .before .before), (c .before .if1) .left)) ∙ (λ i. ok (record { names = refsOf (a .self .refs); edges = sym z i })))
 
 pub add-edge-spec : {M : Type 1} → statement M

@@ -78,7 +78,7 @@ loop-again c =
     let sh : length (drop (length p) (y .edge .path)) ≤ 8 = subst (λ (k : List ℕ). length k ≤ 8) ((c .before .before .factor) .ensures) (path-short ((c .before .before .factor) .result) z) in
     let q : GEdge → Bool = λ u. pairOk (refsOf (a .self .refs)) d (u .child) in
     let leaving : graphOf ((c .before .add-edge) .result .graph) ≡ leaves (graphOf (l .cur)) (andThen (addEdge (graphOf (l .cur)) (shift d p y)) limit) =
-      (c .before .add-edge) .ensures .1 ∙ (λ j. leaves (graphOf (l .cur)) (andThen (addEdge (graphOf (l .cur)) (between d (record { strong = y .edge .strong; path = (c .before .before .factor) .ensures j }) (y .child))) limit)) in
+    (c .before .add-edge) .ensures .1 ∙ (λ j. leaves (graphOf (l .cur)) (andThen (addEdge (graphOf (l .cur)) (between d (record { strong = y .edge .strong; path = (c .before .before .factor) .ensures j }) (y .child))) limit)) in
     let kept = shifted-kept (graphOf (l .cur)) d p y ys r (l .inv .0) room (graphOf ((c .before .add-edge) .result .graph)) sh (ends i) leaving in
     let rest = shifted-rest (graphOf (l .cur)) d p y ys r (l .inv .0) room (graphOf ((c .before .add-edge) .result .graph)) sh (ends i) leaving (ap (λ (xs : List GEdge). addAll (map (shift d p) xs) (graphOf (l .cur))) (sym (next i)) ∙ l .inv .4) in
     let more = shifted-length (graphOf (l .cur)) d p y ys r (l .inv .0) room (graphOf ((c .before .add-edge) .result .graph)) sh (ends i) leaving in

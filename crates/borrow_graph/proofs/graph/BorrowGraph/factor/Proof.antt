@@ -30,8 +30,8 @@ last c =
     let g = graphOf (a .self) in
     let t = sym (test (c .before .before .before)) ∙ (c .before .before .if1) .taken in
     let m : Moved (record { names = refsOf (a .self .refs); edges = keep (λ x. not (moves (a .parent .0) (pathOf (a .path)) x)) (edgesOf (a .self .edges)) }) (a .child .0) (pathOf (a .path)) (keep (moves (a .parent .0) (pathOf (a .path))) (edgesOf (a .self .edges))) (graphOf ((c .before .add-moved) .result)) =
-      subst (λ (es : List GEdge). Moved (record { names = refsOf (a .self .refs); edges = es }) (a .child .0) (pathOf (a .path)) (keep (moves (a .parent .0) (pathOf (a .path))) (edgesOf (a .self .edges))) (graphOf ((c .before .add-moved) .result))) ((c .before .before .before .before .before .before .take-out) .ensures .1 .0)
-      (subst (λ (ys : List GEdge). Moved (record { names = refsOf (a .self .refs); edges = edgesOf ((c .before .before .before .before .before .before .take-out) .result .kept) }) (a .child .0) (pathOf (a .path)) ys (graphOf ((c .before .add-moved) .result))) ((c .before .before .before .before .before .before .take-out) .ensures .0) ((c .before .add-moved) .ensures)) in
+    subst (λ (es : List GEdge). Moved (record { names = refsOf (a .self .refs); edges = es }) (a .child .0) (pathOf (a .path)) (keep (moves (a .parent .0) (pathOf (a .path))) (edgesOf (a .self .edges))) (graphOf ((c .before .add-moved) .result))) ((c .before .before .before .before .before .before .take-out) .ensures .1 .0)
+    (subst (λ (ys : List GEdge). Moved (record { names = refsOf (a .self .refs); edges = edgesOf ((c .before .before .before .before .before .before .take-out) .result .kept) }) (a .child .0) (pathOf (a .path)) ys (graphOf ((c .before .add-moved) .result))) ((c .before .before .before .before .before .before .take-out) .ensures .0) ((c .before .add-moved) .ensures)) in
     (c .add-edge) .ensures .0 ∙ sym (strong-last g (a .parent .0) (pathOf (a .path)) (a .child .0) t (graphOf ((c .before .add-moved) .result)) m)
 
 well-formed-requires : tie.Need-well-formed-requires

@@ -1,0 +1,175 @@
+-- Laws of the rules on blocks and of the instructions of records.
+-- Assumes nothing.
+use mathlib.Core.Path.{_≡_, refl, sym, ap, _∙_, subst}
+use mathlib.Core.Logic.{_⊎_, inl, inr}
+use mathlib.Core.Bool.{Bool, true, false, not, _&&_, _||_}
+use mathlib.Core.List.{List, [], _∷_, map}
+use Prim.Native.Nat.{ℕ, zero, suc, _+_, _-_, _≤_, _<_}
+use native.Mathlib.Numerals.{add-one}
+use native.Mathlib.Omega.{arith}
+use lib.ListN.{length, take, drop, getD, length-take, List·getD-eq-default}
+use lib.Seq.{getD-take, take-take, take-nil}
+use lib.Dec.{leb, ltb, eqb, eqb·suc-zero}
+use borrow.Author.Tests.{lt-ltb, le-ltb, eq-eqb, ne-eqb}
+use Rattle.meaning.specs.Base.{any, decide, leb-le, leb-gt, or-false}
+use Rattle.meaning.specs.Loop.{noBlock}
+use Rattle.meaning.specs.Loop as M
+use Rattle.meaning.specs.Steps as I
+use Rattle.meaning.specs.Blocks.{empty, isRet}
+use Rattle.meaning.specs.Listing.{series}
+use Rattle.meaning.specs.Listing as D
+use Rattle.meaning.specs.ListingLaws.{Every, every-at}
+use Rattle.listing.specs.declared.Block.{Block}
+use Rattle.listing.specs.Models.{blockOf, blocksIn, faultySuccessors}
+use Rattle.records.proofs.Lists.{eqb-iff, or-true, map-take, any-stop, any-turn, any-end, counted, element, within-list}
+
+-- ---- the blocks of an array
+
+abbrev pub noneBlock : Block
+noneBlock = record { entry = record { 0 = 0 }; exit = record { 0 = 0 }; count = 0; first = record { 0 = 0 }; second = record { 0 = 0 } }
+
+module _ (bs : List Block) (n : ℕ) (full : length bs ≡ 16) (few : n ≤ 16) where
+  fits : n ≤ length bs
+  fits = omega arith
+
+  pub block-count : length (blocksIn bs n) ≡ n
+  unfolding blocksIn
+  block-count = counted blockOf bs n fits
+
+  pub block-here : (i : ℕ) → i < n → getD (blocksIn bs n) i noBlock ≡ blockOf (getD bs i noneBlock)
+  unfolding blocksIn
+  block-here i h = element blockOf bs n fits noneBlock i h
+
+  pub block-part : (i : ℕ) → i ≤ n → take i (blocksIn bs n) ≡ blocksIn bs i
+  unfolding blocksIn
+  block-part i h = sym (map-take blockOf i (take n bs)) ∙ ap (map blockOf) (take-take i n bs h)
+
+  module _ (p : M.Block → Bool) (r : Bool) (i : ℕ) where
+    pub found : i < n → any p (drop i (blocksIn bs n)) ≡ r → p (blockOf (getD bs i noneBlock)) ≡ true → true ≡ r
+    found h e q = any-stop p noBlock (blocksIn bs n) r i (rw block-count h) e (rw (block-here i h) q)
+
+    pub passed : i < n → any p (drop i (blocksIn bs n)) ≡ r → p (blockOf (getD bs i noneBlock)) ≡ false → any p (drop (i + 1) (blocksIn bs n)) ≡ r
+    passed h e q = any-turn p noBlock (blocksIn bs n) r i (rw block-count h) e (rw (block-here i h) q)
+
+    pub missed : n ≤ i → any p (drop i (blocksIn bs n)) ≡ r → false ≡ r
+    missed h e = any-end p (blocksIn bs n) r i (rw block-count h) e
+
+pub no-successor : (n a b : ℕ) → empty (take n (a ∷ b ∷ [])) ≡ eqb n 0
+no-successor zero a b = refl
+no-successor (suc n) a b = sym (eqb·suc-zero n)
+
+-- ---- the first number that passes a test
+
+module _ (p : ℕ → Bool) (i n r : ℕ) where
+  step : i < n → n - i ≡ suc (n - (i + 1))
+  step h = omega arith
+
+  pub first-stop : i < n → D.firstOf p i (n - i) ≡ r → p i ≡ true → i ≡ r
+  unfolding D.firstOf
+  first-stop h e q = rw (step h, q) at e
+
+  pub first-turn : i < n → D.firstOf p i (n - i) ≡ r → p i ≡ false → D.firstOf p (i + 1) (n - (i + 1)) ≡ r
+  unfolding D.firstOf
+  first-turn h e q = subst (λ (j : ℕ). D.firstOf p j (n - (i + 1)) ≡ r) (sym (add-one i)) (rw (step h, q) at e)
+
+  pub first-end : i ≡ n → D.firstOf p i (n - i) ≡ r → n ≡ r
+  unfolding D.firstOf
+  first-end h e = let z : n - i ≡ 0 = omega arith in sym h ∙ (rw z at e)
+
+-- a kind that no other instruction has is read as Pop
+pub pop-else : (k : ℕ) (b : List ℕ) → (k ≤ 10) ⊎ (28 ≤ k) → I.Instr.Pop ≡ D.instrOf k b
+unfolding D.instrOf
+pop-else k b (inl h) = let z : k - 10 ≡ 0 = omega arith in rw z
+pop-else k b (inr h) = sym (List·getD-eq-default (D.instructions b) I.Instr.Pop (past b k h))
+  where
+    past : (c : List ℕ) (j : ℕ) → 28 ≤ j → length (D.instructions c) ≤ j - 10
+    past c j g = omega arith
+
+-- ---- the rules on blocks
+
+module _ (xs : List M.Block) (i e : ℕ) (b : M.Block) where
+  pub succ-none : D.entryIn xs e ≡ false → true ≡ D.faultySuccessor xs i b e
+  succ-none h = rw h
+
+  pub succ-back : D.entryIn xs e ≡ true → e ≤ b .entry → false ≡ D.faultySuccessor xs i b e
+  succ-back h g = rw (h, le-ltb (b .entry) e g)
+
+  pub succ-forth : D.entryIn xs e ≡ true → b .entry < e → not (D.entryIn (drop (i + 1) xs) e) ≡ D.faultySuccessor xs i b e
+  succ-forth h g = rw (h, lt-ltb (b .entry) e g)
+
+-- none, one or two successors under a test
+module _ (F : ℕ → Bool) (a c : ℕ) where
+  abbrev tests : List ℕ → Bool
+  tests es = D.repeats es || any F es
+
+  pub succ-0 : (n : ℕ) → n ≡ 0 → false ≡ tests (take n (a ∷ c ∷ []))
+  unfolding D.repeats
+  succ-0 n h = rw h
+
+  pub succ-first : (n : ℕ) → (n ≡ 0 → ⊥) → F a ≡ true → true ≡ tests (take n (a ∷ c ∷ []))
+  unfolding D.repeats
+  succ-first zero h q = absurd (h refl)
+  succ-first (suc n) h q = rw (q, or-true)
+
+  pub succ-1 : (n : ℕ) → n ≡ 1 → F a ≡ false → false ≡ tests (take n (a ∷ c ∷ []))
+  unfolding D.repeats
+  succ-1 n h q = rw (h, q)
+
+  pub succ-same : (n : ℕ) → (n ≡ 0 → ⊥) → (n ≡ 1 → ⊥) → a ≡ c → true ≡ tests (take n (a ∷ c ∷ []))
+  unfolding D.repeats
+  succ-same zero h g e = absurd (h refl)
+  succ-same (suc zero) h g e = absurd (g refl)
+  succ-same (suc (suc n)) h g e = subst (λ (l : List ℕ). true ≡ tests (a ∷ c ∷ l)) (sym (take-nil n)) (rw (eq-eqb a c e))
+
+  pub succ-second : (n : ℕ) → (n ≡ 0 → ⊥) → (n ≡ 1 → ⊥) → (a ≡ c → ⊥) → F a ≡ false → F c ≡ tests (take n (a ∷ c ∷ []))
+  unfolding D.repeats
+  succ-second zero h g e q = absurd (h refl)
+  succ-second (suc zero) h g e q = absurd (g refl)
+  succ-second (suc (suc n)) h g e q = subst (λ (l : List ℕ). F c ≡ tests (a ∷ c ∷ l)) (sym (take-nil n)) (rw (ne-eqb a c e, q) (sym (or-false (F c))))
+
+module _ (bs : List Block) (n : ℕ) (full : length bs ≡ 16) (few : n ≤ 16) (i : ℕ) (here : i < n) (m : ℕ) where
+  abbrev this : M.Block
+  this = blockOf (getD bs i noneBlock)
+
+  pub faulty-eq : D.faultyBlock m (blocksIn bs n) i
+      ≡ (eqb i 0 && not (eqb (this .entry) 0)) || (ltb (this .exit) (this .entry) || (leb m (this .exit) || (any (D.overlap this) (blocksIn bs i) || faultySuccessors (blocksIn bs n) i this)))
+  unfolding D.faultyBlock
+  faulty-eq = let w : i ≤ n = omega arith in rw (block-here bs n full few i here, block-part bs n full few i w)
+
+abbrev RetAt : ℕ → Type 0
+RetAt j = (b : List ℕ) → isRet (getD (D.instructions b) j I.Instr.Pop) ≡ eqb j 13
+
+ret-rows : Every RetAt 18
+unfolding D.callOf
+ret-rows = ((((((((((((((((((tt, λ b. refl), λ b. refl), λ b. refl), λ b. refl), λ b. refl), λ b. refl), λ b. refl), λ b. refl), λ b. refl), λ b. refl), λ b. refl), λ b. refl), λ b. refl), λ b. refl), λ b. refl), λ b. refl), λ b. refl), λ b. refl)
+
+pub is-ret : (k : ℕ) (b : List ℕ) → isRet (D.instrOf k b) ≡ eqb k 23
+unfolding D.instrOf
+is-ret k b = row (k - 10) ∙ eqb-iff (k - 10) 13 k 23 (λ h. omega arith) (λ h. omega arith)
+  where
+    row : (j : ℕ) → isRet (getD (D.instructions b) j I.Instr.Pop) ≡ eqb j 13
+    row j =
+        decide (leb 18 j)
+        (λ h. let g : 18 ≤ j = leb-le h in
+        ap isRet (List·getD-eq-default (D.instructions b) I.Instr.Pop g) ∙ sym (ne-eqb j 13 (λ e. omega arith)))
+        (λ h. let g : j < 18 = leb-gt h in every-at RetAt 18 ret-rows j g b)
+
+module _ (s : List ℕ) (code : List ℕ) (m : ℕ) (fits : m ≤ length code) (bs : List M.Block) (k : ℕ) (here : k < m) where
+  pub stray-eq : D.strayRet (map (D.instrAt s) (take m code)) bs k ≡ eqb (D.kindAt s (getD code k 0)) 23 && not (D.endsBlock bs k)
+  unfolding D.strayRet D.instrAt
+  stray-eq =
+      let l : k < length (take m code) = simp length-take (omega arith) in
+      rw (within-list (D.instrAt s) 0 I.Instr.Pop (take m code) k l, getD-take m code k 0 here, is-ret)
+
+-- ---- blocks out of their records
+
+pub two-words : (n : ℕ) (f : ℕ → ℕ) → n ≤ 2 → take n (f 0 ∷ f 1 ∷ []) ≡ series n f
+unfolding series
+two-words zero f h = refl
+two-words (suc zero) f h = refl
+two-words (suc (suc zero)) f h = refl
+two-words (suc (suc (suc n))) f h = absurd (omega arith)
+
+pub block-eq : (a b c d : ℕ) (xs ys : List ℕ) → a ≡ c → b ≡ d → xs ≡ ys
+    → _≡_ {A = M.Block} (record { entry = a; exit = b; successors = xs }) (record { entry = c; exit = d; successors = ys })
+block-eq a b c d xs ys p q r = λ i. record { entry = p i; exit = q i; successors = r i }

@@ -1,0 +1,107 @@
+-- What the structs of the code mean in the definitions.
+use Prim.Native.Nat.{ℕ, _+_, _*_, _≤_}
+use mathlib.Core.Path.{_≡_}
+use mathlib.Core.Bool.{Bool, true, false, _&&_, _||_}
+use mathlib.Core.List.{List, [], _∷_, map}
+use lib.ListN.{length, getD, take}
+use lib.Dec.{leb, eqb}
+use Rattle.meaning.specs.Base.{all, any}
+use Rattle.meaning.specs.Running.{Token}
+use Rattle.meaning.specs.Steps as I
+use Rattle.meaning.specs.Loop as M
+use Rattle.meaning.specs.Blocks as Q
+use Rattle.meaning.specs.Listing as D
+use Rattle.file_format.specs.Models.{tokenOf}
+use Rattle.records.specs.declared.Places.{Places}
+use Rattle.listing.specs.declared.decode.Instruction.{Instruction}
+use Rattle.listing.specs.declared.decode.Instruction.the-variants.{Pop, CopyLoc, MoveLoc, StLoc, FreezeRef, Compare, ReadRef, WriteRef, BorrowLoc, BorrowField, BorrowGlobal, MoveFrom, Call, Ret, Values, MoveTo, VectorOp, BorrowElement}
+use Rattle.listing.specs.declared.decode.Decoded.{Decoded}
+use Rattle.listing.specs.declared.Block.{Block}
+use Rattle.listing.specs.declared.Routine.{Routine}
+use Rattle.listing.specs.declared.Listed.{Listed}
+
+-- ---- instructions
+
+abbrev pub bytesAt : List ℕ → ℕ → ℕ → List ℕ
+bytesAt b i n = D.series n (λ k. getD b (i + k) 0)
+
+abbrev pub withParts : List ℕ → List Token → Instruction → I.Instr
+withParts a t Pop = I.Instr.Pop
+withParts a t (CopyLoc i) = I.Instr.CopyLoc (i .0)
+withParts a t (MoveLoc i) = I.Instr.MoveLoc (i .0)
+withParts a t (StLoc i) = I.Instr.StLoc (i .0)
+withParts a t FreezeRef = I.Instr.FreezeRef
+withParts a t Compare = I.Instr.Compare
+withParts a t ReadRef = I.Instr.ReadRef
+withParts a t WriteRef = I.Instr.WriteRef
+withParts a t (BorrowLoc i m) = I.Instr.BorrowLoc (i .0) m
+withParts a t (BorrowField n m) = I.Instr.BorrowField n m
+withParts a t (BorrowGlobal n m) = I.Instr.BorrowGlobal n m
+withParts a t (MoveFrom n) = I.Instr.MoveFrom n
+withParts a t (Call p) = I.Instr.Call p a t
+withParts a t Ret = I.Instr.Ret
+withParts a t (Values n m x) = I.Instr.Values n m (tokenOf x)
+withParts a t MoveTo = I.Instr.MoveTo
+withParts a t (VectorOp n m p x) = I.Instr.VectorOp n m p (tokenOf x)
+withParts a t (BorrowElement m) = I.Instr.BorrowElement m
+
+abbrev pub plainOf : Instruction → I.Instr
+plainOf i = withParts [] [] i
+
+unfoldable pub decodedOf : Decoded → I.Instr
+decodedOf d = withParts (take (d .«acquired_count») (d .acquired)) (map D.tokenAs (take (d .«token_count») (d .tokens))) (d .instruction)
+
+abbrev pub pickInstr : Bool → I.Instr → I.Instr → I.Instr
+pickInstr true a b = a
+pickInstr false a b = b
+
+-- a call within the limits
+unfoldable pub callFor : List ℕ → I.Instr
+callFor b = pickInstr (leb (getD b 1 0) 16 && leb (getD b (2 + 2 * getD b 1 0) 0) 8) (D.callOf b) I.Instr.Pop
+
+-- the instruction of the record at a place; Pop, where there is none, or a call beyond the limits
+unfoldable pub decodedAt : List ℕ → ℕ → I.Instr
+decodedAt s at = pickInstr (eqb (D.kindAt s at) 22) (callFor (D.bodyAt s at)) (D.instrOf (D.kindAt s at) (D.bodyAt s at))
+
+-- ---- routines
+
+abbrev pub blockOf : Block → M.Block
+blockOf b = record { entry = b .entry .0; exit = b .exit .0; successors = take (b .count) (b .first .0 ∷ b .second .0 ∷ []) }
+
+unfoldable pub blocksIn : List Block → ℕ → List M.Block
+blocksIn bs n = map blockOf (take n bs)
+
+-- the block record at a place has at most two successors
+abbrev pub twoAt : List ℕ → ℕ → Bool
+twoAt s at = leb (getD (D.bodyAt s at) 4 0) 2
+
+-- what is known of the places that were read, with the first record's body
+pub record Sound (s head : List ℕ) (w : Places) : Type 0 where
+  pub first : head ≡ D.bodyAt s 0
+  pub blocks : w .«block_count» ≤ 16
+  pub code : w .«code_count» ≤ 512
+  pub two : all (twoAt s) (take (w .«block_count») (w .blocks)) ≡ true
+  pub same : map (decodedAt s) (take (w .«code_count») (w .code)) ≡ map (D.instrAt s) (take (w .«code_count») (w .code))
+  pub params : getD head 0 0 ≤ 16
+
+unfoldable pub ruledPlaces : List ℕ → D.Places → D.Listed Q.Routine
+ruledPlaces s w = D.ruled (length s) w (D.routineAt s w)
+
+abbrev pub faultySuccessors : List M.Block → ℕ → M.Block → Bool
+faultySuccessors bs i b = D.repeats (b .successors) || any (D.faultySuccessor bs i b) (b .successors)
+
+abbrev pub routineOf : List ℕ → Routine → Q.Routine
+routineOf s r = record {
+  params = map D.tokenAs (take (r .«param_count») (r .params));
+  locals = r .locals;
+  returns = r .returns;
+  blocks = blocksIn (r .blocks) (r .«block_count»);
+  code = map (decodedAt s) (take (r .«code_count») (r .code));
+}
+
+abbrev pub pickListed : Bool → Q.Routine → ℕ → ℕ → D.Listed Q.Routine
+pickListed true q n at = D.Listed.read q
+pickListed false q n at = D.Listed.refused n at
+
+unfoldable pub listedOf : List ℕ → Listed → D.Listed Q.Routine
+listedOf s r = pickListed (eqb (r .number) 0) (routineOf s (r .routine)) (r .number) (r .place)

@@ -1,0 +1,158 @@
+// The listing of one routine (document 01): its bytes are read into a routine, or refused by a number of 1 to 6 with a place.
+pub mod decode;
+mod rules;
+
+use file_format::CodeOffset;
+use records::Cursor;
+use records::Places;
+use records::body;
+use records::byte_at;
+use records::place;
+use records::read_places;
+use records::u16_at;
+ghost use mathlib.Core.Path.{_≡_};
+ghost use mathlib.Core.Bool.{true};
+ghost use mathlib.Core.List.{map};
+ghost use Prim.Native.Nat.{_≤_, _<_};
+ghost use lib.ListN.{take};
+ghost use Rattle.meaning.specs.Base.{all};
+ghost use Rattle.meaning.specs.Listing.{blockAt, readListing};
+ghost use Rattle.listing.specs.Models.{blockOf, blocksIn, twoAt, Sound, ruledPlaces, listedOf};
+ghost use Rattle.records.specs.Models.{placesIn};
+
+// A block: its first and its last instruction, and the entries of its successors, of which `count` (0 to 2) are in use.
+pub struct Block {
+    pub entry: CodeOffset,
+    pub exit: CodeOffset,
+    pub count: usize,
+    pub first: CodeOffset,
+    pub second: CodeOffset,
+}
+
+// A routine that was read: the tokens (0, 1, 2) of its parameters, L, the number of its returns, where the record of each
+// instruction starts, and the blocks in listed order. Slots from a count on are free.
+pub struct Routine {
+    pub params: [u8; 16],
+    pub param_count: usize,
+    pub locals: u8,
+    pub returns: u8,
+    pub code: [u16; 512],
+    pub code_count: usize,
+    pub blocks: [Block; 16],
+    pub block_count: usize,
+}
+
+// A refusal's number and place, or (number 0) the routine.
+pub struct Listed {
+    pub number: u8,
+    pub place: usize,
+    pub routine: Routine,
+}
+
+fn no_block() -> Block {
+    Block {
+        entry: CodeOffset(0),
+        exit: CodeOffset(0),
+        count: 0,
+        first: CodeOffset(0),
+        second: CodeOffset(0),
+    }
+}
+
+fn refused(number: u8, place: usize) -> Listed
+    ensures { λ r. ⌜ (r .number ≡ number) × (r .place ≡ place) ⌝ }
+{
+    Listed {
+        number,
+        place,
+        routine: Routine {
+            params: [0u8; 16],
+            param_count: 0,
+            locals: 0,
+            returns: 0,
+            code: [0u16; 512],
+            code_count: 0,
+            blocks: [no_block(); 16],
+            block_count: 0,
+        },
+    }
+}
+
+// The block whose record starts here.
+fn block_at(s: &[u8], at: usize) -> Block
+    requires { ⌜ twoAt (now s) at ≡ true ⌝ }
+    ensures { λ r. ⌜ blockOf r ≡ blockAt (now (s .entry)) at ⌝ }
+{
+    let b = body(s, Cursor { at });
+    Block {
+        entry: CodeOffset(u16_at(b, 0)),
+        exit: CodeOffset(u16_at(b, 2)),
+        count: byte_at(b, 4) as usize,
+        first: CodeOffset(u16_at(b, 5)),
+        second: CodeOffset(u16_at(b, 7)),
+    }
+}
+
+// The blocks whose records start at the first n places.
+fn blocks_at(s: &[u8], places: [u16; 16], n: usize) -> [Block; 16]
+    requires { ⌜ (n ≤ 16) × (all (twoAt (now s)) (take n places) ≡ true) ⌝ }
+    ensures { λ r. ⌜ blocksIn r n ≡ map (blockAt (now (s .entry))) (take n places) ⌝ }
+{
+    let mut out = [no_block(); 16];
+    let mut i: usize = 0;
+    while i < n {
+        out[i] = block_at(s, place(places[i]));
+        i += 1;
+    }
+    out
+}
+
+// A routine whose records were read, under the rules on blocks and on Ret.
+fn ruled(s: &[u8], head: &[u8], w: Places) -> Listed
+    requires { ⌜ Sound (now s) (now head) w ⌝ }
+    ensures { λ r. ⌜ listedOf (now (s .entry)) r ≡ ruledPlaces (now (s .entry)) (placesIn w) ⌝ }
+{
+    let n = w.block_count;
+    let m = w.code_count;
+    if n == 0 {
+        return refused(5, s.len());
+    }
+    let places = w.blocks;
+    let code = w.code;
+    let blocks = blocks_at(s, places, n);
+    let bad = rules::first_faulty(blocks, n, m);
+    if bad < n {
+        return refused(5, place(places[bad]));
+    }
+    let stray = rules::first_stray(s, code, m, blocks, n);
+    if stray < m {
+        return refused(5, place(code[stray]));
+    }
+    let param_count = byte_at(head, 0) as usize;
+    let params = decode::bytes_at(head, 2, param_count);
+    Listed {
+        number: 0,
+        place: 0,
+        routine: Routine {
+            params,
+            param_count,
+            locals: byte_at(head, 1),
+            returns: byte_at(head, 2 + param_count),
+            code,
+            code_count: m,
+            blocks,
+            block_count: n,
+        },
+    }
+}
+
+// What a listing means: every byte string gets a routine, or the refusal and the place of document 01.
+pub fn read_listing(s: &[u8]) -> Listed
+    ensures { λ r. ⌜ listedOf (now (s .entry)) r ≡ readListing (now (s .entry)) ⌝ }
+{
+    let w = read_places(s);
+    if w.number != 0 {
+        return refused(w.number, w.place);
+    }
+    ruled(s, body(s, Cursor { at: 0 }), w)
+}

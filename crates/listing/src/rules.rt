@@ -1,0 +1,156 @@
+// The rules on blocks and on Ret (refusal 5).
+use crate::Block;
+use records::place;
+use records::u16_at;
+ghost use mathlib.Core.Path.{_≡_};
+ghost use Prim.Native.Nat.{_≤_, _<_};
+ghost use mathlib.Core.List.{map};
+ghost use lib.ListN.{take, drop};
+ghost use Rattle.meaning.specs.Base.{any};
+ghost use Rattle.meaning.specs.Listing.{overlap, entryIn, endsBlock, faultySuccessor, faultyBlock, firstOf, strayRet, instrAt};
+ghost use Rattle.listing.specs.Models.{blockOf, blocksIn, faultySuccessors};
+
+// That a block listed at `from` or later has this entry.
+fn entry_from(blocks: [Block; 16], n: usize, from: usize, entry: u16) -> bool
+    requires { ⌜ n ≤ 16 ⌝ }
+    ensures { λ r. ⌜ r ≡ entryIn (drop from (blocksIn blocks n)) entry ⌝ }
+{
+    let mut i = from;
+    while i < n {
+        let b = blocks[i];
+        if entry == b.entry.0 {
+            return true;
+        }
+        i += 1;
+    }
+    false
+}
+
+// That a block has an instruction of one of the n listed first.
+fn overlaps(blocks: [Block; 16], n: usize, b: Block) -> bool
+    requires { ⌜ n ≤ 16 ⌝ }
+    ensures { λ r. ⌜ r ≡ any (overlap (blockOf b)) (blocksIn blocks n) ⌝ }
+{
+    let mut i: usize = 0;
+    while i < n {
+        let c = blocks[i];
+        if (b.entry.0 <= c.exit.0) & (c.entry.0 <= b.exit.0) {
+            return true;
+        }
+        i += 1;
+    }
+    false
+}
+
+// That a successor of the block at `i` is no block's entry, or above the block's own and not listed later.
+fn faulty_successor(blocks: [Block; 16], n: usize, i: usize, b: Block, e: u16) -> bool
+    requires { ⌜ (n ≤ 16) × (i < n) ⌝ }
+    ensures { λ r. ⌜ r ≡ faultySuccessor (blocksIn blocks n) i (blockOf b) e ⌝ }
+{
+    if !entry_from(blocks, n, 0, e) {
+        return true;
+    }
+    if e <= b.entry.0 {
+        return false;
+    }
+    !entry_from(blocks, n, i + 1, e)
+}
+
+fn faulty_successors(blocks: [Block; 16], n: usize, i: usize, b: Block) -> bool
+    requires { ⌜ (n ≤ 16) × (i < n) ⌝ }
+    ensures { λ r. ⌜ r ≡ faultySuccessors (blocksIn blocks n) i (blockOf b) ⌝ }
+{
+    let count = b.count;
+    if count == 0 {
+        return false;
+    }
+    let e = b.first.0;
+    if faulty_successor(blocks, n, i, b, e) {
+        return true;
+    }
+    if count == 1 {
+        return false;
+    }
+    let f = b.second.0;
+    if e == f {
+        return true;
+    }
+    faulty_successor(blocks, n, i, b, f)
+}
+
+// That the block at `i`, in a routine of `code_count` instructions, breaks a rule.
+fn faulty_block(blocks: [Block; 16], n: usize, i: usize, code_count: usize) -> bool
+    requires { ⌜ (n ≤ 16) × (i < n) ⌝ }
+    ensures { λ r. ⌜ r ≡ faultyBlock «code_count» (blocksIn blocks n) i ⌝ }
+{
+    let b = blocks[i];
+    let entry = b.entry.0;
+    if (i == 0) & (entry != 0) {
+        return true;
+    }
+    if b.exit.0 < entry {
+        return true;
+    }
+    if code_count <= b.exit.0 as usize {
+        return true;
+    }
+    if overlaps(blocks, i, b) {
+        return true;
+    }
+    faulty_successors(blocks, n, i, b)
+}
+
+// The first block that breaks a rule; n, if none does.
+pub(crate) fn first_faulty(blocks: [Block; 16], n: usize, code_count: usize) -> usize
+    requires { ⌜ n ≤ 16 ⌝ }
+    ensures { λ r. ⌜ r ≡ firstOf (faultyBlock «code_count» (blocksIn blocks n)) 0 n ⌝ }
+{
+    let mut i: usize = 0;
+    while i < n {
+        if faulty_block(blocks, n, i, code_count) {
+            return i;
+        }
+        i += 1;
+    }
+    n
+}
+
+// That an instruction is the exit of a block without successors.
+fn ends_block(blocks: [Block; 16], n: usize, k: usize) -> bool
+    requires { ⌜ n ≤ 16 ⌝ }
+    ensures { λ r. ⌜ r ≡ endsBlock (blocksIn blocks n) k ⌝ }
+{
+    let mut i: usize = 0;
+    while i < n {
+        let b = blocks[i];
+        if (k == b.exit.0 as usize) & (b.count == 0) {
+            return true;
+        }
+        i += 1;
+    }
+    false
+}
+
+// The first Ret that is not the exit of a block without successors; m, if there is none.
+pub(crate) fn first_stray(
+    s: &[u8],
+    code: [u16; 512],
+    m: usize,
+    blocks: [Block; 16],
+    n: usize,
+) -> usize
+    requires { ⌜ (n ≤ 16) × (m ≤ 512) ⌝ }
+    ensures { λ r. ⌜ r ≡ firstOf (strayRet (map (instrAt (now (s .entry))) (take m code)) (blocksIn blocks n)) 0 m ⌝ }
+{
+    let mut k: usize = 0;
+    while k < m {
+        let start = place(code[k]);
+        if u16_at(s, start + 2) == 23 {
+            if !ends_block(blocks, n, k) {
+                return k;
+            }
+        }
+        k += 1;
+    }
+    m
+}

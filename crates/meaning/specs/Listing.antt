@@ -1,0 +1,348 @@
+-- The listing of one routine (document 01, "Listing of one routine" and "Who can cause a refusal"): what its bytes mean, a routine, or a
+-- refusal with its number and place.
+use Prim.Native.Nat.{ℕ, zero, suc, _+_, _*_, _-_}
+use mathlib.Core.Bool.{Bool, true, false, not, _&&_, _||_, cond, Bool·beq}
+use mathlib.Core.List.{List, [], _∷_, _++_, map}
+use lib.ListN.{length, getD, take, drop}
+use lib.Dec.{leb, ltb, eqb}
+use Rattle.meaning.specs.Base.{all, any}
+use Rattle.meaning.specs.Running.{Token, ofValue, ofRef}
+use Rattle.meaning.specs.Steps.{Instr, Pop, CopyLoc, MoveLoc, StLoc, FreezeRef, Compare, ReadRef, WriteRef, BorrowLoc, BorrowField, BorrowGlobal, MoveFrom, Call, Ret, Values, MoveTo, VectorOp, BorrowElement}
+use Rattle.meaning.specs.Loop.{Block, noBlock}
+use Rattle.meaning.specs.Blocks.{Routine, isRet, empty}
+
+-- ---- records: 2-byte body length, 2-byte kind, body; little-endian
+
+unfoldable pub u16At : List ℕ → ℕ → ℕ
+u16At s i = getD s i 0 + 256 * getD s (i + 1) 0
+
+-- the record that starts at a place: that it does not end too early, its kind, its body, and where the next one starts
+unfoldable pub wholeAt : List ℕ → ℕ → Bool
+wholeAt s at = leb (at + 4 + u16At s at) (length s)
+
+abbrev pub kindAt : List ℕ → ℕ → ℕ
+kindAt s at = u16At s (at + 2)
+
+unfoldable pub bodyAt : List ℕ → ℕ → List ℕ
+bodyAt s at = cond (wholeAt s at) (take (u16At s at) (drop (at + 4) s)) []
+
+abbrev pub nextAt : List ℕ → ℕ → ℕ
+nextAt s at = at + 4 + u16At s at
+
+-- ---- the shape table
+
+pub data Field : Type 0 where
+  -- u8: its stated range ends with the first number (3), its limit is the second (6)
+  byte : ℕ → ℕ → Field
+  -- u16
+  word : Field
+  -- u8, a local: below L
+  local : Field
+  -- a count u8, with its range and its limit, and as many u16
+  words : ℕ → ℕ → Field
+  -- a count u8, with its limit, and as many tokens
+  tokens : ℕ → Field
+  -- parameters P u8, L u8, P tokens: P at most L (3), L at most 16 (6)
+  frame : Field
+
+abbrev pub token : Field
+token = byte 2 2
+
+abbrev pub flag : Field
+flag = byte 1 1
+
+pub record Row : Type 0 where
+  pub kind : ℕ
+  pub fields : List Field
+
+abbrev pub row : ℕ → List Field → Row
+row k fs = record { kind = k; fields = fs }
+
+-- one row for each kind
+abbrev pub shapes : List Row
+shapes =
+    row 1 (frame ∷ tokens 8 ∷ [])
+    ∷ row 2 (word ∷ word ∷ words 2 2 ∷ [])
+    ∷ row 10 []
+    ∷ row 11 (local ∷ [])
+    ∷ row 12 (local ∷ [])
+    ∷ row 13 (local ∷ [])
+    ∷ row 14 []
+    ∷ row 15 []
+    ∷ row 16 []
+    ∷ row 17 []
+    ∷ row 18 (local ∷ flag ∷ [])
+    ∷ row 19 (word ∷ flag ∷ [])
+    ∷ row 20 (word ∷ flag ∷ [])
+    ∷ row 21 (word ∷ [])
+    ∷ row 22 (byte 255 16 ∷ words 255 16 ∷ tokens 8 ∷ [])
+    ∷ row 23 []
+    ∷ row 24 (word ∷ word ∷ token ∷ [])
+    ∷ row 25 []
+    ∷ row 26 (byte 2 2 ∷ flag ∷ byte 1 1 ∷ token ∷ [])
+    ∷ row 27 (flag ∷ [])
+    ∷ []
+
+-- a kind in use; the fields of its row
+unfoldable pub inUse : ℕ → List Row → Bool
+inUse k rs = any (λ r. eqb k (r .kind)) rs
+
+unfoldable pub fieldsIn : ℕ → List Row → List Field
+fieldsIn k [] = []
+fieldsIn k (r ∷ rs) = cond (eqb k (r .kind)) (r .fields) (fieldsIn k rs)
+
+unfoldable pub known : ℕ → Bool
+unfolding inUse
+known k = inUse k shapes
+
+unfoldable pub fieldsOf : ℕ → List Field
+unfolding fieldsIn
+fieldsOf k = fieldsIn k shapes
+
+-- Of a field that starts these bytes: how many it takes; that what it holds is right (3); and that it is within the limits (6).
+abbrev pub isToken : ℕ → Bool
+isToken b = leb b 2
+
+abbrev pub width : Field → List ℕ → ℕ
+width (byte r m) b = 1
+width word b = 2
+width local b = 1
+width (words r m) b = 1 + 2 * getD b 0 0
+width (tokens m) b = 1 + getD b 0 0
+width frame b = 2 + getD b 0 0
+
+abbrev pub right : ℕ → Field → List ℕ → Bool
+right l (byte r m) b = leb (getD b 0 0) r
+right l word b = true
+right l local b = ltb (getD b 0 0) l
+right l (words r m) b = leb (getD b 0 0) r
+right l (tokens m) b = all isToken (take (getD b 0 0) (drop 1 b))
+right l frame b = leb (getD b 0 0) (getD b 1 0) && all isToken (take (getD b 0 0) (drop 2 b))
+
+abbrev pub within : Field → List ℕ → Bool
+within (byte r m) b = leb (getD b 0 0) m
+within word b = true
+within local b = true
+within (words r m) b = leb (getD b 0 0) m
+within (tokens m) b = leb (getD b 0 0) m
+within frame b = leb (getD b 1 0) 16
+
+-- the body is the fields, one after the other, and nothing else; each is right
+unfoldable pub fitsBody : ℕ → List Field → List ℕ → Bool
+fitsBody l [] b = eqb (length b) 0
+fitsBody l (f ∷ fs) b = leb (width f b) (length b) && (right l f b && fitsBody l fs (drop (width f b) b))
+
+unfoldable pub withinLimits : List Field → List ℕ → Bool
+withinLimits [] b = true
+withinLimits (f ∷ fs) b = within f b && withinLimits fs (drop (width f b) b)
+
+-- ---- what the bodies mean
+
+-- f 0, f 1, .., n of them
+unfoldable pub series : {A : Type 0} → ℕ → (ℕ → A) → List A
+series zero f = []
+series (suc n) f = series n f ++ (f n ∷ [])
+
+-- 0 value, 1 reference, 2 mutable reference
+abbrev pub tokenAs : ℕ → Token
+tokenAs t = cond (eqb t 0) ofValue (ofRef (eqb t 2))
+
+-- 1 mutable, 0 not
+abbrev pub flagAt : List ℕ → ℕ → Bool
+flagAt b i = eqb (getD b i 0) 1
+
+-- n tokens from a place on; n numbers
+abbrev pub tokensAt : List ℕ → ℕ → ℕ → List Token
+tokensAt b i n = series n (λ k. tokenAs (getD b (i + k) 0))
+
+abbrev pub wordsAt : List ℕ → ℕ → ℕ → List ℕ
+wordsAt b i n = series n (λ k. u16At b (i + 2 * k))
+
+-- kind 1
+abbrev pub paramsOf : List ℕ → List Token
+paramsOf b = tokensAt b 2 (getD b 0 0)
+
+abbrev pub localsOf : List ℕ → ℕ
+localsOf b = getD b 1 0
+
+abbrev pub returnsOf : List ℕ → ℕ
+returnsOf b = getD b (2 + getD b 0 0) 0
+
+-- kind 2
+unfoldable pub blockOf : List ℕ → Block
+blockOf b = record { entry = u16At b 0; exit = u16At b 2; successors = wordsAt b 5 (getD b 4 0) }
+
+-- kind 22
+unfoldable pub callOf : List ℕ → Instr
+callOf b =
+    let n : ℕ = getD b 1 0 in
+    Call (getD b 0 0) (wordsAt b 2 n) (tokensAt b (3 + 2 * n) (getD b (2 + 2 * n) 0))
+
+-- kinds 10 to 27
+abbrev pub instructions : List ℕ → List Instr
+instructions b =
+    Pop
+    ∷ CopyLoc (getD b 0 0)
+    ∷ MoveLoc (getD b 0 0)
+    ∷ StLoc (getD b 0 0)
+    ∷ FreezeRef
+    ∷ Compare
+    ∷ ReadRef
+    ∷ WriteRef
+    ∷ BorrowLoc (getD b 0 0) (flagAt b 1)
+    ∷ BorrowField (u16At b 0) (flagAt b 2)
+    ∷ BorrowGlobal (u16At b 0) (flagAt b 2)
+    ∷ MoveFrom (u16At b 0)
+    ∷ callOf b
+    ∷ Ret
+    ∷ Values (u16At b 0) (u16At b 2) (tokenAs (getD b 4 0))
+    ∷ MoveTo
+    ∷ VectorOp (getD b 0 0) (flagAt b 1) (getD b 2 0) (tokenAs (getD b 3 0))
+    ∷ BorrowElement (flagAt b 0)
+    ∷ []
+
+unfoldable pub instrOf : ℕ → List ℕ → Instr
+instrOf k b = getD (instructions b) (k - 10) Pop
+
+-- ---- the records in turn
+
+pub data Listed (A : Type 0) : Type 0 where
+  read : A → Listed A
+  refused : ℕ → ℕ → Listed A
+
+-- the number of the first test that fails, else what comes after it
+abbrev pub unless : Bool → ℕ → ℕ → ℕ
+unless true n k = k
+unless false n k = n
+
+-- the record at a place: 1, 2, 4, 3, 6; 0 if none of them
+unfoldable pub faultAt : List ℕ → ℕ → ℕ → ℕ
+faultAt s l at =
+    unless (wholeAt s at) 1
+    (unless (known (kindAt s at)) 2
+    (unless (Bool·beq (eqb (kindAt s at) 1) (eqb at 0)) 4
+    (unless (fitsBody l (fieldsOf (kindAt s at)) (bodyAt s at)) 3
+    (unless (withinLimits (fieldsOf (kindAt s at)) (bodyAt s at)) 6
+    0))))
+
+-- the places of the block records and of the instruction records so far
+pub record Places : Type 0 where
+  pub blocks : List ℕ
+  pub code : List ℕ
+
+abbrev pub noPlaces : Places
+noPlaces = record { blocks = []; code = [] }
+
+-- more than 16 blocks or 512 instructions: 6
+abbrev pub fullFor : ℕ → Places → Bool
+fullFor k w = cond (eqb k 1) false (cond (eqb k 2) (leb 16 (length (w .blocks))) (leb 512 (length (w .code))))
+
+abbrev pub putAt : ℕ → ℕ → Places → Places
+putAt k at w =
+    cond (eqb k 1) w
+    (cond (eqb k 2)
+    (record { blocks = w .blocks ++ (at ∷ []); code = w .code })
+    (record { blocks = w .blocks; code = w .code ++ (at ∷ []) }))
+
+abbrev pub ifFine : {A : Type 0} → ℕ → ℕ → Listed A → Listed A
+ifFine zero at k = k
+ifFine (suc n) at k = refused (suc n) at
+
+abbrev pub ifNot : {A : Type 0} → Bool → ℕ → ℕ → Listed A → Listed A
+ifNot true n at k = refused n at
+ifNot false n at k = k
+
+-- The records from a place on; each takes four bytes or more, so that the budget of one step a byte is never used up.
+unfoldable pub placesFrom : ℕ → List ℕ → ℕ → Places → Listed Places
+unfolding faultAt
+placesFrom zero s at w = read w
+placesFrom (suc f) s at w =
+    cond (leb (length s) at) (read w)
+    (ifFine (faultAt s (localsOf (bodyAt s 0)) at) at
+    (ifNot (fullFor (kindAt s at) w) 6 at
+    (placesFrom f s (nextAt s at) (putAt (kindAt s at) at w))))
+
+-- ---- number 5
+
+-- the first of n numbers from i on that passes the test; i + n, if none does
+unfoldable pub firstOf : (ℕ → Bool) → ℕ → ℕ → ℕ
+firstOf p i zero = i
+firstOf p i (suc n) = cond (p i) i (firstOf p (suc i) n)
+
+abbrev pub overlap : Block → Block → Bool
+overlap b c = leb (b .entry) (c .exit) && leb (c .entry) (b .exit)
+
+abbrev pub entryIn : List Block → ℕ → Bool
+entryIn bs e = any (λ b. eqb e (b .entry)) bs
+
+unfoldable pub repeats : List ℕ → Bool
+repeats [] = false
+repeats (e ∷ es) = any (eqb e) es || repeats es
+
+-- a successor of the block b at position i: it is no block's entry, or it is above b's entry and not listed later
+abbrev pub faultySuccessor : List Block → ℕ → Block → ℕ → Bool
+faultySuccessor bs i b e = not (entryIn bs e) || (ltb (b .entry) e && not (entryIn (drop (i + 1) bs) e))
+
+-- the block at position i of the list, of a routine of n instructions
+unfoldable pub faultyBlock : ℕ → List Block → ℕ → Bool
+unfolding repeats
+faultyBlock n bs i =
+    let b : Block = getD bs i noBlock in
+    (eqb i 0 && not (eqb (b .entry) 0))
+    || (ltb (b .exit) (b .entry)
+    || (leb n (b .exit)
+    || (any (overlap b) (take i bs)
+    || (repeats (b .successors)
+    || any (faultySuccessor bs i b) (b .successors)))))
+
+-- the exit of a block without successors
+abbrev pub endsBlock : List Block → ℕ → Bool
+endsBlock bs k = any (λ b. eqb k (b .exit) && empty (b .successors)) bs
+
+unfoldable pub strayRet : List Instr → List Block → ℕ → Bool
+strayRet is bs k = isRet (getD is k Pop) && not (endsBlock bs k)
+
+-- ---- the listing
+
+unfoldable pub blockAt : List ℕ → ℕ → Block
+unfolding blockOf bodyAt
+blockAt s at = blockOf (bodyAt s at)
+
+unfoldable pub instrAt : List ℕ → ℕ → Instr
+unfolding instrOf bodyAt
+instrAt s at = instrOf (kindAt s at) (bodyAt s at)
+
+abbrev pub routineAt : List ℕ → Places → Routine
+routineAt s w = record {
+  params = paramsOf (bodyAt s 0);
+  locals = localsOf (bodyAt s 0);
+  returns = returnsOf (bodyAt s 0);
+  blocks = map (blockAt s) (w .blocks);
+  code = map (instrAt s) (w .code);
+}
+
+-- 5: no block; each block as listed; each Ret
+abbrev pub ruled : ℕ → Places → Routine → Listed Routine
+ruled size w q =
+    let b : ℕ = firstOf (faultyBlock (length (q .code)) (q .blocks)) 0 (length (q .blocks)) in
+    let r : ℕ = firstOf (strayRet (q .code) (q .blocks)) 0 (length (q .code)) in
+    ifNot (empty (q .blocks)) 5 size
+    (ifNot (ltb b (length (q .blocks))) 5 (getD (w .blocks) b 0)
+    (ifNot (ltb r (length (q .code))) 5 (getD (w .code) r 0)
+    (read q)))
+
+abbrev pub afterRecords : List ℕ → Listed Places → Listed Routine
+afterRecords s (read w) = ruled (length s) w (routineAt s w)
+afterRecords s (refused n at) = refused n at
+
+-- 6 for length; 1 if empty; then each record
+unfoldable pub readPlaces : List ℕ → Listed Places
+unfolding placesFrom
+readPlaces s =
+    ifNot (ltb 65536 (length s)) 6 65536
+    (ifNot (empty s) 1 0
+    (placesFrom (length s) s 0 noPlaces))
+
+unfoldable pub readListing : List ℕ → Listed Routine
+unfolding readPlaces
+readListing s = afterRecords s (readPlaces s)
