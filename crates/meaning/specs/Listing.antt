@@ -5,11 +5,11 @@ use mathlib.Core.Bool.{Bool, true, false, not, _&&_, _||_, cond, Bool·beq}
 use mathlib.Core.List.{List, [], _∷_, _++_, map}
 use lib.ListN.{length, getD, take, drop}
 use lib.Dec.{leb, ltb, eqb}
-use Rattle.meaning.specs.Base.{all, any}
+use Rattle.meaning.specs.Base.{all, any, empty}
 use Rattle.meaning.specs.Running.{Token, ofValue, ofRef}
 use Rattle.meaning.specs.Steps.{Instr, Pop, CopyLoc, MoveLoc, StLoc, FreezeRef, Compare, ReadRef, WriteRef, BorrowLoc, BorrowField, BorrowGlobal, MoveFrom, Call, Ret, Values, MoveTo, VectorOp, BorrowElement}
 use Rattle.meaning.specs.Loop.{Block, noBlock}
-use Rattle.meaning.specs.Blocks.{Routine, isRet, empty}
+use Rattle.meaning.specs.Blocks.{Routine, isRet}
 
 -- ---- records: 2-byte body length, 2-byte kind, body; little-endian
 

@@ -10,10 +10,10 @@ use lib.ListN.{length, getD, take, drop, length-append, length-take, length-drop
 use lib.Seq.{getD-drop, getD-take, drop-drop}
 use lib.Dec.{leb, ltb, eqb}
 use borrow.Author.Tests.{le-leb, lt-leb, ltb-true, ltb-false, not-false}
-use Rattle.meaning.specs.Base.{all, any, decide, and-l, and-r, and-i, all-append, eqb-eq, eqb-ne, leb-le, leb-gt}
+use Rattle.meaning.specs.Base.{all, any, decide, and-l, and-r, and-i, all-append, eqb-eq, eqb-ne, leb-le, leb-gt, empty}
 use Rattle.meaning.specs.Steps.{Instr, Pop}
 use Rattle.meaning.specs.Loop.{Block, noBlock}
-use Rattle.meaning.specs.Blocks.{Routine, empty, isRet, fits, placed, instrsOf, promised}
+use Rattle.meaning.specs.Blocks.{Routine, isRet, fits, placed, instrsOf, promised}
 use Rattle.meaning.specs.Listing.{wholeAt, kindAt, bodyAt, nextAt, Field, byte, word, local, words, tokens, frame, known, fieldsIn, fieldsOf, width, right, within, isToken, fitsBody, withinLimits, localsOf, Listed, read, refused, unless, faultAt, Places, noPlaces, fullFor, putAt, ifFine, ifNot, placesFrom, series, tokenAs, instructions, callOf, instrOf, instrAt, firstOf, overlap, repeats, endsBlock, faultySuccessor, faultyBlock, strayRet, routineAt, afterRecords, readPlaces, readListing}
 
 -- ---- the records in turn

@@ -1,4 +1,5 @@
 // Labels and paths (paths.rs).
+use meaning::MAX_LABELS;
 ghost use mathlib.Core.Path.{_≡_};
 ghost use mathlib.Core.List.{[], _∷_, _++_};
 ghost use Prim.Native.Nat.{_≤_};
@@ -22,7 +23,7 @@ pub enum Ordering {
 
 // Up to eight labels, by their numbers. What lies from `len` on is free; a `len` beyond eight reads as eight.
 pub struct Path {
-    pub labels: [u32; 8],
+    pub labels: [u32; MAX_LABELS],
     pub len: u8,
 }
 
@@ -63,7 +64,7 @@ impl Path {
         ensures { λ r. ⌜ pathOf r ≡ [] ⌝ }
     {
         Self {
-            labels: [0; 8],
+            labels: [0; MAX_LABELS],
             len: 0,
         }
     }
@@ -71,7 +72,7 @@ impl Path {
     pub fn single(label: Label) -> Self
         ensures { λ r. ⌜ pathOf r ≡ numberOf (labelOf label) ∷ [] ⌝ }
     {
-        let mut labels = [0u32; 8];
+        let mut labels = [0u32; MAX_LABELS];
         labels[0] = label.number();
         Self {
             labels: labels,
@@ -83,7 +84,7 @@ impl Path {
         ensures { λ r. ⌜ (r ≡ length (pathOf self)) × (r ≤ 8) ⌝ }
     {
         let n = self.len as usize;
-        if n < 8 { n } else { 8 }
+        if n < MAX_LABELS { n } else { MAX_LABELS }
     }
 }
 
@@ -141,7 +142,7 @@ pub fn factor(lhs: Path, rhs: Path) -> Path
 {
     let k = lhs.len();
     let n = rhs.len();
-    let mut out = [0u32; 8];
+    let mut out = [0u32; MAX_LABELS];
     let mut i = k;
     let mut j: usize = 0;
     while i < n {
@@ -161,7 +162,7 @@ pub fn append(lhs: Path, rhs: Path) -> Appended
 {
     let n = lhs.len();
     let m = rhs.len();
-    if 8 < n + m {
+    if MAX_LABELS < n + m {
         return Appended {
             fits: false,
             path: lhs,

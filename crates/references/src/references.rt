@@ -1,6 +1,7 @@
 // Names of references, edges and sets of edges (references.rs).
 use crate::paths;
 use crate::paths::Ordering;
+use meaning::MAX_EDGE_SET_SIZE;
 use crate::paths::Path;
 ghost use mathlib.Core.Path.{_≡_};
 ghost use mathlib.Core.Bool.{true, false};
@@ -23,7 +24,7 @@ pub struct BorrowEdge {
 
 // Up to ten edges, ascending. What lies from `len` on is free; a `len` beyond ten reads as ten.
 pub struct BorrowEdgeSet {
-    pub edges: [BorrowEdge; 10],
+    pub edges: [BorrowEdge; MAX_EDGE_SET_SIZE],
     pub len: u8,
     pub overflown: bool,
 }
@@ -118,7 +119,7 @@ impl BorrowEdgeSet {
     {
         let e = BorrowEdge::weakest();
         Self {
-            edges: [e; 10],
+            edges: [e; MAX_EDGE_SET_SIZE],
             len: 0,
             overflown: false,
         }
@@ -130,7 +131,7 @@ impl BorrowEdgeSet {
     {
         let e = BorrowEdge::weakest();
         Self {
-            edges: [e; 10],
+            edges: [e; MAX_EDGE_SET_SIZE],
             len: 1,
             overflown: true,
         }
@@ -140,7 +141,7 @@ impl BorrowEdgeSet {
         ensures { λ r. ⌜ (r ≡ length (edgesOf self)) × (r ≤ 10) ⌝ }
     {
         let n = self.len as usize;
-        if n < 10 { n } else { 10 }
+        if n < MAX_EDGE_SET_SIZE { n } else { MAX_EDGE_SET_SIZE }
     }
 
     pub fn is_empty(self) -> bool
@@ -246,7 +247,7 @@ impl BorrowEdgeSet {
                 set: self,
             };
         }
-        if 10 <= self.len() {
+        if MAX_EDGE_SET_SIZE <= self.len() {
             let b = BorrowEdgeSet::blurred();
             return Inserted { refusal: 0, set: b };
         }
