@@ -7,11 +7,13 @@ use native.Mathlib.Omega.{arith}
 use lib.ListN.{length, take, drop, getD, drop-of-length-le, length-map, length-take}
 use Rattle.meaning.specs.ArrayLaws.{front-map-step, front-take}
 use Rattle.references.specs.ModelLaws as R
-use Rattle.borrow_graph.specs.Models.{refOf, refsOf, gedgeOf, edgesOf}
+use Rattle.borrow_graph.specs.Models.{refOf, refsOf, gedgeOf, edgesOf, changeOf, mapOf}
 use Rattle.borrow_graph.specs.declared.graph.Ref.{Ref}
 use Rattle.borrow_graph.specs.declared.graph.Refs.{Refs}
 use Rattle.borrow_graph.specs.declared.graph.GraphEdge.{GraphEdge}
 use Rattle.borrow_graph.specs.declared.graph.GraphEdges.{GraphEdges}
+use Rattle.borrow_graph.specs.declared.remap.IdPair.{IdPair}
+use Rattle.borrow_graph.specs.declared.remap.IdMap.{IdMap}
 
 -- what lies past the end of an array
 abbrev pub no-ref : Ref
@@ -54,3 +56,13 @@ edges-front s k h = front-take gedgeOf (s .len) k (s .list) h
 pub edges-made : (l : List GraphEdge) (n : ℕ) → edgesOf (record { list = l; len = n }) ≡ map gedgeOf (take n l)
 unfolding edgesOf
 edges-made l n = refl
+
+abbrev pub no-pair : IdPair
+no-pair = record { old = record { 0 = 0 }; new = record { 0 = 0 } }
+
+pub map-step : (s : IdMap) (i : ℕ) → i < length (mapOf s) → drop i (mapOf s) ≡ changeOf (getD (s .list) i no-pair) ∷ drop (i + 1) (mapOf s)
+unfolding mapOf
+map-step s i h = front-map-step changeOf (s .len) (s .list) no-pair i h
+
+pub map-end : (s : IdMap) (i : ℕ) → length (mapOf s) ≤ i → drop i (mapOf s) ≡ []
+map-end s i h = drop-of-length-le (mapOf s) h
