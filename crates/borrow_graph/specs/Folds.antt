@@ -1,11 +1,17 @@
--- The test of well-formedness as the code's fold.
+-- The test of well-formedness as the code's fold, and the borrows of a name edge by edge.
 use mathlib.Core.Path.{_≡_, refl, sym, ap, _∙_}
-use mathlib.Core.Bool.{Bool, true, false, not, cond, _&&_, _||_, and-assoc, and-true}
+use mathlib.Core.Bool.{Bool, true, false, not, cond, _&&_, _||_, and-assoc, and-true, or-assoc}
+use mathlib.Core.Option.{Option}
 use mathlib.Core.List.{List, [], _∷_, foldl}
 use Prim.Native.Nat.{ℕ, _+_}
 use lib.Dec.{leb, ltb, eqb}
+use lib.ListN.{length}
 use Rattle.meaning.specs.Sets.{Edge, weakest, short, ltEdge, eqEdge}
+use Rattle.meaning.specs.Base.{any}
+use Rattle.meaning.specs.ArrayLaws.{empty-length}
 use Rattle.meaning.specs.Graph.{GEdge, Name, isBefore}
+use Rattle.meaning.specs.Running.{mutableIn, meetsLabel, emptyPath}
+use Rattle.meaning.specs.Lookups.{Borrows}
 use Rattle.meaning.specs.Chain.{same, link, nextCount, chain, start, climbs}
 use Rattle.borrow_graph.specs.declared.graph.Chain.{Chain}
 use Rattle.borrow_graph.specs.Models.{gedgeOf}
@@ -91,3 +97,40 @@ module _ (s : Linking) (x : GEdge) (h : Bool) (sh : short (x .edge) ≡ true) wh
     count = cond (sym e i) (cond (ltb (s .count) 10) (s .count + 1) 10) 1;
     last = x;
   }
+
+-- ---- the borrows of a name
+
+abbrev pub noBorrows : Borrows
+noBorrows = record { full = false; consistent = false; mutable = false }
+
+unfoldable pub addBorrow : List Name → Option ℕ → Borrows → GEdge → Borrows
+addBorrow ns at s x = record {
+  full = s .full || emptyPath (x .edge .path);
+  consistent = s .consistent || meetsLabel at (x .edge .path);
+  mutable = s .mutable || (meetsLabel at (x .edge .path) && mutableIn ns (x .child));
+}
+
+-- those found, and those among the edges that remain
+unfoldable pub borrowsIn : List Name → ℕ → Option ℕ → Borrows → List GEdge → Borrows
+borrowsIn ns n at s xs = record {
+  full = s .full || any (λ x. eqb n (x .parent) && emptyPath (x .edge .path)) xs;
+  consistent = s .consistent || any (λ x. eqb n (x .parent) && meetsLabel at (x .edge .path)) xs;
+  mutable = s .mutable || any (λ x. (eqb n (x .parent) && meetsLabel at (x .edge .path)) && mutableIn ns (x .child)) xs;
+}
+
+pub bare-path : (p : List ℕ) (n : ℕ) → n ≡ length p → eqb n 0 ≡ emptyPath p
+bare-path [] n e = empty-length {A = ℕ} [] n e
+bare-path (a ∷ p) n e = empty-length (a ∷ p) n e
+
+module _ (ns : List Name) (n : ℕ) (at : Option ℕ) (s : Borrows) (x : GEdge) (xs : List GEdge) where
+  pub borrow-hit : eqb n (x .parent) ≡ true → borrowsIn ns n at (addBorrow ns at s x) xs ≡ borrowsIn ns n at s (x ∷ xs)
+  unfolding addBorrow borrowsIn
+  borrow-hit e = rw e (λ i. record {
+    full = or-assoc (s .full) (emptyPath (x .edge .path)) (any (λ y. eqb n (y .parent) && emptyPath (y .edge .path)) xs) i;
+    consistent = or-assoc (s .consistent) (meetsLabel at (x .edge .path)) (any (λ y. eqb n (y .parent) && meetsLabel at (y .edge .path)) xs) i;
+    mutable = or-assoc (s .mutable) (meetsLabel at (x .edge .path) && mutableIn ns (x .child)) (any (λ y. (eqb n (y .parent) && meetsLabel at (y .edge .path)) && mutableIn ns (y .child)) xs) i;
+  })
+
+  pub borrow-miss : eqb n (x .parent) ≡ false → borrowsIn ns n at s xs ≡ borrowsIn ns n at s (x ∷ xs)
+  unfolding borrowsIn
+  borrow-miss e = rw e

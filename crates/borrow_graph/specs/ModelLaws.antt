@@ -11,11 +11,13 @@ use Rattle.meaning.specs.Base.{Ans, ok, refuse, andThen, leaves}
 use Rattle.meaning.specs.Pairs.{or21}
 use Rattle.meaning.specs.ArrayLaws.{front-map-step, front-take}
 use Rattle.references.specs.ModelLaws as R
-use Rattle.borrow_graph.specs.Models.{refOf, refsOf, gedgeOf, edgesOf, told}
+use Rattle.borrow_graph.specs.Models.{refOf, refsOf, gedgeOf, edgesOf, told, changeOf, mapOf}
 use Rattle.borrow_graph.specs.declared.graph.Ref.{Ref}
 use Rattle.borrow_graph.specs.declared.graph.Refs.{Refs}
 use Rattle.borrow_graph.specs.declared.graph.GraphEdge.{GraphEdge}
 use Rattle.borrow_graph.specs.declared.graph.GraphEdges.{GraphEdges}
+use Rattle.borrow_graph.specs.declared.remap.IdPair.{IdPair}
+use Rattle.borrow_graph.specs.declared.remap.IdMap.{IdMap}
 
 -- what lies past the end of an array
 abbrev pub no-ref : Ref
@@ -90,3 +92,13 @@ told-first {A} n t a k z e = go (eqb n 0) ∙ ap (λ (b : Ans A). or21 b k) e
     go : (b : Bool) → cond b (ok t) (refuse n) ≡ or21 (cond b (ok t) (refuse n)) k
     go true = refl
     go false = ap (λ (b : Bool). cond b k (refuse n)) (sym (ne-eqb n 21 z))
+
+abbrev pub no-pair : IdPair
+no-pair = record { old = record { 0 = 0 }; new = record { 0 = 0 } }
+
+pub map-step : (s : IdMap) (i : ℕ) → i < length (mapOf s) → drop i (mapOf s) ≡ changeOf (getD (s .list) i no-pair) ∷ drop (i + 1) (mapOf s)
+unfolding mapOf
+map-step s i h = front-map-step changeOf (s .len) (s .list) no-pair i h
+
+pub map-end : (s : IdMap) (i : ℕ) → length (mapOf s) ≤ i → drop i (mapOf s) ≡ []
+map-end s i h = drop-of-length-le (mapOf s) h

@@ -1,12 +1,16 @@
 -- What the values of the code stand for in the definitions. A count beyond an array's length reads as the length.
 use mathlib.Core.Bool.{Bool, cond}
+use mathlib.Core.Option.{Option, none, some}
 use mathlib.Core.List.{List, map}
 use Prim.Native.Nat.{ℕ}
 use lib.Dec.{eqb}
 use lib.ListN.{take}
 use Rattle.meaning.specs.Base.{Ans, ok, refuse}
-use Rattle.meaning.specs.Graph.{Name, GEdge, Graph}
-use Rattle.references.specs.Models.{edgeOf}
+use Rattle.meaning.specs.Labels.{numberOf}
+use Rattle.meaning.specs.Graph.{Name, GEdge, Graph, eqPair}
+use Rattle.meaning.specs.Lookups.{Borrows}
+use Rattle.meaning.specs.Remap.{Change}
+use Rattle.references.specs.Models.{labelOf, edgeOf}
 use Rattle.borrow_graph.specs.declared.graph.Ref.{Ref}
 use Rattle.borrow_graph.specs.declared.graph.Refs.{Refs}
 use Rattle.borrow_graph.specs.declared.graph.GraphEdge.{GraphEdge}
@@ -16,6 +20,14 @@ use Rattle.borrow_graph.specs.declared.graph.Answer.{Answer}
 use Rattle.borrow_graph.specs.declared.graph.Told.{Told}
 use Rattle.borrow_graph.specs.declared.graph.Names.{Names}
 use Rattle.borrow_graph.specs.declared.pairs.Replaced.{Replaced}
+use Rattle.borrow_graph.specs.declared.lookups.LabelFilter.{LabelFilter}
+use Rattle.borrow_graph.specs.declared.lookups.LabelFilter.the-variants.{Any, At}
+use Rattle.borrow_graph.specs.declared.lookups.BorrowedBy.{BorrowedBy}
+use Rattle.borrow_graph.specs.declared.lookups.Edges.{Edges}
+use Rattle.borrow_graph.specs.declared.lookups.Ends.{Ends}
+use Rattle.borrow_graph.specs.declared.lookups.Ends.the-variants.{From, To, Between}
+use Rattle.borrow_graph.specs.declared.remap.IdPair.{IdPair}
+use Rattle.borrow_graph.specs.declared.remap.IdMap.{IdMap}
 
 abbrev pub refOf : Ref → Name
 refOf a = record { id = a .id .0; mutable = a .mutable }
@@ -47,3 +59,29 @@ namesOf a = told (a .refusal) (refsOf (a .refs))
 
 abbrev pub replacedOf : Replaced → Ans (List GEdge)
 replacedOf a = told (a .refusal) (edgesOf (a .edges))
+
+-- a label counts by its number
+abbrev pub filterOf : LabelFilter → Option ℕ
+filterOf Any = none
+filterOf (At l) = some (numberOf (labelOf l))
+
+abbrev pub borrowsOf : BorrowedBy → Borrows
+borrowsOf a = record { full = a .full; consistent = a .consistent; mutable = a .mutable }
+
+abbrev pub borrowedOf : BorrowedBy → Ans Borrows
+borrowedOf a = told (a .refusal) (borrowsOf a)
+
+abbrev pub listOf : Edges → Ans (List GEdge)
+listOf a = told (a .refusal) (edgesOf (a .edges))
+
+-- whether an edge with these ends is looked up
+abbrev pub picks : Ends → ℕ → ℕ → Bool
+picks (From p) q d = eqb (p .0) q
+picks (To c) q d = eqb (c .0) d
+picks (Between p c) q d = eqPair (p .0) (c .0) q d
+
+abbrev pub changeOf : IdPair → Change
+changeOf x = record { old = x .old .0; new = x .new .0 }
+
+unfoldable pub mapOf : IdMap → List Change
+mapOf s = map changeOf (take (s .len) (s .list))

@@ -153,6 +153,7 @@ impl BorrowGraph {
         (v & w) & (a & b)
     }
 
+    // 9 where the names differ; 21 for more than 96 edges in the end.
     pub fn join(self, other: BorrowGraph) -> Answer
         ensures { λ r. ⌜ (answerOf r ≡ joinGraphs (graphOf self) (graphOf other)) × (graphOf (r .graph) ≡ leaves (graphOf self) (joinGraphs (graphOf self) (graphOf other))) ⌝ }
     {

@@ -223,6 +223,7 @@ impl GraphEdges {
 }
 
 impl BorrowGraph {
+    // 9 where the name is not held; 22 for a path of more than eight labels, then 21 for more than 96 edges in the end.
     pub fn release(self, id: RefID) -> Answer
         ensures { λ r. ⌜ (answerOf r ≡ G.release (graphOf self) (id .0)) × (graphOf (r .graph) ≡ leaves (graphOf self) (G.release (graphOf self) (id .0))) ⌝ }
     {

@@ -54,9 +54,6 @@ held-flag (a ∷ ns) k h = go (eqb k (a .id)) refl (or-cases (eqb k (a .id)) (ho
     go false e (inl p) r = absurd (both p e)
     go false e (inr p) r = let z = r p in (z .0, miss a ns k e ∙ z .1)
 
-none-held : (ns : List Name) (k : ℕ) → flagOf ns k ≡ none → holds ns k ≡ false
-none-held ns k e = decide (holds ns k) (λ h. let z = held-flag ns k h in absurd (none≢some (sym e ∙ z .1))) (λ h. h)
-
 flag-none : (ns : List Name) (k : ℕ) → holds ns k ≡ false → flagOf ns k ≡ none
 unfolding holds flagOf
 flag-none [] k h = refl
@@ -65,6 +62,12 @@ flag-none (a ∷ ns) k h = go (eqb k (a .id)) h (flag-none ns k)
     go : (x : Bool) → x || holds ns k ≡ false → (holds ns k ≡ false → flagOf ns k ≡ none) → cond x (some (a .mutable)) (flagOf ns k) ≡ none
     go true p r = absurd (true≢false p)
     go false p r = r p
+
+has-flag : (ns : List Name) (k : ℕ) (b : Bool) → flagOf ns k ≡ some b → holds ns k ≡ true
+has-flag ns k b e = decide (holds ns k) (λ h. h) (λ h. absurd (none≢some (sym (flag-none ns k h) ∙ e)))
+
+none-held : (ns : List Name) (k : ℕ) → flagOf ns k ≡ none → holds ns k ≡ false
+none-held ns k e = decide (holds ns k) (λ h. let z = held-flag ns k h in absurd (none≢some (sym e ∙ z .1))) (λ h. h)
 
 none-below : (ns : List Name) (b k : ℕ) → all (λ m. ltb b (m .id)) ns ≡ true → k ≤ b → flagOf ns k ≡ none
 unfolding flagOf
@@ -149,6 +152,9 @@ drop-flag n (b ∷ bs) k = go (eqb n (b .id)) refl (drop-flag n bs k)
 
 -- ---- one by one
 
+in-front : (n : ℕ) (ks : List ℕ) → 1 ≤ times n (n ∷ ks)
+in-front n ks = let c : count1 (eqb n n) ≡ 1 = count-yes (eqb-self n) in omega arith
+
 -- no new name is an old one still to come
 abbrev pub Apart : (ℕ → ℕ) → List ℕ → Type 0
 Apart f [] = Unit {0}
@@ -159,7 +165,7 @@ module _ (f : ℕ → ℕ) (ns : List Name) (inj : (m n : ℕ) → holds ns m �
   record Midway (ks : List ℕ) (cur : List Name) : Type 0 where
     asc : ascending cur ≡ true
     once : (n : ℕ) → times n ks ≤ 1
-    toCome : (n : ℕ) → 1 ≤ times n ks → (flagOf cur n ≡ flagOf ns n) × (holds ns n ≡ true)
+    toCome : (n : ℕ) → 1 ≤ times n ks → flagOf cur n ≡ flagOf ns n
     came : (n : ℕ) → holds ns n ≡ true → times n ks ≡ 0 → (flagOf cur (f n) ≡ flagOf ns n) × (times (f n) ks ≡ 0)
     only : (k : ℕ) → holds cur k ≡ true → (1 ≤ times k ks) ⊎ ((n : ℕ) × (holds ns n ≡ true) × (times n ks ≡ 0) × (k ≡ f n))
 
@@ -171,11 +177,8 @@ module _ (f : ℕ → ℕ) (ns : List Name) (inj : (m n : ℕ) → holds ns m �
     unfolding two
     next = placeName (record { id = f n; mutable = b }) two
 
-    in-front : 1 ≤ times n (n ∷ ks)
-    in-front = let c : count1 (eqb n n) ≡ 1 = count-yes (eqb-self n) in omega arith
-
     mine : holds ns n ≡ true
-    mine = h .toCome n in-front .1
+    mine = has-flag ns n b (sym (h .toCome n (in-front n ks)) ∙ fl)
 
     gone : times n ks ≡ 0
     gone = let a : times n (n ∷ ks) ≤ 1 = h .once n in let c : count1 (eqb n n) ≡ 1 = count-yes (eqb-self n) in omega arith
@@ -216,7 +219,7 @@ module _ (f : ℕ → ℕ) (ns : List Name) (inj : (m n : ℕ) → holds ns m �
     next-came m hm t = decide (eqb m n)
         (λ e. let q : m ≡ n = eqb-eq {m = m} {n = n} e in
         subst (λ (j : ℕ). (flagOf next (f j) ≡ flagOf ns j) × (times (f j) ks ≡ 0)) (sym q)
-        (at-new ∙ sym fl ∙ h .toCome n in-front .0, decide (leb 1 (times (f n) ks)) (λ z. absurd (far (f n) (leb-le z) refl)) (λ z. let w : times (f n) ks < 1 = leb-gt {m = 1} z in omega arith)))
+        (at-new ∙ sym fl ∙ h .toCome n (in-front n ks), decide (leb 1 (times (f n) ks)) (λ z. absurd (far (f n) (leb-le z) refl)) (λ z. let w : times (f n) ks < 1 = leb-gt {m = 1} z in omega arith)))
         (λ e. let c : count1 (eqb m n) ≡ 0 = count-no e in
         let w = h .came m hm (omega arith) in
         let y : times (f m) (n ∷ ks) ≡ 0 = w .1 in
@@ -245,24 +248,49 @@ module _ (f : ℕ → ℕ) (ns : List Name) (inj : (m n : ℕ) → holds ns m �
       asc = next-asc;
       once = λ m. let a : times m (n ∷ ks) ≤ 1 = h .once m in omega arith;
       toCome = λ m t. let d : m ≢ n = λ z. (let u : 1 ≤ times n ks = subst (λ (j : ℕ). 1 ≤ times j ks) z t in let v : times n ks ≡ 0 = gone in omega arith) in
-          let w = h .toCome m (omega arith) in
-          (elsewhere m (λ z. far m t (sym z)) d ∙ w .0, w .1);
+          elsewhere m (λ z. far m t (sym z)) d ∙ h .toCome m (omega arith);
       came = next-came;
       only = next-only;
+    }
+
+  -- an old name that is not held is passed over
+  module _ (n : ℕ) (ks : List ℕ) (cur : List Name) (h : Midway (n ∷ ks) cur) (fl : flagOf cur n ≡ none) where
+    skip-came : (m : ℕ) → holds ns m ≡ true → times m ks ≡ 0 → (flagOf cur (f m) ≡ flagOf ns m) × (times (f m) ks ≡ 0)
+    skip-came m hm t = decide (eqb m n)
+        (λ e. let y = held-flag ns m hm in
+        let q : m ≡ n = eqb-eq {m = m} {n = n} e in
+        absurd (none≢some (sym fl ∙ h .toCome n (in-front n ks) ∙ subst (λ (j : ℕ). flagOf ns j ≡ some (y .0)) q (y .1))))
+        (λ e. let c : count1 (eqb m n) ≡ 0 = count-no e in
+        let w = h .came m hm (omega arith) in
+        let u : times (f m) (n ∷ ks) ≡ 0 = w .1 in
+        (w .0, omega arith))
+
+    skip-only : (k : ℕ) → holds cur k ≡ true → (1 ≤ times k ks) ⊎ ((m : ℕ) × (holds ns m ≡ true) × (times m ks ≡ 0) × (k ≡ f m))
+    skip-only k hk = go (h .only k hk)
+      where
+        go : (1 ≤ times k (n ∷ ks)) ⊎ ((m : ℕ) × (holds ns m ≡ true) × (times m (n ∷ ks) ≡ 0) × (k ≡ f m)) → (1 ≤ times k ks) ⊎ ((m : ℕ) × (holds ns m ≡ true) × (times m ks ≡ 0) × (k ≡ f m))
+        go (inl w) = decide (eqb k n)
+            (λ e. absurd (both hk (subst (λ (j : ℕ). holds cur j ≡ false) (sym (eqb-eq {m = k} {n = n} e)) (none-held cur n fl))))
+            (λ e. let c : count1 (eqb k n) ≡ 0 = count-no e in inl (omega arith))
+        go (inr w) = let t : times (w .0) (n ∷ ks) ≡ 0 = w .2 in inr (w .0, w .1, omega arith, w .3)
+
+    midway-skip : Midway ks cur
+    midway-skip = record {
+      asc = h .asc;
+      once = λ m. let a : times m (n ∷ ks) ≤ 1 = h .once m in omega arith;
+      toCome = λ m t. h .toCome m (omega arith);
+      came = skip-came;
+      only = skip-only;
     }
 
   turn-law : (ks : List ℕ) (cur : List Name) → Apart f ks → Midway ks cur → Midway [] (inTurn f ks cur)
   unfolding inTurn next two
   turn-law [] cur a h = h
-  turn-law (n ∷ ks) cur a h =
-      let z = h .toCome n (in-front′ n ks) in
-      let y = held-flag ns n (z .1) in
-      let fl : flagOf cur n ≡ some (y .0) = z .0 ∙ y .1 in
-      subst (λ (o : Option Bool). Midway [] (inTurn f ks (moved n (f n) cur o))) (sym fl)
-      (turn-law ks (next n ks cur (y .0) (a .0) h fl) (a .1) (midway-next n ks cur (y .0) (a .0) h fl))
+  turn-law (n ∷ ks) cur a h = go (flagOf cur n) refl (λ xs. turn-law ks xs (a .1))
     where
-      in-front′ : (n : ℕ) (ks : List ℕ) → 1 ≤ times n (n ∷ ks)
-      in-front′ n ks = let c : count1 (eqb n n) ≡ 1 = count-yes (eqb-self n) in omega arith
+      go : (o : Option Bool) → flagOf cur n ≡ o → ((xs : List Name) → Midway ks xs → Midway [] (inTurn f ks xs)) → Midway [] (inTurn f ks (moved n (f n) cur o))
+      go none fl r = r cur (midway-skip n ks cur h fl)
+      go (some b) fl r = r (next n ks cur b (a .0) h fl) (midway-next n ks cur b (a .0) h fl)
 
   -- together: each name's flag is at its new name
   together : (ms : List Name) → ascending ms ≡ true → ((n : ℕ) → holds ms n ≡ true → holds ns n ≡ true) → (n : ℕ) → holds ns n ≡ true → flagOf (renameNames f ms) (f n) ≡ flagOf ms n
@@ -277,14 +305,15 @@ module _ (f : ℕ → ℕ) (ns : List Name) (inj : (m n : ℕ) → holds ns m �
       place-flag (withId f a) (renameNames f ms) (f n) (together ms rest sub′ (a .id) ha ∙ none-below ms (a .id) (a .id) up (omega arith))
       ∙ (λ i. cond (same-test f ns inj n (a .id) h ha i) (some (a .mutable)) (together ms rest sub′ n h i))
 
-  in-turn : (ks : List ℕ) → ascending ns ≡ true → Apart f ks → ((n : ℕ) → times n ks ≡ count1 (holds ns n)) → inTurn f ks ns ≡ renameNames f ns
-  in-turn ks asc a c =
+  -- ks: the old names; another name that is held stays
+  pub in-turn : (ks : List ℕ) → ascending ns ≡ true → Apart f ks → ((n : ℕ) → times n ks ≤ 1) → ((n : ℕ) → holds ns n ≡ true → times n ks ≡ 0 → f n ≡ n) → inTurn f ks ns ≡ renameNames f ns
+  in-turn ks asc a once stay =
       let m : Midway [] (inTurn f ks ns) = turn-law ks ns a (record {
         asc = asc;
-        once = λ n. let x : times n ks ≡ count1 (holds ns n) = c n in let y : count1 (holds ns n) ≤ 1 = count-le (holds ns n) in omega arith;
-        toCome = λ n t. (refl, yes-held n t);
-        came = λ n h t. absurd (let x : times n ks ≡ count1 (holds ns n) = c n in let y : count1 (holds ns n) ≡ 1 = count-yes h in omega arith);
-        only = λ k h. inl (let x : times k ks ≡ count1 (holds ns k) = c k in let y : count1 (holds ns k) ≡ 1 = count-yes h in omega arith);
+        once = once;
+        toCome = λ n t. refl;
+        came = λ n h t. (ap (flagOf ns) (stay n h t), ap (λ (k : ℕ). times k ks) (stay n h t) ∙ t);
+        only = λ k h. decide (leb 1 (times k ks)) (λ z. inl (leb-le z)) (λ z. let w : times k ks < 1 = leb-gt {m = 1} z in inr (k, h, omega arith, sym (stay k h (omega arith))));
       }) in
       names-ext (inTurn f ks ns) (renameNames f ns) (m .asc) (names-ascend f ns inj little ns (λ n h. h) asc)
       (λ k. decide (holds (inTurn f ks ns) k)
@@ -295,9 +324,6 @@ module _ (f : ℕ → ℕ) (ns : List Name) (inj : (m n : ℕ) → holds ns m �
       absurd (none≢some (sym (flag-none (inTurn f ks ns) k h) ∙ subst (λ (j : ℕ). flagOf (inTurn f ks ns) j ≡ flagOf ns (z .0)) (sym (z .2)) (m .came (z .0) (z .1) refl .0) ∙ y .1)))
       (λ g. g)))))
     where
-      yes-held : (n : ℕ) → 1 ≤ times n ks → holds ns n ≡ true
-      yes-held n t = decide (holds ns n) (λ h. h) (λ h. let x : times n ks ≡ count1 (holds ns n) = c n in let y : count1 (holds ns n) ≡ 0 = count-no h in absurd (omega arith))
-
       from : Midway [] (inTurn f ks ns) → (k : ℕ) → (1 ≤ 0) ⊎ ((n : ℕ) × (holds ns n ≡ true) × (times n [] ≡ 0) × (k ≡ f n)) → flagOf (inTurn f ks ns) k ≡ flagOf (renameNames f ns) k
       from m k (inl w) = absurd (omega arith)
       from m k (inr w) =
@@ -306,7 +332,7 @@ module _ (f : ℕ → ℕ) (ns : List Name) (inj : (m n : ℕ) → holds ns m �
 
 -- ---- ascending
 
-abbrev Sorted : List ℕ → Type 0
+abbrev pub Sorted : List ℕ → Type 0
 Sorted [] = Unit {0}
 Sorted (n ∷ ks) = ((m : ℕ) → 1 ≤ times m ks → n < m) × (Sorted ks)
 
@@ -352,12 +378,12 @@ place-sorted n (m ∷ ms) s = go (ltb n m) (eqb n m) refl refl (place-sorted n m
         let y : n ≢ m = eqb-ne {m = n} {n = m} q in
         ((λ k h. over (omega arith) k (in-place n ms k h)), r)
 
-ascend-sorted : (xs : List ℕ) → Sorted (ascend xs)
+pub ascend-sorted : (xs : List ℕ) → Sorted (ascend xs)
 unfolding ascend
 ascend-sorted [] = tt
 ascend-sorted (x ∷ xs) = place-sorted x (ascend xs) (ascend-sorted xs)
 
-to-apart : (f : ℕ → ℕ) (ks : List ℕ) → Sorted ks → ((n m : ℕ) → 1 ≤ times n ks → 1 ≤ times m ks → n < m → f n ≢ m) → Apart f ks
+pub to-apart : (f : ℕ → ℕ) (ks : List ℕ) → Sorted ks → ((n m : ℕ) → 1 ≤ times n ks → 1 ≤ times m ks → n < m → f n ≢ m) → Apart f ks
 to-apart f [] s h = tt
 to-apart f (n ∷ ks) s h = (
   (λ m t. h n m (let c : count1 (eqb n n) ≡ 1 = count-yes (eqb-self n) in omega arith) (omega arith) (s .0 m t)),
@@ -391,7 +417,8 @@ remapped-canonical l m ls g next t b c o e =
     let q : inTurn f ks (g .names) ≡ renameNames f (g .names) =
     in-turn f (g .names) inj (λ n h. small l s op n (place l s op n h)) ks (wf→inv g (o .formed) .asc)
     (to-apart f ks (ascend-sorted (l ∷ localNames ls)) (λ n k p r lt. far (not-true (z .0)) n k (key n p) (key k r) lt))
-    (λ n. same n ∙ o .counts n) in
+    (λ n. let x : times n ks ≡ count1 (holds (g .names) n) = same n ∙ o .counts n in let y : count1 (holds (g .names) n) ≤ 1 = count-le (holds (g .names) n) in omega arith)
+    (λ n h w. let x : times n ks ≡ count1 (holds (g .names) n) = same n ∙ o .counts n in let y : count1 (holds (g .names) n) ≡ 1 = count-yes h in absurd (omega arith)) in
     (λ i. record { locals = ownNames 0 ls; graph = record { names = q i; edges = renamed f g .edges } }) ∙ ok-inj (z .1)
   where
     s : State

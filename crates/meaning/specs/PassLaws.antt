@@ -3,20 +3,19 @@ use Prim.Native.Nat.{ℕ, _+_, _≤_, _<_}
 use native.Mathlib.Omega.{arith}
 use mathlib.Core.Path.{_≡_, refl, sym, ap, _∙_, subst}
 use mathlib.Core.Bool.{Bool, true, false, not, _&&_, cond}
-use mathlib.Core.List.{List, [], _∷_, _++_, map}
+use mathlib.Core.List.{List, [], _∷_, _++_}
 use lib.ListN.{length}
 use lib.Dec.{leb, eqb}
 use Rattle.meaning.specs.Base.{Ans, ok, refuse, andThen, guard, all, keep, each, ok-inj, andThen-ok, guard-ok, decide, both, and-l, and-r, eqb-eq, eqb-self, eqb-no, leb-le, le-leb, leb-gt}
 use Rattle.meaning.specs.Sets.{Edge, EdgeSet, insert, offer, within, setOk, isBlur, covered, short, ordered}
-use Rattle.meaning.specs.SetLaws.{setOk-blurred}
 use Rattle.meaning.specs.PlaceLaws.{offer-insert}
-use Rattle.meaning.specs.Graph.{GEdge, Graph, Name, held, eqPair, setAt, setTo, pairOk, wellFormed, splice, spliced, without, release, unmatched, sameNames, joinGraphs}
-use Rattle.meaning.specs.GraphLaws.{insertAll, wf→inv}
+use Rattle.meaning.specs.Graph.{GEdge, Graph, Name, held, eqPair, setAt, setTo, pairOk, wellFormed, splice, spliced, without, release, sameNames, joinGraphs}
+use Rattle.meaning.specs.GraphLaws.{wf→inv}
 use Rattle.meaning.specs.CallLaws.{other, without-inv}
 use Rattle.meaning.specs.Pairs.{Pair, ends, edgesAt, newSet, fits, replaceOne, replaceLim, or21, twoPass, withEdges, exactly, firsts, loopAt, across, releasePairs, joinPairs}
 use Rattle.meaning.specs.PairLaws.{Neat, inv-neat, setTo-neat, length-setTo, insertAll-setOk, pass-end, pass-append}
 use Rattle.meaning.specs.PairCallLaws.{release-new, release-pairwise, releasePairs-stay, stay-apart, join-new, join-pairwise, firsts-take, firsts-skip}
-use Rattle.meaning.specs.Passes.{fitting, apart, splices, spliceSet, uncovered, joinSet, childrenFrom, parentsFrom, childRow, splicePairs, pairsFrom}
+use Rattle.meaning.specs.Passes.{fitting, apart, splices, spliceSet, uncovered, joinSet, childrenFrom, parentsFrom, splicePairs, pairsFrom}
 
 -- ---- sets
 

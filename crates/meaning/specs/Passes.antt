@@ -8,7 +8,7 @@ use Rattle.meaning.specs.Base.{Ans, ok, guard, keep, each}
 use Rattle.meaning.specs.Sets.{Edge, EdgeSet, covered}
 use Rattle.meaning.specs.Graph.{GEdge, setAt, splice}
 use Rattle.meaning.specs.GraphLaws.{insertAll}
-use Rattle.meaning.specs.Pairs.{Pair, edgesAt, firsts, loopAt, across}
+use Rattle.meaning.specs.Pairs.{Pair, edgesAt, firsts, across}
 
 -- an edge whose path has at most 8 labels, or the refusal 22
 unfoldable pub fitting : Edge → Ans Edge

@@ -98,7 +98,7 @@ rename-all f t [] h = refl
 rename-all f t (x ∷ xs) h =
     place-all t (withEnds f x) (renameEdges f xs) (and-l (t (withEnds f x)) (all (λ y. t (withEnds f y)) xs) h) (rename-all f t xs (and-r (t (withEnds f x)) (all (λ y. t (withEnds f y)) xs) h))
 
-rename-length : (f : ℕ → ℕ) (xs : List GEdge) → length (renameEdges f xs) ≡ length xs
+pub rename-length : (f : ℕ → ℕ) (xs : List GEdge) → length (renameEdges f xs) ≡ length xs
 unfolding renameEdges
 rename-length f [] = refl
 rename-length f (x ∷ xs) = place-length (withEnds f x) (renameEdges f xs) ∙ ap suc (rename-length f xs)
@@ -149,7 +149,7 @@ module _ (f : ℕ → ℕ) (ns : List Name) (inj : (m n : ℕ) → holds ns m �
       go (inl e) r = or-l (holds (renameNames f ms) (f n)) (subst (λ (k : ℕ). eqb (f n) (f k) ≡ true) (eqb-eq {m = n} {n = a .id} e) (eqb-self (f n)))
       go (inr e) r = or-r (eqb (f n) (f (a .id))) (r e)
 
-  names-length : (ms : List Name) → length (renameNames f ms) ≡ length ms
+  pub names-length : (ms : List Name) → length (renameNames f ms) ≡ length ms
   unfolding renameNames
   names-length [] = refl
   names-length (a ∷ ms) = length-place (withId f a) (renameNames f ms) ∙ ap suc (names-length ms)

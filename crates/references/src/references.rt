@@ -1,8 +1,8 @@
 // Names of references, edges and sets of edges (references.rs).
 use crate::paths;
 use crate::paths::Ordering;
-use meaning::MAX_EDGE_SET_SIZE;
 use crate::paths::Path;
+use meaning::MAX_EDGE_SET_SIZE;
 ghost use mathlib.Core.Path.{_≡_};
 ghost use mathlib.Core.Bool.{true, false};
 ghost use mathlib.Core.List.{_∷_, _++_};
@@ -141,7 +141,11 @@ impl BorrowEdgeSet {
         ensures { λ r. ⌜ (r ≡ length (edgesOf self)) × (r ≤ 10) ⌝ }
     {
         let n = self.len as usize;
-        if n < MAX_EDGE_SET_SIZE { n } else { MAX_EDGE_SET_SIZE }
+        if n < MAX_EDGE_SET_SIZE {
+            n
+        } else {
+            MAX_EDGE_SET_SIZE
+        }
     }
 
     pub fn is_empty(self) -> bool

@@ -2,8 +2,8 @@ use mathlib.Core.Path.{_≡_, refl, sym, ap, _∙_}
 use mathlib.Core.List.{List, _∷_}
 use Prim.Native.Nat.{_+_, _-_}
 use lib.ListN.{drop, getD}
-use Rattle.meaning.specs.Base.{Ans, andThen}
-use Rattle.meaning.specs.Sets.{Edge, EdgeSet, insert, covered}
+use Rattle.meaning.specs.Base.{andThen}
+use Rattle.meaning.specs.Sets.{Edge, insert}
 use Rattle.meaning.specs.GraphLaws.{insertAll}
 use Rattle.meaning.specs.PairLaws.{insertAll-on, insertAll-end}
 use Rattle.meaning.specs.Passes.{uncovered}

@@ -1,11 +1,10 @@
-use mathlib.Core.Path.{_≡_, sym, ap, _∙_}
+use mathlib.Core.Path.{_≡_, ap, _∙_}
 use mathlib.Core.List.{_++_}
 use lib.ListN.{length}
 use Rattle.meaning.specs.Passes.{fitting}
 use Rattle.meaning.specs.PassLaws.{fitting-within, fitting-short, splice-strong, splice-weak}
 use Rattle.references.specs.Models.{pathOf, edgeOf}
 use Rattle.references.specs.ModelLaws.{path-short}
-use native.Mathlib.Omega.{arith}
 use borrow.Author.Needs.{needs}
 use Rattle.borrow_graph.proofs.release.splice.Statement.{statement}
 use Rattle.borrow_graph.proofs.release.splice.Tie as tie

@@ -2,8 +2,8 @@ use mathlib.Core.Path.{_≡_, refl, sym, ap, _∙_}
 use mathlib.Core.List.{List, map}
 use Prim.Native.Nat.{_+_, _-_}
 use lib.ListN.{drop, getD}
-use Rattle.meaning.specs.Base.{Ans, andThen}
-use Rattle.meaning.specs.Sets.{Edge, EdgeSet}
+use Rattle.meaning.specs.Base.{andThen}
+use Rattle.meaning.specs.Sets.{Edge}
 use Rattle.meaning.specs.Graph.{splice}
 use Rattle.meaning.specs.GraphLaws.{insertAll}
 use Rattle.meaning.specs.PairLaws.{insertAll-append, insertAll-end}

@@ -3,7 +3,7 @@ use mathlib.Core.List.{List, map}
 use Prim.Native.Nat.{_+_, _-_}
 use lib.ListN.{drop, getD}
 use Rattle.meaning.specs.Base.{Ans, andThen}
-use Rattle.meaning.specs.Sets.{Edge, EdgeSet, insert, offer}
+use Rattle.meaning.specs.Sets.{Edge, insert, offer}
 use Rattle.meaning.specs.Graph.{splice}
 use Rattle.meaning.specs.GraphLaws.{insertAll}
 use Rattle.meaning.specs.PairLaws.{insertAll-on, insertAll-end}

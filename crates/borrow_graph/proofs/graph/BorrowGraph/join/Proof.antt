@@ -1,10 +1,9 @@
-use mathlib.Core.Path.{_≡_, refl, sym, ap, _∙_}
-use mathlib.Core.Bool.{Bool, true, false, _&&_}
+use mathlib.Core.Path.{sym, ap, _∙_}
 use mathlib.Core.List.{List}
 use Rattle.meaning.specs.Base.{Ans, ok, andThen, answered, declined}
 use Rattle.meaning.specs.Graph.{GEdge, Graph}
 use Rattle.meaning.specs.PassLaws.{join-9, join-when, join-neat}
-use Rattle.borrow_graph.specs.Models.{refsOf, edgesOf, graphOf, replacedOf}
+use Rattle.borrow_graph.specs.Models.{edgesOf, graphOf, replacedOf}
 use Rattle.borrow_graph.specs.ModelLaws.{told-yes, told-no, told-declined}
 use borrow.Author.Needs.{needs}
 use Rattle.borrow_graph.proofs.graph.BorrowGraph.join.Statement.{statement}

@@ -1,6 +1,5 @@
 use mathlib.Core.Bool.{_&&_}
 use Rattle.meaning.specs.Graph.{sameNames}
-use native.Mathlib.Omega.{arith}
 use borrow.Author.Needs.{needs}
 use Rattle.borrow_graph.proofs.graph.BorrowGraph.joinable.Statement.{statement}
 use Rattle.borrow_graph.proofs.graph.BorrowGraph.joinable.Tie as tie

@@ -3,7 +3,6 @@ use mathlib.Core.Bool.{Bool, true, false, _&&_}
 use mathlib.Core.List.{List}
 use Rattle.meaning.specs.Base.{Ans, ok, andThen, keep, and-l, answered, declined}
 use Rattle.meaning.specs.Graph.{GEdge, Graph, wellFormed, held}
-use Rattle.meaning.specs.Graph as G
 use Rattle.meaning.specs.CallLaws.{other}
 use Rattle.meaning.specs.PassLaws.{release-9, release-when, without-neat, wf-neat}
 use Rattle.borrow_graph.specs.Models.{refsOf, edgesOf, graphOf, replacedOf}

@@ -1,15 +1,12 @@
 use mathlib.Core.Path.{_≡_, sym, ap, _∙_}
 use mathlib.Core.Bool.{true, false}
 use Prim.Native.Nat.{ℕ}
-use Rattle.meaning.specs.Base.{Ans, andThen}
-use Rattle.meaning.specs.Sets.{EdgeSet}
-use Rattle.meaning.specs.Graph.{GEdge}
+use Rattle.meaning.specs.Base.{andThen}
 use Rattle.meaning.specs.Pairs.{loopAt, replaceLim, twoPass}
 use Rattle.meaning.specs.Passes.{joinSet, pairsFrom}
 use Rattle.meaning.specs.PassLaws.{joinSet-ok, pass-neat, pass-again}
 use Rattle.borrow_graph.specs.Models.{edgesOf, told}
 use Rattle.borrow_graph.specs.ModelLaws.{told-yes, told-on, told-off, told-first}
-use borrow.Author.Needs.{needs}
 use Rattle.borrow_graph.proofs.graph.GraphEdges.join_all.Statement.{statement}
 use Rattle.borrow_graph.proofs.graph.GraphEdges.join_all.Tie as tie
 

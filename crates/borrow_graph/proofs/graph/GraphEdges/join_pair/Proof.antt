@@ -7,7 +7,6 @@ use Rattle.meaning.specs.Passes.{uncovered, joinSet}
 use Rattle.meaning.specs.PassLaws.{neat-few, pass-one}
 use Rattle.references.specs.Models.{insertedOf}
 use Rattle.borrow_graph.specs.Models.{edgesOf}
-use native.Mathlib.Omega.{arith}
 use borrow.Author.Needs.{needs}
 use Rattle.borrow_graph.proofs.graph.GraphEdges.join_pair.Statement.{statement}
 use Rattle.borrow_graph.proofs.graph.GraphEdges.join_pair.Tie as tie

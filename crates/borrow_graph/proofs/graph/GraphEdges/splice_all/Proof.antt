@@ -1,9 +1,7 @@
 use mathlib.Core.Path.{_≡_, sym, ap, _∙_}
 use mathlib.Core.Bool.{true, false}
 use Prim.Native.Nat.{ℕ}
-use Rattle.meaning.specs.Base.{Ans, andThen}
-use Rattle.meaning.specs.Sets.{EdgeSet}
-use Rattle.meaning.specs.Graph.{GEdge}
+use Rattle.meaning.specs.Base.{andThen}
 use Rattle.meaning.specs.Pairs.{replaceLim, twoPass}
 use Rattle.meaning.specs.Passes.{spliceSet, splicePairs}
 use Rattle.meaning.specs.PassLaws.{spliceSet-ok, pass-neat, pass-again}
