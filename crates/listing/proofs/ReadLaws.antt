@@ -9,11 +9,10 @@ use lib.ListN.{length, take, getD}
 use lib.Seq.{getD-take}
 use lib.Dec.{ltb, eqb, eqb·suc-zero}
 use borrow.Author.Tests.{lt-ltb, le-ltb, eq-eqb, ne-eqb}
-use Rattle.meaning.specs.Base.{all, decide, and-l, and-r, eqb-eq, le-leb, all-imp}
+use Rattle.meaning.specs.Base.{all, decide, and-l, and-r, eqb-eq, le-leb, all-imp, empty}
 use Rattle.meaning.specs.Running.{Token}
 use Rattle.meaning.specs.Loop as M
 use Rattle.meaning.specs.Steps as I
-use Rattle.meaning.specs.Blocks.{empty}
 use Rattle.meaning.specs.Blocks as Q
 use Rattle.meaning.specs.Listing as D
 use Rattle.meaning.specs.ListingLaws.{passed, two-successors, call-limits, frame-limits, okBlock, okCode, Good, places-good, none-good, first-passed, first-kind, read-places}

@@ -10,8 +10,7 @@ use lib.ListN.{length, take, drop, getD, set, length-take, length-drop, drop-of-
 use lib.Seq.{drop-cons, drop-drop, getD-take, take-suc-set, take-all, length-take-le}
 use lib.Dec.{leb, eqb}
 use borrow.Author.Tests.{lt-leb, lt-ltb, le-ltb, eq-eqb, ne-eqb}
-use Rattle.meaning.specs.Base.{all, leb-le, le-leb, and-i, and-l, and-r, not-true}
-use Rattle.meaning.specs.Blocks.{empty}
+use Rattle.meaning.specs.Base.{all, leb-le, le-leb, and-i, and-l, and-r, not-true, empty}
 use Rattle.meaning.specs.Listing as D
 use Rattle.meaning.specs.ListingLaws.{places-step}
 use Rattle.records.specs.declared.shapes.Shape.{Shape}
