@@ -1,15 +1,10 @@
--- Release as passes over the list of edges, with the limit tested after each edge.
+-- What a release splices, by passes over the list of edges.
 use Prim.Native.Nat.{ℕ}
 use mathlib.Core.Bool.{Bool, true, false, not, _&&_, cond}
 use mathlib.Core.List.{List, [], _∷_, _++_}
 use lib.Dec.{eqb}
 use Rattle.meaning.specs.Base.{Ans, ok, refuse, andThen, guard, each}
 use Rattle.meaning.specs.Graph.{GEdge, Graph, held, between, splice, addEdge, limit, without, wellFormed}
-
-unfoldable pub addLim : List GEdge → Graph → Ans Graph
-unfolding addEdge limit
-addLim [] g = ok g
-addLim (x ∷ xs) g = andThen (andThen (addEdge g x) limit) (λ h. addLim xs h)
 
 -- x ends at n: what it makes with y
 abbrev pub meet : ℕ → GEdge → GEdge → List GEdge
@@ -25,7 +20,3 @@ rowIf n ys x = cond (eqb n (x .child)) (row n ys x) []
 unfoldable pub rows : ℕ → List GEdge → List GEdge → List GEdge
 unfolding row
 rows n ys xs = each xs (rowIf n ys)
-
-unfoldable pub releaseLim : Graph → ℕ → Ans Graph
-unfolding wellFormed addLim rows without
-releaseLim g n = guard (wellFormed g && held g n) 9 (addLim (rows n (g .edges) (g .edges)) (without g n))

@@ -11,9 +11,9 @@ use Rattle.meaning.specs.Graph.{Name, GEdge, Graph, holds, held, eqPair,
 use Rattle.meaning.specs.GraphLaws.{insertAll, Inv, wf→inv, room, eqPair-self, eqPair-l, eqPair-r}
 use Rattle.meaning.specs.CanonLaws.{setAt-hit, setAt-miss}
 use Rattle.meaning.specs.CallLaws.{other, holds-all, holds-keep, without-inv, without-set}
-use Rattle.meaning.specs.Flat.{meet, row, rowIf, rows, releaseLim}
-use Rattle.meaning.specs.FlatLaws.{release-bare, without-formed}
-use Rattle.meaning.specs.SplicedLaws.{spliced-rows, release-exact}
+use Rattle.meaning.specs.Flat.{meet, row, rowIf, rows}
+use Rattle.meaning.specs.AddLaws.{without-formed}
+use Rattle.meaning.specs.SplicedLaws.{spliced-rows}
 use Rattle.meaning.specs.Pairs.{Pair, ends, hasPair, edgesAt, newSet, exactly, firsts, loopAt, parentPairs, childPairs, across, releasePairs, joinPairs}
 use Rattle.meaning.specs.PairLaws.{same-at, has-later, exactly-is}
 
@@ -350,13 +350,6 @@ release-pairwise g n = go (wellFormed g && held g n) refl
         let w : wellFormed g ≡ true = and-l (wellFormed g) (held g n) e in
         let v : Inv g = wf→inv g w in
         sym (exactly-is (without g n) (without-inv g n v) (spliced g n) (releasePairs g n) (release-covered g n v) (leb-le (room (without g n) (without-formed g n w (leb-le (room g w))))))
-
--- n is not both a parent and a child: it is only taken out
-pub release-only : (g : Graph) (n : ℕ) → wellFormed g ≡ true → held g n ≡ true → any (λ y. eqb n (y .parent)) (g .edges) && any (λ y. eqb n (y .child)) (g .edges) ≡ false
-    → release g n ≡ ok (without g n)
-release-only g n w h e =
-    let q : ok (without g n) ≡ releaseLim g n = release-bare g n w h e in
-    sym (q ∙ release-exact g n (λ z. refuse≢ok (sym z ∙ sym q)))
 
 -- ---- the join of graphs
 

@@ -13,7 +13,6 @@ use Rattle.meaning.specs.SetLaws.{inserted, insert-setOk, setOk-blurred}
 use Rattle.meaning.specs.Graph.{GEdge, Graph, eqPair, ltPair, setAt, setTo, union, one, tagged, isBefore, isAfter, inOrder, pairOk, onPairs, wellFormed, addEdge, addAll, limit}
 use Rattle.meaning.specs.GraphLaws.{insertAll, addAll-at, addEdge-added, Added, Inv, wf→inv, inv→wf, room, limit-ok, addAll-inv, addAll-names, addAll-order, addAll-setOk, solid, nonEmpty, setAt-solid, setTo-self, setTo-other, setTo-order, eqPair-self, eqPair-l, eqPair-r, not-before-self, at-or-empty}
 use Rattle.meaning.specs.CanonLaws.{setOk-lone, edges-ext, setAt-miss, setAt-head}
-use Rattle.meaning.specs.SlotLaws.{setTo-same}
 use Rattle.meaning.specs.Pairs.{Pair, hasPair, edgesAt, newSet, replaceAll, fits, replaceOne, replaceLim, or21, twoPass, withEdges, exactly}
 
 -- ---- a pair's set replaced
@@ -65,7 +64,13 @@ setTo-neat p c s es h n = record {
 
 -- the set that it has already
 pub setTo-idle : (p c : ℕ) (es : List GEdge) → Neat es → setTo p c (setAt p c es) es ≡ es
-setTo-idle p c es n = setTo-same p c es (n .order) (n .sets)
+setTo-idle p c es n =
+    neat-ext (setTo p c (setAt p c es) es) es (setTo-neat p c (setAt p c es) es (n .sets p c) n) n
+    (λ q d. at-setTo q d p c (setAt p c es) es (setOk-solid (setAt p c es) (n .sets p c)) ∙ go q d (eqPair q d p c) refl)
+  where
+    go : (q d : ℕ) (b : Bool) → eqPair q d p c ≡ b → cond b (setAt p c es) (setAt q d es) ≡ setAt q d es
+    go q d true e = same-at (λ a b. setAt p c es ≡ setAt a b es) p c q d e refl
+    go q d false e = refl
 
 -- different pairs, in either order
 pub setTo-swap : (p c q d : ℕ) (s t : EdgeSet) (es : List GEdge) → eqPair p c q d ≡ false → setOk s ≡ true → setOk t ≡ true → Neat es

@@ -13,8 +13,7 @@ use Rattle.meaning.specs.Graph.{Name, GEdge, Graph, holds, pairOk, onPai
 use Rattle.meaning.specs.GraphLaws.{Inv, wf→inv, inv→wf, room}
 use Rattle.meaning.specs.Borrow.{moves, shift, borrowStrong}
 use Rattle.meaning.specs.BorrowLaws.{keep-inv}
-use Rattle.meaning.specs.AddLaws.{limit-pass, limit-stop}
-use Rattle.meaning.specs.FlatLaws.{Kept, add-keeps}
+use Rattle.meaning.specs.AddLaws.{limit-pass, limit-stop, Kept, add-keeps}
 use Rattle.meaning.specs.Pairs.{edgesAt}
 use Rattle.meaning.specs.PairLaws.{length-setTo}
 

@@ -13,8 +13,7 @@ use Rattle.meaning.specs.Graph.{Name, GEdge, Graph, held, holds, pairOk,
 use Rattle.meaning.specs.GraphLaws.{Inv, wf→inv, room, inv→wf, eqPair-self, eqPair-l, eqPair-r}
 use Rattle.meaning.specs.CanonLaws.{setAt-hit, setAt-miss, none-before}
 use Rattle.meaning.specs.CallLaws.{holds-all}
-use Rattle.meaning.specs.Flat.{addLim, meet, row, rowIf, rows, releaseLim}
-use Rattle.meaning.specs.FlatLaws.{lim-exact, without-formed}
+use Rattle.meaning.specs.Flat.{meet, row, rowIf, rows}
 
 each-cong : {A B : Type 0} (f g : A → List B) (q : A → Bool) → ((x : A) → q x ≡ true → f x ≡ g x) → (xs : List A) → all q xs ≡ true → each xs f ≡ each xs g
 each-cong f g q h [] p = refl
@@ -135,17 +134,3 @@ module _ (g : Graph) (n : ℕ) (v : Inv g) where
       (λ m x t. (and-r (eqb m (x .parent)) (eqb n (x .child)) t, eqb-eq (and-l (eqb m (x .parent)) (eqb n (x .child)) t)))
       (λ m x t l. or-l (eqb m (x .parent) && ltb n (x .child)) (ltb-of l))
       (g .names) (v .asc) (g .edges) (v .order) parents
-
--- Release by passes is release, unless it answers 21.
-pub release-exact : (g : Graph) (n : ℕ) → releaseLim g n ≢ refuse 21 → releaseLim g n ≡ release g n
-unfolding releaseLim release
-release-exact g n no′ = go (wellFormed g && held g n) refl no′
-  where
-    go : (b : Bool) → wellFormed g && held g n ≡ b → guard b 9 (addLim (rows n (g .edges) (g .edges)) (without g n)) ≢ refuse 21
-        → guard b 9 (addLim (rows n (g .edges) (g .edges)) (without g n)) ≡ guard b 9 (andThen (addAll (spliced g n) (without g n)) limit)
-    go false t m = refl
-    go true t m =
-        let w : wellFormed g ≡ true = and-l (wellFormed g) (held g n) t in
-        let wl = room (without g n) (without-formed g n w (leb-le (room g w))) in
-        lim-exact (rows n (g .edges) (g .edges)) (without g n) (leb-le wl) m
-        ∙ ap (λ (l : List GEdge). andThen (addAll l (without g n)) limit) (sym (spliced-rows g n (wf→inv g w)))

@@ -1,6 +1,6 @@
 use mathlib.Core.Path.{_≡_, refl, sym, ap, _∙_}
 use mathlib.Core.Bool.{Bool, _||_}
-use Rattle.meaning.specs.Base.{or-false}
+use Rattle.meaning.specs.Base.{or-false, or-assoc}
 use mathlib.Core.List.{List, _∷_, _++_, map, append-nil}
 use Prim.Native.Nat.{ℕ, suc, _+_, _-_, _<_, _≤_}
 use native.Mathlib.Nat.{add-zero}
@@ -10,7 +10,6 @@ use Rattle.meaning.specs.Sets.{Edge, EdgeSet}
 use Rattle.meaning.specs.Graph.{GEdge, isBefore, setAt}
 use Rattle.meaning.specs.Pairs.{edgesAt}
 use Rattle.meaning.specs.ArrayLaws.{push-map}
-use Rattle.meaning.specs.FlatLaws.{or-assoc}
 use Rattle.meaning.specs.CutLaws.{less-set, less-low, equal-set, equal-low, greater-set, greater-low}
 use Rattle.references.specs.Models.{orderingOf, edgeOf}
 use Rattle.references.specs.ModelLaws.{set-made}
