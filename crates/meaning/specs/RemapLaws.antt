@@ -239,7 +239,7 @@ old-once (m ∷ ms) t n = decide (eqb n (m .old))
 abbrev pub oneByOne : Graph → List Change → Graph
 oneByOne g ms = record { names = inTurn (changed ms) (ascend (map (λ m. m .old) ms)) (g .names); edges = renameEdges (changed ms) (g .edges) }
 
--- Where it is not refused, the rename gives what the Rust's renaming one by one gives.
+-- Where it is not refused, the names come out as by the Rust's renaming one by one. The edges' ends are renamed together on both sides.
 pub remap-one-by-one : (g h : Graph) (ms : List Change) → all (λ m. ltb (m .new) 65536) ms ≡ true → remap g ms ≡ ok h → oneByOne g ms ≡ h
 unfolding renamed
 remap-one-by-one g h ms s r =
