@@ -1,0 +1,2 @@
+-- Laws of what the values stand for.
+use Prim.Native.Nat.{ℕ}

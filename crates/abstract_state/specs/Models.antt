@@ -1,0 +1,42 @@
+-- What the values of the code stand for in the definitions.
+use Prim.Native.Nat.{ℕ}
+use mathlib.Core.Bool.{Bool, cond}
+use mathlib.Core.List.{List, map}
+use lib.Dec.{eqb}
+use lib.ListN.{take}
+use Rattle.meaning.specs.Graph.{Graph}
+use Rattle.meaning.specs.State as S
+use Rattle.meaning.specs.State.{State}
+use Rattle.meaning.specs.Running as R
+use Rattle.meaning.specs.Running.{Outcome, done, violated, refused, Operand, nonRef, reference, Running, Answer}
+use Rattle.borrow_graph.specs.Models.{graphOf}
+use Rattle.abstract_state.specs.declared.state.AbstractValue.{AbstractValue}
+use Rattle.abstract_state.specs.declared.state.AbstractValue.the-variants.{Reference, NonReference}
+use Rattle.abstract_state.specs.declared.state.Local.{Local}
+use Rattle.abstract_state.specs.declared.state.AbstractState.{AbstractState}
+
+abbrev pub operandOf : AbstractValue → Operand
+operandOf (Reference n) = reference (n .0)
+operandOf NonReference = nonRef
+
+abbrev pub localOf : Local → S.Local
+localOf x = cond (x .present) (R.localOf (operandOf (x .value))) S.Local.absent
+
+unfoldable pub localsIn : List Local → ℕ → List S.Local
+localsIn xs n = map localOf (take n xs)
+
+abbrev pub runningOf : AbstractState → Running
+runningOf s = record { locals = localsIn (s .locals) (s .«num_locals»); graph = graphOf (s .«borrow_graph»); next = s .«next_id»; root = s .«num_locals» }
+
+-- done, or where it stopped: the violation's code, the refusal's number
+abbrev pub halted : {A : Type 0} → ℕ → ℕ → A → Outcome A
+halted v n a = cond (eqb v 0) (cond (eqb n 0) (done a) (refused n)) (violated v)
+
+abbrev pub outcomeOf : AbstractState → Outcome Running
+outcomeOf s = halted (s .violation) (s .refusal) (runningOf s)
+
+abbrev pub answerOf : AbstractState → Outcome Answer
+answerOf s = halted (s .violation) (s .refusal) (record { state = runningOf s; operand = operandOf (s .value) })
+
+abbrev pub stateOf : AbstractState → State
+stateOf s = record { locals = localsIn (s .locals) (s .«num_locals»); graph = graphOf (s .«borrow_graph») }

@@ -1,0 +1,2 @@
+-- Laws of the entry points.
+use Prim.Native.Nat.{ℕ}
