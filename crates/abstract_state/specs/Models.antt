@@ -4,11 +4,12 @@ use mathlib.Core.Bool.{Bool, cond}
 use mathlib.Core.List.{List, map}
 use lib.Dec.{eqb}
 use lib.ListN.{take}
+use Rattle.meaning.specs.Base.{Ans}
 use Rattle.meaning.specs.Graph.{Graph}
 use Rattle.meaning.specs.State as S
 use Rattle.meaning.specs.State.{State}
 use Rattle.meaning.specs.Running as R
-use Rattle.meaning.specs.Running.{Outcome, done, violated, refused, Operand, nonRef, reference, Running, Answer}
+use Rattle.meaning.specs.Running.{Outcome, done, violated, refused, then, lift, Operand, nonRef, reference, Running, Answer}
 use Rattle.borrow_graph.specs.Models.{graphOf}
 use Rattle.abstract_state.specs.declared.state.AbstractValue.{AbstractValue}
 use Rattle.abstract_state.specs.declared.state.AbstractValue.the-variants.{Reference, NonReference}
@@ -37,6 +38,16 @@ outcomeOf s = halted (s .violation) (s .refusal) (runningOf s)
 
 abbrev pub answerOf : AbstractState → Outcome Answer
 answerOf s = halted (s .violation) (s .refusal) (record { state = runningOf s; operand = operandOf (s .value) })
+
+-- what a question's answer does to a state: refused where the question was; then, nothing, or the violation of a yes, or the refusal of a no
+abbrev pub heeding : Ans Bool → Running → Outcome Running
+heeding t s = then (lift t) (λ b. done s)
+
+abbrev pub failing : Ans Bool → ℕ → Running → Outcome Running
+failing t c s = then (lift t) (λ b. halted (cond b c 0) 0 s)
+
+abbrev pub needing : Ans Bool → ℕ → Running → Outcome Running
+needing t n s = then (lift t) (λ b. halted 0 (cond b 0 n) s)
 
 abbrev pub stateOf : AbstractState → State
 stateOf s = record { locals = localsIn (s .locals) (s .«num_locals»); graph = graphOf (s .«borrow_graph») }

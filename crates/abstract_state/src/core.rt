@@ -8,13 +8,13 @@ use file_format::LocalIndex;
 use references::paths::Label;
 use references::references::RefID;
 ghost use mathlib.Core.Path.{_≡_};
-ghost use mathlib.Core.Bool.{not, cond};
+ghost use mathlib.Core.Bool.{cond};
 ghost use lib.Dec.{ltb};
 ghost use lib.ListN.{getD};
 ghost use Rattle.meaning.specs.State as S;
-ghost use Rattle.meaning.specs.Running.{Outcome, done, then, lift, answer, withLocal, onGraph, newRef, addCopy, addBorrow, addFieldBorrow, addLocalBorrow, addResourceBorrow, releaseName};
+ghost use Rattle.meaning.specs.Running.{Outcome, done, then, answer, withLocal, onGraph, newRef, addCopy, addBorrow, addFieldBorrow, addLocalBorrow, addResourceBorrow, releaseName};
 ghost use Rattle.borrow_graph.specs.Models as G;
-ghost use Rattle.abstract_state.specs.Models.{operandOf, localOf, localsIn, halted, outcomeOf, answerOf};
+ghost use Rattle.abstract_state.specs.Models.{operandOf, localOf, localsIn, halted, heeding, failing, needing, outcomeOf, answerOf};
 
 impl AbstractState {
     pub fn frame_root(self) -> RefID
@@ -61,7 +61,7 @@ impl AbstractState {
 
     // Refused, where the question was.
     pub fn heed(self, t: Told) -> Self
-        ensures { λ r. ⌜ outcomeOf r ≡ then (outcomeOf self) (λ s. then (lift (G.toldOf t)) (λ yes. done s)) ⌝ }
+        ensures { λ r. ⌜ outcomeOf r ≡ then (outcomeOf self) (heeding (G.toldOf t)) ⌝ }
     {
         let mut s = self;
         if (self.violation == 0) & (self.refusal == 0) {
@@ -72,7 +72,7 @@ impl AbstractState {
 
     // Refused, where the question was or its answer is no.
     pub fn need(self, t: Told, number: u8) -> Self
-        ensures { λ r. ⌜ outcomeOf r ≡ then (outcomeOf self) (λ s. then (lift (G.toldOf t)) (λ yes. halted 0 (cond yes 0 number) s)) ⌝ }
+        ensures { λ r. ⌜ outcomeOf r ≡ then (outcomeOf self) (needing (G.toldOf t) number) ⌝ }
     {
         let mut s = self;
         if (self.violation == 0) & (self.refusal == 0) {
@@ -87,7 +87,7 @@ impl AbstractState {
 
     // Refused where the question was; violated where its answer is yes.
     pub fn fail(self, t: Told, code: u8) -> Self
-        ensures { λ r. ⌜ outcomeOf r ≡ then (outcomeOf self) (λ s. then (lift (G.toldOf t)) (λ yes. halted (cond yes code 0) 0 s)) ⌝ }
+        ensures { λ r. ⌜ outcomeOf r ≡ then (outcomeOf self) (failing (G.toldOf t) code) ⌝ }
     {
         let mut s = self;
         if (self.violation == 0) & (self.refusal == 0) {
@@ -105,8 +105,10 @@ impl AbstractState {
         ensures { λ r. ⌜ localOf r ≡ getD (localsIn (self .locals) (self .«num_locals»)) (i .0) S.Local.absent ⌝ }
     {
         let k = i.0 as usize;
-        if (i.0 < self.num_locals) & (k < 16) {
-            return self.locals[k];
+        if i.0 < self.num_locals {
+            if k < 16 {
+                return self.locals[k];
+            }
         }
         Local {
             present: false,
