@@ -15,10 +15,18 @@ use Rattle.abstract_state.specs.declared.state.AbstractValue.{AbstractVa
 use Rattle.abstract_state.specs.declared.state.AbstractValue.the-variants.{Reference, NonReference}
 use Rattle.abstract_state.specs.declared.state.Local.{Local}
 use Rattle.abstract_state.specs.declared.state.AbstractState.{AbstractState}
+use Rattle.abstract_state.specs.declared.state.Operand as D
+use Rattle.abstract_state.specs.declared.state.Operands.{Operands}
 
 abbrev pub operandOf : AbstractValue → Operand
 operandOf (Reference n) = reference (n .0)
 operandOf NonReference = nonRef
+
+unfoldable pub operandsIn : List D.Operand → ℕ → List Operand
+operandsIn xs n = map (λ x. operandOf (x .0)) (take n xs)
+
+abbrev pub operandsOf : Operands → List Operand
+operandsOf s = operandsIn (s .list) (s .len)
 
 abbrev pub localOf : Local → S.Local
 localOf x = cond (x .present) (R.localOf (operandOf (x .value))) S.Local.absent
