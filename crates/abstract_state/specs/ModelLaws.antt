@@ -2,13 +2,11 @@
 use Prim.Native.Nat.{ℕ, zero, suc, _+_, _≤_, _<_}
 use mathlib.Core.Path.{_≡_, refl, sym, ap, _∙_}
 use mathlib.Core.Bool.{Bool, true, false, not, _&&_, cond, true≢false}
-use mathlib.Core.List.{List, [], _∷_, map}
+use mathlib.Core.List.{List, [], _∷_}
 use native.Mathlib.Nat.{not-suc-le-zero, le-of-suc-le-suc}
 use native.Mathlib.Numerals.{add-one}
-use native.Mathlib.Omega.{arith}
-use borrow.Author.Tests.{eq-eqb, ne-eqb}
 use lib.Dec.{eqb, ltb}
-use lib.ListN.{length, take, drop, getD, set, length-map, length-take}
+use lib.ListN.{length, getD, set}
 use Rattle.meaning.specs.Base.{Ans, ok, refuse, guard, ok-inj, refuse≢ok}
 use Rattle.meaning.specs.Graph.{Graph, wellFormed, held}
 use Rattle.meaning.specs.State as S
@@ -17,7 +15,7 @@ use Rattle.meaning.specs.Lookups as L
 use Rattle.meaning.specs.Borrow.{newName}
 use Rattle.borrow_graph.specs.Models.{told}
 use Rattle.abstract_state.specs.Models.{halted, heeding, failing, needing, localOf, localsIn}
-use Rattle.abstract_state.specs.declared.state.AbstractValue.the-variants.{Reference, NonReference}
+use Rattle.abstract_state.specs.declared.state.AbstractValue.the-variants.{NonReference}
 use Rattle.abstract_state.specs.declared.state.Local.{Local}
 
 -- ---- states that stop

@@ -5,7 +5,6 @@ use mathlib.Core.List.{List, map}
 use lib.Dec.{eqb}
 use lib.ListN.{take}
 use Rattle.meaning.specs.Base.{Ans}
-use Rattle.meaning.specs.Graph.{Graph}
 use Rattle.meaning.specs.State as S
 use Rattle.meaning.specs.State.{State}
 use Rattle.meaning.specs.Running as R

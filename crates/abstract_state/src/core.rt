@@ -12,7 +12,7 @@ ghost use mathlib.Core.Bool.{cond};
 ghost use lib.Dec.{ltb};
 ghost use lib.ListN.{getD};
 ghost use Rattle.meaning.specs.State as S;
-ghost use Rattle.meaning.specs.Running.{Outcome, done, then, answer, withLocal, onGraph, newRef, addCopy, addBorrow, addFieldBorrow, addLocalBorrow, addResourceBorrow, releaseName};
+ghost use Rattle.meaning.specs.Running.{done, then, answer, withLocal, onGraph, newRef, addCopy, addBorrow, addFieldBorrow, addLocalBorrow, addResourceBorrow, releaseName};
 ghost use Rattle.borrow_graph.specs.Models as G;
 ghost use Rattle.abstract_state.specs.Models.{operandOf, localOf, localsIn, halted, heeding, failing, needing, outcomeOf, answerOf};
 

@@ -1,42 +1,34 @@
+use mathlib.Core.Bool.{not, cond}
+use mathlib.Core.Option.{some}
+use Rattle.meaning.specs.Labels.{fieldLabel}
+use Rattle.meaning.specs.Running as R
+use Rattle.meaning.specs.Running.{done}
+use Rattle.abstract_state.specs.Models.{runningOf}
+use Rattle.state_steps.specs.EntryLaws as E
 use borrow.Author.Needs.{needs}
 use Rattle.state_steps.proofs.borrow_field.Statement.{statement}
 use Rattle.state_steps.proofs.borrow_field.Tie as tie
-use Rattle.state_steps.proofs.borrow_field.Reads as reads
-use Rattle.state_steps.proofs.borrow_field.Lts as lts
-use Rattle.abstract_state.proofs.state.AbstractState.add_field_borrow.Reads as add-field-borrow-reads
-use Rattle.abstract_state.proofs.state.AbstractState.fresh.Reads as fresh-reads
-use Rattle.abstract_state.proofs.state.AbstractState.give.Reads as give-reads
-use Rattle.abstract_state.proofs.state.AbstractState.new_ref.Reads as new-ref-reads
-use Rattle.abstract_state.proofs.state.AbstractState.release.Reads as release-reads
-use Rattle.state_steps.proofs.fail_field.Reads as fail-field-reads
 
--- src/lib.rt:223:9
 fresh-requires : tie.Need-fresh-requires
 fresh-requires c κs = search needs
 
--- src/lib.rt:224:9
 fail-field-requires : tie.Need-fail-field-requires
 fail-field-requires c κs = search needs
 
--- src/lib.rt:225:9
 new-ref-requires : tie.Need-new-ref-requires
 new-ref-requires c κs = search needs
 
--- src/lib.rt:226:9
 add-field-borrow-requires : tie.Need-add-field-borrow-requires
 add-field-borrow-requires c κs = search needs
 
--- src/lib.rt:227:9
 release-requires : tie.Need-release-requires
 release-requires c κs = search needs
 
--- src/lib.rt:228:5
 give-requires : tie.Need-give-requires
 give-requires c κs = search needs
 
--- src/lib.rt:220:1
 returns : tie.Need-returns
-returns c = ?
+returns c = E.pass-law ((c .before .before .before .before .before .before .args) .state .violation) ((c .before .before .before .before .before .before .args) .state .refusal) (runningOf ((c .before .before .before .before .before .before .args) .state)) (λ s. R.known (s .graph) ((c .before .before .before .before .before .before .args) .id .0) (R.fails (cond ((c .before .before .before .before .before .before .args) .mutable) (R.fullyBorrowed (s .graph) ((c .before .before .before .before .before .before .args) .id .0)) (not (R.readable (s .graph) ((c .before .before .before .before .before .before .args) .id .0) (some (fieldLabel ((c .before .before .before .before .before .before .args) .field)))))) 108 (done s))) ((c .before .before .before .before .before .before .args) .mutable) (λ y. R.addFieldBorrow ((c .before .before .before .before .before .before .args) .id .0) ((c .before .before .before .before .before .before .args) .field) y) ((c .before .before .before .before .before .fresh) .result .0) ((c .before .before .before .before .before .before .args) .id .0) _ _ _ _ _ (R.borrowField ((c .before .before .before .before .before .before .args) .mutable) ((c .before .before .before .before .before .before .args) .id .0) ((c .before .before .before .before .before .before .args) .field)) (E.borrow-field-at (runningOf ((c .before .before .before .before .before .before .args) .state)) ((c .before .before .before .before .before .fresh) .result .0) ((c .before .before .before .before .before .fresh) .ensures) ((c .before .before .before .before .before .before .args) .mutable) ((c .before .before .before .before .before .before .args) .id .0) ((c .before .before .before .before .before .before .args) .field)) ((c .before .before .before .before .fail-field) .ensures) ((c .before .before .before .new-ref) .ensures) ((c .before .before .add-field-borrow) .ensures) ((c .before .release) .ensures) ((c .give) .ensures)
 
 pub borrow-field-spec : {M : Type 1} → statement M
 borrow-field-spec =

@@ -1,86 +1,69 @@
+use Rattle.abstract_state.specs.declared.state.AbstractValue.the-variants.{Reference, NonReference}
+use mathlib.Core.Path.{sym, ap, _∙_}
+use mathlib.Core.Bool.{Bool}
+use mathlib.Core.Option.{some}
+use Rattle.meaning.specs.Base.{Ans}
+use Rattle.meaning.specs.Labels.{localLabel}
+use Rattle.meaning.specs.Lookups as L
+use Rattle.meaning.specs.Running as R
+use Rattle.meaning.specs.Running.{then}
+use Rattle.borrow_graph.specs.Models.{graphOf, toldOf}
+use Rattle.abstract_state.specs.Models.{runningOf, outcomeOf, halted, heeding, failing}
+use Rattle.state_steps.specs.EntryLaws as E
 use borrow.Author.Needs.{needs}
 use Rattle.state_steps.proofs.copy_loc.Statement.{statement}
 use Rattle.state_steps.proofs.copy_loc.Tie as tie
-use Rattle.state_steps.proofs.copy_loc.Reads as reads
-use Rattle.state_steps.proofs.copy_loc.Lts as lts
-use Rattle.abstract_state.proofs.state.AbstractState.add_copy.Reads as add-copy-reads
-use Rattle.abstract_state.proofs.state.AbstractState.fail.Reads as fail-reads
-use Rattle.abstract_state.proofs.state.AbstractState.fresh.Reads as fresh-reads
-use Rattle.abstract_state.proofs.state.AbstractState.give.Reads as give-reads
-use Rattle.abstract_state.proofs.state.AbstractState.heed.Reads as heed-reads
-use Rattle.abstract_state.proofs.state.AbstractState.is_local_mutably_borrowed.Reads as is-local-mutably-borrowed-reads
-use Rattle.abstract_state.proofs.state.AbstractState.is_mutable.Reads as is-mutable-reads
-use Rattle.abstract_state.proofs.state.AbstractState.local.Reads as local-reads
-use Rattle.abstract_state.proofs.state.AbstractState.new_ref.Reads as new-ref-reads
-use Rattle.abstract_state.proofs.state.AbstractState.refuse.Reads as refuse-reads
 
--- src/lib.rt:51:9
 local-requires : tie.Need-local-requires
 local-requires c κs = search needs
 
--- src/lib.rt:55:38
 enum-known-v : tie.Need-enum-known-v
 enum-known-v c = search needs
 
--- src/lib.rt:56:21
 is-mutable-requires : tie.Need-is-mutable-requires
 is-mutable-requires c κs = search needs
 
--- src/lib.rt:57:21
 fresh-requires : tie.Need-fresh-requires
 fresh-requires c κs = search needs
 
--- src/lib.rt:58:21
 heed-requires : tie.Need-heed-requires
 heed-requires c κs = search needs
 
--- src/lib.rt:59:21
 new-ref-requires : tie.Need-new-ref-requires
 new-ref-requires c κs = search needs
 
--- src/lib.rt:60:21
 add-copy-requires : tie.Need-add-copy-requires
 add-copy-requires c κs = search needs
 
--- src/lib.rt:61:17
 give-requires : tie.Need-give-requires
 give-requires c κs = search needs
 
--- src/lib.rt:61:17
 returns : tie.Need-returns
-returns c = ?
+returns c = E.lend-law ((c .before .before .before .before .before .before .before .before .before .before .before .args) .state .violation) ((c .before .before .before .before .before .before .before .before .before .before .before .args) .state .refusal) (runningOf ((c .before .before .before .before .before .before .before .before .before .before .before .args) .state)) (heeding (toldOf ((c .before .before .before .before .before .is-mutable) .result))) ((c .before .before .before .before .before .is-mutable) .result .yes) (R.addCopy (((c .before .before .before .before .before .before .before .v) .given .0 .0) .0)) ((c .before .before .before .before .fresh) .result .0) _ _ _ _ (R.copyLoc ((c .before .before .before .before .before .before .before .before .before .before .before .args) .local .0)) (E.copy-ref (runningOf ((c .before .before .before .before .before .before .before .before .before .before .before .args) .state)) ((c .before .before .before .before .fresh) .result .0) ((c .before .before .before .before .fresh) .ensures) ((c .before .before .before .before .before .before .before .before .before .before .before .args) .local .0) (((c .before .before .before .before .before .before .before .v) .given .0 .0) .0) ((c .before .before .before .before .before .is-mutable) .result .refusal) ((c .before .before .before .before .before .is-mutable) .result .yes) (sym ((c .before .before .before .before .before .before .before .before .before .before .local) .ensures) ∙ E.local-told ((c .before .before .before .before .before .before .before .before .before .before .local) .result) (Reference ((c .before .before .before .before .before .before .before .v) .given .0 .0)) ((c .before .before .before .before .before .before .before .before .before .if1) .taken) ((c .before .before .before .before .before .before .before .v) .given .1)) ((c .before .before .before .before .before .is-mutable) .ensures)) ((c .before .before .before .heed) .ensures) ((c .before .before .new-ref) .ensures) ((c .before .add-copy) .ensures) ((c .give) .ensures)
 
--- src/lib.rt:64:21
 enum-told : tie.Need-enum-told
 enum-told c = search needs
 
--- src/lib.rt:64:21
 is-local-mutably-borrowed-requires : tie.Need-is-local-mutably-borrowed-requires
 is-local-mutably-borrowed-requires c κs = search needs
 
--- src/lib.rt:65:21
 fail-requires : tie.Need-fail-requires
 fail-requires c κs = search needs
 
--- src/lib.rt:66:17
 give-requires-2 : tie.Need-give-requires-2
 give-requires-2 c κs = search needs
 
--- src/lib.rt:66:17
 returns-2 : tie.Need-returns-2
-returns-2 c = ?
+returns-2 c = E.test-law ((c .before .before .before .before .before .before .before .args) .state .violation) ((c .before .before .before .before .before .before .before .args) .state .refusal) (runningOf ((c .before .before .before .before .before .before .before .args) .state)) (failing (L.known (graphOf ((c .before .before .before .before .before .before .before .args) .state .«borrow_graph»)) ((c .before .before .before .before .before .before .before .args) .state .«num_locals») (R.mutablyBorrowed (graphOf ((c .before .before .before .before .before .before .before .args) .state .«borrow_graph»)) ((c .before .before .before .before .before .before .before .args) .state .«num_locals») (some (localLabel ((c .before .before .before .before .before .before .before .args) .local .0))))) 101) (R.copyLoc ((c .before .before .before .before .before .before .before .args) .local .0)) R.Operand.nonRef _ _ (E.copy-value (runningOf ((c .before .before .before .before .before .before .before .args) .state)) ((c .before .before .before .before .before .before .before .args) .local .0) (sym ((c .before .before .before .before .before .before .local) .ensures) ∙ E.local-told ((c .before .before .before .before .before .before .local) .result) NonReference ((c .before .before .before .before .before .if1) .taken) ((c .before .before .before .enum-told) .given .1))) ((c .before .fail) .ensures ∙ ap (λ (t : Ans Bool). then (outcomeOf ((c .before .before .before .before .before .before .before .args) .state)) (failing t 101)) ((c .before .before .is-local-mutably-borrowed) .ensures)) ((c .give2) .ensures)
 
--- src/lib.rt:70:9
 refuse-requires : tie.Need-refuse-requires
 refuse-requires c κs = search needs
 
--- src/lib.rt:71:5
 give-requires-3 : tie.Need-give-requires-3
 give-requires-3 c κs = search needs
 
--- src/lib.rt:48:1
 returns-3 : tie.Need-returns-3
-returns-3 c = ?
+returns-3 c = E.test-law ((c .before .before .before .before .args) .state .violation) ((c .before .before .before .before .args) .state .refusal) (runningOf ((c .before .before .before .before .args) .state)) (λ s. halted 0 12 s) (R.copyLoc ((c .before .before .before .before .args) .local .0)) R.Operand.nonRef _ _ (E.copy-absent (runningOf ((c .before .before .before .before .args) .state)) ((c .before .before .before .before .args) .local .0) (sym ((c .before .before .before .local) .ensures) ∙ E.local-absent ((c .before .before .before .local) .result) ((c .before .before .if1) .left))) ((c .before .refuse) .ensures) ((c .give3) .ensures)
 
 pub copy-loc-spec : {M : Type 1} → statement M
 copy-loc-spec =

@@ -1,31 +1,31 @@
+use mathlib.Core.Path.{refl, ap, _∙_}
+use mathlib.Core.Bool.{Bool}
+use Rattle.meaning.specs.Base.{Ans}
+use Rattle.meaning.specs.Lookups as L
+use Rattle.meaning.specs.Running as R
+use Rattle.meaning.specs.Running.{then, done}
+use Rattle.borrow_graph.specs.Models.{graphOf}
+use Rattle.abstract_state.specs.Models.{runningOf, outcomeOf, failing}
+use Rattle.abstract_state.specs.ModelLaws.{here}
+use Rattle.state_steps.specs.EntryLaws as E
 use borrow.Author.Needs.{needs}
 use Rattle.state_steps.proofs.fail_field.Statement.{statement}
 use Rattle.state_steps.proofs.fail_field.Tie as tie
-use Rattle.state_steps.proofs.fail_field.Reads as reads
-use Rattle.state_steps.proofs.fail_field.Lts as lts
-use Rattle.abstract_state.proofs.state.AbstractState.fail.Reads as fail-reads
-use Rattle.abstract_state.proofs.state.AbstractState.has_full_borrows.Reads as has-full-borrows-reads
-use Rattle.state_steps.proofs.fail_unreadable.Reads as fail-unreadable-reads
 
--- src/lib.rt:236:13
 has-full-borrows-requires : tie.Need-has-full-borrows-requires
 has-full-borrows-requires c κs = search needs
 
--- src/lib.rt:237:9
 fail-requires : tie.Need-fail-requires
 fail-requires c κs = search needs
 
--- src/lib.rt:237:9
 returns : tie.Need-returns
-returns c = ?
+returns c = rw ((c .before .before .if1) .taken) ((c .fail) .ensures ∙ ap (λ (t : Ans Bool). then (outcomeOf ((c .before .before .before .args) .state)) (failing t 108)) ((c .before .has-full-borrows) .ensures) ∙ here ((c .before .before .before .args) .state .violation) ((c .before .before .before .args) .state .refusal) (runningOf ((c .before .before .before .args) .state)) (failing (L.known (graphOf ((c .before .before .before .args) .state .«borrow_graph»)) ((c .before .before .before .args) .id .0) (R.fullyBorrowed (graphOf ((c .before .before .before .args) .state .«borrow_graph»)) ((c .before .before .before .args) .id .0))) 108) (λ s. R.known (s .graph) ((c .before .before .before .args) .id .0) (R.fails (R.fullyBorrowed (s .graph) ((c .before .before .before .args) .id .0)) 108 (done s))) (E.then-done (failing (L.known (graphOf ((c .before .before .before .args) .state .«borrow_graph»)) ((c .before .before .before .args) .id .0) (R.fullyBorrowed (graphOf ((c .before .before .before .args) .state .«borrow_graph»)) ((c .before .before .before .args) .id .0))) 108 (runningOf ((c .before .before .before .args) .state))) ∙ E.fail-at (graphOf ((c .before .before .before .args) .state .«borrow_graph»)) ((c .before .before .before .args) .id .0) (R.fullyBorrowed (graphOf ((c .before .before .before .args) .state .«borrow_graph»)) ((c .before .before .before .args) .id .0)) (runningOf ((c .before .before .before .args) .state)) done 108 refl))
 
--- src/lib.rt:239:5
 fail-unreadable-requires : tie.Need-fail-unreadable-requires
 fail-unreadable-requires c κs = search needs
 
--- src/lib.rt:232:1
 returns-2 : tie.Need-returns-2
-returns-2 c = ?
+returns-2 c = rw ((c .before .if1) .left) ((c .fail-unreadable) .ensures)
 
 pub fail-field-spec : {M : Type 1} → statement M
 fail-field-spec =

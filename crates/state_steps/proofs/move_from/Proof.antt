@@ -1,27 +1,29 @@
+use mathlib.Core.Path.{ap, _∙_}
+use mathlib.Core.Bool.{Bool}
+use mathlib.Core.Option.{some}
+use Rattle.meaning.specs.Base.{Ans}
+use Rattle.meaning.specs.Labels.{globalLabel}
+use Rattle.meaning.specs.Lookups as L
+use Rattle.meaning.specs.Running as R
+use Rattle.meaning.specs.Running.{then}
+use Rattle.borrow_graph.specs.Models.{graphOf}
+use Rattle.abstract_state.specs.Models.{runningOf, outcomeOf, failing}
+use Rattle.state_steps.specs.EntryLaws as E
 use borrow.Author.Needs.{needs}
 use Rattle.state_steps.proofs.move_from.Statement.{statement}
 use Rattle.state_steps.proofs.move_from.Tie as tie
-use Rattle.state_steps.proofs.move_from.Reads as reads
-use Rattle.state_steps.proofs.move_from.Lts as lts
-use Rattle.abstract_state.proofs.state.AbstractState.fail.Reads as fail-reads
-use Rattle.abstract_state.proofs.state.AbstractState.give.Reads as give-reads
-use Rattle.abstract_state.proofs.state.AbstractState.is_global_borrowed.Reads as is-global-borrowed-reads
 
--- src/lib.rt:263:9
 is-global-borrowed-requires : tie.Need-is-global-borrowed-requires
 is-global-borrowed-requires c κs = search needs
 
--- src/lib.rt:264:9
 fail-requires : tie.Need-fail-requires
 fail-requires c κs = search needs
 
--- src/lib.rt:265:5
 give-requires : tie.Need-give-requires
 give-requires c κs = search needs
 
--- src/lib.rt:260:1
 returns : tie.Need-returns
-returns c = ?
+returns c = E.test-law ((c .before .before .before .args) .state .violation) ((c .before .before .before .args) .state .refusal) (runningOf ((c .before .before .before .args) .state)) (failing (L.known (graphOf ((c .before .before .before .args) .state .«borrow_graph»)) ((c .before .before .before .args) .state .«num_locals») (R.borrowed (graphOf ((c .before .before .before .args) .state .«borrow_graph»)) ((c .before .before .before .args) .state .«num_locals») (some (globalLabel ((c .before .before .before .args) .resource))))) 109) (R.moveFrom ((c .before .before .before .args) .resource)) R.Operand.nonRef _ _ (E.move-from-at (runningOf ((c .before .before .before .args) .state)) ((c .before .before .before .args) .resource)) ((c .before .fail) .ensures ∙ ap (λ (t : Ans Bool). then (outcomeOf ((c .before .before .before .args) .state)) (failing t 109)) ((c .before .before .is-global-borrowed) .ensures)) ((c .give) .ensures)
 
 pub move-from-spec : {M : Type 1} → statement M
 move-from-spec =

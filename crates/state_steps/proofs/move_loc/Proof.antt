@@ -1,70 +1,61 @@
+use Rattle.abstract_state.specs.declared.state.AbstractValue.the-variants.{Reference, NonReference}
+use mathlib.Core.Path.{sym, ap, _∙_}
+use mathlib.Core.Bool.{Bool}
+use mathlib.Core.Option.{some}
+use Rattle.meaning.specs.Base.{Ans}
+use Rattle.meaning.specs.Labels.{localLabel}
+use Rattle.meaning.specs.Lookups as L
+use Rattle.meaning.specs.State as S
+use Rattle.meaning.specs.Running as R
+use Rattle.meaning.specs.Running.{then, done}
+use Rattle.borrow_graph.specs.Models.{graphOf}
+use Rattle.abstract_state.specs.Models.{runningOf, outcomeOf, halted, failing}
+use Rattle.state_steps.specs.EntryLaws as E
 use borrow.Author.Needs.{needs}
 use Rattle.state_steps.proofs.move_loc.Statement.{statement}
 use Rattle.state_steps.proofs.move_loc.Tie as tie
-use Rattle.state_steps.proofs.move_loc.Reads as reads
-use Rattle.state_steps.proofs.move_loc.Lts as lts
-use Rattle.abstract_state.proofs.state.AbstractState.fail.Reads as fail-reads
-use Rattle.abstract_state.proofs.state.AbstractState.give.Reads as give-reads
-use Rattle.abstract_state.proofs.state.AbstractState.is_local_borrowed.Reads as is-local-borrowed-reads
-use Rattle.abstract_state.proofs.state.AbstractState.local.Reads as local-reads
-use Rattle.abstract_state.proofs.state.AbstractState.refuse.Reads as refuse-reads
-use Rattle.abstract_state.proofs.state.AbstractState.set_local.Reads as set-local-reads
 
--- src/lib.rt:77:9
 local-requires : tie.Need-local-requires
 local-requires c κs = search needs
 
--- src/lib.rt:85:38
 enum-known-v : tie.Need-enum-known-v
 enum-known-v c = search needs
 
--- src/lib.rt:86:21
 set-local-requires : tie.Need-set-local-requires
 set-local-requires c κs = search needs
 
--- src/lib.rt:87:17
 give-requires : tie.Need-give-requires
 give-requires c κs = search needs
 
--- src/lib.rt:87:17
 returns : tie.Need-returns
-returns c = ?
+returns c = E.test-law ((c .before .before .before .before .before .before .before .args) .state .violation) ((c .before .before .before .before .before .before .before .args) .state .refusal) (runningOf ((c .before .before .before .before .before .before .before .args) .state)) (λ s. done (R.withLocal s ((c .before .before .before .before .before .before .before .args) .local .0) S.Local.absent)) (R.moveLoc ((c .before .before .before .before .before .before .before .args) .local .0)) (R.Operand.reference ((c .before .before .before .v) .given .0 .0 .0)) _ _ (E.move-ref (runningOf ((c .before .before .before .before .before .before .before .args) .state)) ((c .before .before .before .before .before .before .before .args) .local .0) (((c .before .before .before .v) .given .0 .0) .0) (sym ((c .before .before .before .before .before .before .local) .ensures) ∙ E.local-told ((c .before .before .before .before .before .before .local) .result) (Reference ((c .before .before .before .v) .given .0 .0)) ((c .before .before .before .before .before .if1) .taken) ((c .before .before .before .v) .given .1))) ((c .before .set-local) .ensures) ((c .give) .ensures)
 
--- src/lib.rt:90:21
 enum-told : tie.Need-enum-told
 enum-told c = search needs
 
--- src/lib.rt:90:21
 is-local-borrowed-requires : tie.Need-is-local-borrowed-requires
 is-local-borrowed-requires c κs = search needs
 
--- src/lib.rt:91:21
 fail-requires : tie.Need-fail-requires
 fail-requires c κs = search needs
 
--- src/lib.rt:92:21
 set-local-requires-2 : tie.Need-set-local-requires-2
 set-local-requires-2 c κs = search needs
 
--- src/lib.rt:93:17
 give-requires-2 : tie.Need-give-requires-2
 give-requires-2 c κs = search needs
 
--- src/lib.rt:93:17
 returns-2 : tie.Need-returns-2
-returns-2 c = ?
+returns-2 c = E.test-law ((c .before .before .before .before .before .before .before .before .args) .state .violation) ((c .before .before .before .before .before .before .before .before .args) .state .refusal) (runningOf ((c .before .before .before .before .before .before .before .before .args) .state)) (λ s. then (failing (L.known (graphOf ((c .before .before .before .before .before .before .before .before .args) .state .«borrow_graph»)) ((c .before .before .before .before .before .before .before .before .args) .state .«num_locals») (R.borrowed (graphOf ((c .before .before .before .before .before .before .before .before .args) .state .«borrow_graph»)) ((c .before .before .before .before .before .before .before .before .args) .state .«num_locals») (some (localLabel ((c .before .before .before .before .before .before .before .before .args) .local .0))))) 102 s) (λ u. done (R.withLocal u ((c .before .before .before .before .before .before .before .before .args) .local .0) S.Local.absent))) (R.moveLoc ((c .before .before .before .before .before .before .before .before .args) .local .0)) R.Operand.nonRef _ _ (E.move-value (runningOf ((c .before .before .before .before .before .before .before .before .args) .state)) ((c .before .before .before .before .before .before .before .before .args) .local .0) (sym ((c .before .before .before .before .before .before .before .local) .ensures) ∙ E.local-told ((c .before .before .before .before .before .before .before .local) .result) NonReference ((c .before .before .before .before .before .before .if1) .taken) ((c .before .before .before .before .enum-told) .given .1))) (E.link (outcomeOf ((c .before .before .before .before .before .before .before .before .args) .state)) _ _ (failing (L.known (graphOf ((c .before .before .before .before .before .before .before .before .args) .state .«borrow_graph»)) ((c .before .before .before .before .before .before .before .before .args) .state .«num_locals») (R.borrowed (graphOf ((c .before .before .before .before .before .before .before .before .args) .state .«borrow_graph»)) ((c .before .before .before .before .before .before .before .before .args) .state .«num_locals») (some (localLabel ((c .before .before .before .before .before .before .before .before .args) .local .0))))) 102) (λ u. done (R.withLocal u ((c .before .before .before .before .before .before .before .before .args) .local .0) S.Local.absent)) ((c .before .before .fail) .ensures ∙ ap (λ (t : Ans Bool). then (outcomeOf ((c .before .before .before .before .before .before .before .before .args) .state)) (failing t 102)) ((c .before .before .before .is-local-borrowed) .ensures)) ((c .before .set-local2) .ensures)) ((c .give2) .ensures)
 
--- src/lib.rt:97:9
 refuse-requires : tie.Need-refuse-requires
 refuse-requires c κs = search needs
 
--- src/lib.rt:98:5
 give-requires-3 : tie.Need-give-requires-3
 give-requires-3 c κs = search needs
 
--- src/lib.rt:74:1
 returns-3 : tie.Need-returns-3
-returns-3 c = ?
+returns-3 c = E.test-law ((c .before .before .before .before .args) .state .violation) ((c .before .before .before .before .args) .state .refusal) (runningOf ((c .before .before .before .before .args) .state)) (λ s. halted 0 12 s) (R.moveLoc ((c .before .before .before .before .args) .local .0)) R.Operand.nonRef _ _ (E.move-absent (runningOf ((c .before .before .before .before .args) .state)) ((c .before .before .before .before .args) .local .0) (sym ((c .before .before .before .local) .ensures) ∙ E.local-absent ((c .before .before .before .local) .result) ((c .before .before .if1) .left))) ((c .before .refuse) .ensures) ((c .give3) .ensures)
 
 pub move-loc-spec : {M : Type 1} → statement M
 move-loc-spec =

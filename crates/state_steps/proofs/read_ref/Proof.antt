@@ -1,27 +1,23 @@
+use mathlib.Core.Option.{none}
+use Rattle.meaning.specs.Running as R
+use Rattle.meaning.specs.Running.{then}
+use Rattle.abstract_state.specs.Models.{runningOf, outcomeOf}
+use Rattle.state_steps.specs.EntryLaws as E
 use borrow.Author.Needs.{needs}
 use Rattle.state_steps.proofs.read_ref.Statement.{statement}
 use Rattle.state_steps.proofs.read_ref.Tie as tie
-use Rattle.state_steps.proofs.read_ref.Reads as reads
-use Rattle.state_steps.proofs.read_ref.Lts as lts
-use Rattle.abstract_state.proofs.state.AbstractState.give.Reads as give-reads
-use Rattle.abstract_state.proofs.state.AbstractState.release.Reads as release-reads
-use Rattle.state_steps.proofs.fail_unreadable.Reads as fail-unreadable-reads
 
--- src/lib.rt:188:9
 fail-unreadable-requires : tie.Need-fail-unreadable-requires
 fail-unreadable-requires c κs = search needs
 
--- src/lib.rt:189:9
 release-requires : tie.Need-release-requires
 release-requires c κs = search needs
 
--- src/lib.rt:190:5
 give-requires : tie.Need-give-requires
 give-requires c κs = search needs
 
--- src/lib.rt:185:1
 returns : tie.Need-returns
-returns c = ?
+returns c = E.test-law ((c .before .before .before .args) .state .violation) ((c .before .before .before .args) .state .refusal) (runningOf ((c .before .before .before .args) .state)) (λ s. then (E.unreadable (runningOf ((c .before .before .before .args) .state)) ((c .before .before .before .args) .id .0) none 105 s) (R.releaseName ((c .before .before .before .args) .id .0))) (R.readRef ((c .before .before .before .args) .id .0)) R.Operand.nonRef _ _ (E.read-at (runningOf ((c .before .before .before .args) .state)) ((c .before .before .before .args) .id .0)) (E.link (outcomeOf ((c .before .before .before .args) .state)) _ _ (E.unreadable (runningOf ((c .before .before .before .args) .state)) ((c .before .before .before .args) .id .0) none 105) (R.releaseName ((c .before .before .before .args) .id .0)) ((c .before .before .fail-unreadable) .ensures) ((c .before .release) .ensures)) ((c .give) .ensures)
 
 pub read-ref-spec : {M : Type 1} → statement M
 read-ref-spec =

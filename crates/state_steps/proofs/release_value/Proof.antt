@@ -1,29 +1,26 @@
+use Rattle.meaning.specs.Running as R
+use Rattle.abstract_state.specs.Models.{outcomeOf}
+use Rattle.state_steps.specs.EntryLaws as E
 use borrow.Author.Needs.{needs}
 use Rattle.state_steps.proofs.release_value.Statement.{statement}
 use Rattle.state_steps.proofs.release_value.Tie as tie
-use Rattle.state_steps.proofs.release_value.Reads as reads
-use Rattle.state_steps.proofs.release_value.Lts as lts
-use Rattle.abstract_state.proofs.state.AbstractState.release.Reads as release-reads
 
--- src/lib.rt:43:34
 enum-known-value : tie.Need-enum-known-value
 enum-known-value c = search needs
 
--- src/lib.rt:43:41
 release-requires : tie.Need-release-requires
 release-requires c κs = search needs
 
--- src/lib.rt:44:40
 enum-told : tie.Need-enum-told
 enum-told c = search needs
 
--- src/lib.rt:39:1
 returns : tie.Need-returns
-returns c = ?
+unfolding R.releaseValue
+returns c = rw ((c .before .before .value) .given .1) ((c .release) .ensures)
 
--- src/lib.rt:39:1
 returns-2 : tie.Need-returns-2
-returns-2 c = ?
+unfolding R.releaseValue
+returns-2 c = rw ((c .enum-told) .given .1) (E.then-done (outcomeOf ((c .before .before .args) .state)))
 
 pub release-value-spec : {M : Type 1} → statement M
 release-value-spec =

@@ -1,39 +1,32 @@
+use Rattle.meaning.specs.Running as R
+use Rattle.meaning.specs.Running.{done}
+use Rattle.abstract_state.specs.Models.{runningOf}
+use Rattle.state_steps.specs.EntryLaws as E
 use borrow.Author.Needs.{needs}
 use Rattle.state_steps.proofs.vector_op.Statement.{statement}
 use Rattle.state_steps.proofs.vector_op.Tie as tie
-use Rattle.state_steps.proofs.vector_op.Reads as reads
-use Rattle.state_steps.proofs.vector_op.Lts as lts
-use Rattle.abstract_state.proofs.state.AbstractState.refuse.Reads as refuse-reads
-use Rattle.abstract_state.proofs.state.AbstractState.release.Reads as release-reads
-use Rattle.state_steps.proofs.vector_test.Reads as vector-test-reads
 
--- src/lib.rt:286:34
 enum-known-vector : tie.Need-enum-known-vector
 enum-known-vector c = search needs
 
--- src/lib.rt:287:17
 vector-test-requires : tie.Need-vector-test-requires
 vector-test-requires c κs = search needs
 
--- src/lib.rt:288:13
 release-requires : tie.Need-release-requires
 release-requires c κs = search needs
 
--- src/lib.rt:290:40
 enum-told : tie.Need-enum-told
 enum-told c = search needs
 
--- src/lib.rt:290:40
 refuse-requires : tie.Need-refuse-requires
 refuse-requires c κs = search needs
 
--- src/lib.rt:282:1
 returns : tie.Need-returns
-returns c = ?
+returns c = rw ((c .before .before .before .vector) .given .1) (E.test-call ((c .before .before .before .before .before .args) .state .violation) ((c .before .before .before .before .before .args) .state .refusal) (runningOf ((c .before .before .before .before .before .args) .state)) (λ s. R.known (s .graph) ((c .before .before .before .vector) .given .0 .0 .0) (R.vectorTest ((c .before .before .before .before .before .args) .mutable) (s .graph) ((c .before .before .before .vector) .given .0 .0 .0) 110 (done s))) (R.releaseName ((c .before .before .before .vector) .given .0 .0 .0)) (R.vectorOp (R.Operand.reference ((c .before .before .before .vector) .given .0 .0 .0)) ((c .before .before .before .before .before .args) .mutable)) _ _ (E.vector-op-at (runningOf ((c .before .before .before .before .before .args) .state)) ((c .before .before .before .before .before .args) .mutable) ((c .before .before .before .vector) .given .0 .0 .0)) ((c .before .vector-test) .ensures) ((c .release) .ensures))
 
--- src/lib.rt:282:1
 returns-2 : tie.Need-returns-2
-returns-2 c = ?
+unfolding R.vectorOp
+returns-2 c = rw ((c .before .enum-told) .given .1) ((c .refuse) .ensures)
 
 pub vector-op-spec : {M : Type 1} → statement M
 vector-op-spec =

@@ -1,4 +1,4 @@
-use mathlib.Core.Bool.{Bool, not, _||_}
+use mathlib.Core.Bool.{not, _||_}
 use Rattle.meaning.specs.Running.{isMutable, freezable}
 use Rattle.borrow_graph.specs.Models.{graphOf, filterOf}
 use Rattle.abstract_state.specs.ModelLaws.{told-both}

@@ -1,6 +1,6 @@
 use native.Mathlib.Omega.{arith}
 use mathlib.Core.Path.{_≡_, ap, _∙_}
-use lib.ListN.{length, set}
+use lib.ListN.{length}
 use mathlib.Core.List.{List}
 use Rattle.meaning.specs.State as S
 use Rattle.meaning.specs.ArrayLaws.{length-of-map}
