@@ -1,10 +1,10 @@
 // Borrows: an edge put in, and the strong borrow, which moves what is borrowed below it (the Rust's `factor`).
+use crate::pairs::between;
+use crate::pairs::replace;
 use borrow_graph::graph::Answer;
 use borrow_graph::graph::BorrowGraph;
 use borrow_graph::graph::GraphEdge;
 use borrow_graph::graph::GraphEdges;
-use crate::pairs::between;
-use crate::pairs::replace;
 use meaning::MAX_EDGES;
 use references::paths;
 use references::paths::Label;
@@ -310,7 +310,12 @@ pub fn add_strong_borrow(graph: BorrowGraph, parent: RefID, child: RefID) -> Ans
     factor(graph, parent, path, child)
 }
 
-pub fn add_strong_field_borrow(graph: BorrowGraph, parent: RefID, field: Label, child: RefID) -> Answer
+pub fn add_strong_field_borrow(
+    graph: BorrowGraph,
+    parent: RefID,
+    field: Label,
+    child: RefID,
+) -> Answer
     ensures { λ r. ⌜ (answerOf r ≡ borrowStrong (graphOf graph) (parent .0) (numberOf (labelOf field) ∷ []) (child .0)) × (graphOf (r .graph) ≡ leaves (graphOf graph) (borrowStrong (graphOf graph) (parent .0) (numberOf (labelOf field) ∷ []) (child .0))) ⌝ }
 {
     let path = Path::single(field);
@@ -324,7 +329,12 @@ pub fn add_weak_borrow(graph: BorrowGraph, parent: RefID, child: RefID) -> Answe
     add_path(graph, parent, path, child)
 }
 
-pub fn add_weak_field_borrow(graph: BorrowGraph, parent: RefID, field: Label, child: RefID) -> Answer
+pub fn add_weak_field_borrow(
+    graph: BorrowGraph,
+    parent: RefID,
+    field: Label,
+    child: RefID,
+) -> Answer
     ensures { λ r. ⌜ (answerOf r ≡ borrowWeak (graphOf graph) (parent .0) (numberOf (labelOf field) ∷ []) (child .0)) × (graphOf (r .graph) ≡ leaves (graphOf graph) (borrowWeak (graphOf graph) (parent .0) (numberOf (labelOf field) ∷ []) (child .0))) ⌝ }
 {
     let path = Path::single(field);

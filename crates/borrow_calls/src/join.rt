@@ -1,10 +1,10 @@
 // The join of two graphs of the same names: the other's edges that ours do not cover are put in.
+use crate::pairs::Replaced;
+use crate::pairs::between;
+use crate::pairs::replace_set;
 use borrow_graph::graph::Answer;
 use borrow_graph::graph::BorrowGraph;
 use borrow_graph::graph::GraphEdges;
-use crate::pairs::between;
-use crate::pairs::replace_set;
-use crate::pairs::Replaced;
 use references::references::BorrowEdgeSet;
 use references::references::Candidate;
 use references::references::Inserted;
@@ -52,7 +52,8 @@ fn join_sets(ours: BorrowEdgeSet, theirs: BorrowEdgeSet) -> Inserted
     Inserted { refusal: 0, set: s }
 }
 
-fn join_pair(edges: GraphEdges,
+fn join_pair(
+    edges: GraphEdges,
     ours: GraphEdges,
     theirs: GraphEdges,
     parent: RefID,

@@ -1,8 +1,8 @@
 // A pair's set: collected, and exchanged for a new one within the limit of 96 edges.
 use borrow_graph::graph::GraphEdge;
 use borrow_graph::graph::GraphEdges;
-use meaning::MAX_EDGES;
 use meaning::MAX_EDGE_SET_SIZE;
+use meaning::MAX_EDGES;
 use references::paths::Ordering;
 use references::references::BorrowEdge;
 use references::references::BorrowEdgeSet;
@@ -21,7 +21,7 @@ ghost use Rattle.borrow_graph.specs.Models.{edgesOf};
 ghost use Rattle.borrow_calls.specs.Models.{replacedOf};
 
 // The set of a pair, and how many edges stand before it.
-pub(crate) struct Between {
+pub(crate) struct PairSet {
     pub low: usize,
     pub set: BorrowEdgeSet,
 }
@@ -33,7 +33,7 @@ pub(crate) struct Replaced {
 }
 
 // The set of a pair, and how many edges stand before it.
-pub(crate) fn between(edges: GraphEdges, parent: RefID, child: RefID) -> Between
+pub(crate) fn between(edges: GraphEdges, parent: RefID, child: RefID) -> PairSet
     requires { ⌜ length (setAt (parent .0) (child .0) (edgesOf edges) .edges) ≤ 10 ⌝ }
     ensures { λ r. ⌜ (setOf (r .set) ≡ setAt (parent .0) (child .0) (edgesOf edges)) × (r .low ≡ length (keep (isBefore (parent .0) (child .0)) (edgesOf edges))) ⌝ }
 {
@@ -69,11 +69,12 @@ pub(crate) fn between(edges: GraphEdges, parent: RefID, child: RefID) -> Between
         len: len as u8,
         overflown: overflown,
     };
-    Between { low: low, set: set }
+    PairSet { low: low, set: set }
 }
 
 // The `old` edges from `low` on give way to those of a set of this pair.
-pub(crate) fn replace(edges: GraphEdges,
+pub(crate) fn replace(
+    edges: GraphEdges,
     low: usize,
     old: usize,
     parent: RefID,
@@ -111,7 +112,8 @@ pub(crate) fn replace(edges: GraphEdges,
 }
 
 // `shrinking`: only where the new set has fewer edges.
-pub(crate) fn replace_set(edges: GraphEdges,
+pub(crate) fn replace_set(
+    edges: GraphEdges,
     parent: RefID,
     child: RefID,
     new: Inserted,

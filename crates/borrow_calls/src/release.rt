@@ -1,11 +1,10 @@
 // A name is taken out; each way through it stays as an edge.
+use crate::pairs::Replaced;
+use crate::pairs::between;
+use crate::pairs::replace_set;
 use borrow_graph::graph::Answer;
 use borrow_graph::graph::BorrowGraph;
 use borrow_graph::graph::GraphEdges;
-use crate::pairs::between;
-use crate::pairs::replace_set;
-use crate::pairs::Replaced;
-
 use references::paths;
 use references::references::BorrowEdge;
 use references::references::BorrowEdgeSet;
@@ -126,7 +125,8 @@ fn spliced(edges: GraphEdges, parent: RefID, id: RefID, child: RefID) -> Inserte
 }
 
 // No way leads from a name to itself.
-fn splice_pair(edges: GraphEdges,
+fn splice_pair(
+    edges: GraphEdges,
     old: GraphEdges,
     parent: RefID,
     id: RefID,
@@ -147,7 +147,13 @@ fn splice_pair(edges: GraphEdges,
 }
 
 // One parent with each child.
-fn splice_row(edges: GraphEdges, old: GraphEdges, parent: RefID, id: RefID, shrinking: bool) -> Replaced
+fn splice_row(
+    edges: GraphEdges,
+    old: GraphEdges,
+    parent: RefID,
+    id: RefID,
+    shrinking: bool,
+) -> Replaced
     requires { ⌜ Neat (edgesOf edges) × Neat (edgesOf old) ⌝ }
     ensures { λ r. ⌜ replacedOf r ≡ replaceLim shrinking (spliceSet (edgesOf old) (id .0)) (childRow (edgesOf old) (id .0) (record { parent = parent .0; child = id .0 })) (edgesOf edges) ⌝ }
 {

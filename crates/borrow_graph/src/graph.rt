@@ -1,7 +1,7 @@
 // The borrow graph by value. Every call tests first that the graph is well formed; a call that is refused leaves the graph as
 // it was.
-use meaning::MAX_EDGES;
 use meaning::MAX_EDGE_SET_SIZE;
+use meaning::MAX_EDGES;
 use meaning::MAX_NAMES;
 use references::paths::Ordering;
 use references::references::BorrowEdge;

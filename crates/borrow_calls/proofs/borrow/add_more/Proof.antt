@@ -87,17 +87,17 @@ replace-requires c κs = omega (arith, old-size (c .before .before .before), who
 
 returns-2 : tie.Need-returns-2
 returns-2 c =
-    let a = (c .before .before .before .before .before .before .before .before .before .before .before .args) in
+    let a = (c .before .before .before .before .before .before .before .before .before .before .before .before .args) in
     let p = a .parent .0 in
     let d = a .child .0 in
-    let b = (c .before .before .before .before .before .before .before .before) in
+    let b = (c .before .before .before .before .before .before .before .before .before) in
     let es = edges b in
-    let s = made (c .before .before .before .before .before .before) in
-    let z : edgesOf ((c .replace) .result) ≡ setTo p d (new b) es =
-    (c .replace) .ensures
-    ∙ (λ i. take ((c .before .before .before .before .before .before .before .before .between) .ensures .1 i) es ++ (tagged p d (s i .blurred) (s i .edges) ++ drop ((c .before .before .before .before .before .before .before .before .between) .ensures .1 i + old-size (c .before .before .before .before) i) es))
-    ∙ sym (setTo-cut p d es (inv-neat (graphOf (a .graph)) (wf→inv (graphOf (a .graph)) ((c .before .before .before .before .before .before .before .before .before .before .before .pre)))) (new b)) in
-    answered (graphOf (a .graph)) _ _ (add-fits (graphOf (a .graph)) p d (edgeOf (a .edge)) (new b) (put b) (omega (arith, total (c .before .before), (c .before .if1) .left)) ∙ (λ i. ok (record { names = refsOf (a .graph .refs); edges = sym z i })))
+    let s = made (c .before .before .before .before .before .before .before) in
+    let z : edgesOf ((c .before .replace) .result) ≡ setTo p d (new b) es =
+    (c .before .replace) .ensures
+    ∙ (λ i. take ((c .before .before .before .before .before .before .before .before .before .between) .ensures .1 i) es ++ (tagged p d (s i .blurred) (s i .edges) ++ drop ((c .before .before .before .before .before .before .before .before .before .between) .ensures .1 i + old-size (c .before .before .before .before .before) i) es))
+    ∙ sym (setTo-cut p d es (inv-neat (graphOf (a .graph)) (wf→inv (graphOf (a .graph)) (c .before .before .before .before .before .before .before .before .before .before .before .before .pre))) (new b)) in
+    answered (graphOf (a .graph)) _ _ (add-fits (graphOf (a .graph)) p d (edgeOf (a .edge)) (new b) (put b) (omega (arith, total (c .before .before .before), (c .before .before .if1) .left)) ∙ (λ i. ok (record { names = refsOf (a .graph .refs); edges = sym z i })))
 
 pub add-more-spec : {M : Type 1} → statement M
 add-more-spec =

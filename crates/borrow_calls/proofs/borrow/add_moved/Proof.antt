@@ -10,7 +10,7 @@ use Rattle.meaning.specs.Borrow.{shift}
 use Rattle.meaning.specs.PutLaws.{Moved, shifted-kept, shifted-rest, shifted-length}
 use Rattle.references.specs.Models.{pathOf, edgeOf}
 use Rattle.references.specs.ModelLaws.{path-short}
-use Rattle.borrow_graph.specs.Models.{gedgeOf, refsOf, edgesOf, graphOf}
+use Rattle.borrow_graph.specs.Models.{gedgeOf, refsOf, edgesOf, heldOf, graphOf}
 use Rattle.borrow_graph.specs.ModelLaws.{no-gedge, edges-step, edges-end}
 use native.Mathlib.Omega.{arith}
 use borrow.Author.Needs.{needs}
@@ -19,7 +19,7 @@ use Rattle.borrow_calls.proofs.borrow.add_moved.Tie as tie
 
 abbrev Inv-loop : tie.InvT-loop
 Inv-loop path child moved n cur₀ i₀ cur i =
-    (wellFormed (graphOf cur) ≡ true) × (refsOf (cur .refs) ≡ refsOf (cur₀ .refs)) × (length (edgesOf (cur .edges)) ≤ length (edgesOf (cur₀ .edges)) + i)
+    (wellFormed (graphOf cur) ≡ true) × (refsOf (cur .refs) ≡ refsOf (cur₀ .refs)) × (length (heldOf cur) ≤ length (heldOf cur₀) + i)
     × (all (λ y. pairOk (refsOf (cur₀ .refs)) (child .0) (y .child)) (drop i (edgesOf moved)) ≡ true)
     × (addAll (map (shift (child .0) (pathOf path)) (drop i (edgesOf moved))) (graphOf cur) ≡ addAll (map (shift (child .0) (pathOf path)) (edgesOf moved)) (graphOf cur₀))
 
@@ -73,7 +73,7 @@ loop-again c =
     let y = here i in
     let ys = map (shift d p) (drop (l .i + 1) (edgesOf (a .t2))) in
     let r = addAll (map (shift d p) (edgesOf (a .t2))) (graphOf (a .graph)) in
-    let room : length (edgesOf (l .cur .edges)) < 96 = omega (arith, l .inv .2, (c .before .before .before .before .before .before .before .before .pre) .1 .0, (c .before .before .before .before .before .before .before .len) .ensures .0, (c .before .before .before .before .before .loop-test) .taken) in
+    let room : length (heldOf (l .cur)) < 96 = omega (arith, l .inv .2, (c .before .before .before .before .before .before .before .before .pre) .1 .0, (c .before .before .before .before .before .before .before .len) .ensures .0, (c .before .before .before .before .before .loop-test) .taken) in
     let z : length ((c .before .before .factor) .result .labels) ≡ 8 = search (needs, (c .before .before .factor) .ok) in
     let sh : length (drop (length p) (y .edge .path)) ≤ 8 = subst (λ (k : List ℕ). length k ≤ 8) ((c .before .before .factor) .ensures) (path-short ((c .before .before .factor) .result) z) in
     let q : GEdge → Bool = λ u. pairOk (refsOf (a .graph .refs)) d (u .child) in

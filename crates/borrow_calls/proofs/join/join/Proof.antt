@@ -18,12 +18,12 @@ join-all-requires c κs = join-neat (graphOf ((c .before .before .before .before
 
 returns : tie.Need-returns
 returns c =
-    let a = (c .before .before .before .before .before .before .before .before .before .args) in
+    let a = (c .before .before .before .before .before .before .before .before .before .before .args) in
     let g = graphOf (a .graph) in
-    let r = (c .before .before .before .join-all) .result in
+    let r = (c .before .before .before .before .join-all) .result in
     answered g (record { names = g .names; edges = edgesOf (r .edges) }) _
-    (join-when g (graphOf (a .other)) (sym ((c .before .before .before .before .before .before .before .before .joinable) .ensures) ∙ (c .before .before .before .before .before .before .before .if1) .taken) (replacedOf r) ((c .before .before .before .join-all) .ensures)
-    ∙ ap (λ (b : Ans (List GEdge)). andThen {B = Graph} b (λ fs. ok (record { names = g .names; edges = fs }))) (told-yes (r .refusal) (edgesOf (r .edges)) ((c .before .if2) .taken)))
+    (join-when g (graphOf (a .other)) (sym ((c .before .before .before .before .before .before .before .before .before .joinable) .ensures) ∙ (c .before .before .before .before .before .before .before .before .if1) .taken) (replacedOf r) ((c .before .before .before .before .join-all) .ensures)
+    ∙ ap (λ (b : Ans (List GEdge)). andThen {B = Graph} b (λ fs. ok (record { names = g .names; edges = fs }))) (told-yes (r .refusal) (edgesOf (r .edges)) ((c .before .before .if2) .taken)))
 
 returns-2 : tie.Need-returns-2
 returns-2 c =

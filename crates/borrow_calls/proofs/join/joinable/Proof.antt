@@ -10,15 +10,15 @@ well-formed-requires c κs = search needs
 well-formed-requires-2 : tie.Need-well-formed-requires-2
 well-formed-requires-2 c κs = search needs
 
-are-in-requires : tie.Need-are-in-requires
-are-in-requires c κs = search needs
+holds-all-requires : tie.Need-holds-all-requires
+holds-all-requires c κs = search needs
 
-are-in-requires-2 : tie.Need-are-in-requires-2
-are-in-requires-2 c κs = search needs
+holds-all-requires-2 : tie.Need-holds-all-requires-2
+holds-all-requires-2 c κs = search needs
 
 returns : tie.Need-returns
 unfolding sameNames
-returns c = λ i. ((c .before .before .before .before .before .well-formed) .ensures i && (c .before .before .before .before .well-formed2) .ensures i) && ((c .before .are-in) .ensures i && (c .are-in2) .ensures i)
+returns c = λ i. ((c .before .before .before .before .before .well-formed) .ensures i && (c .before .before .before .before .well-formed2) .ensures i) && ((c .before .holds-all) .ensures i && (c .holds-all2) .ensures i)
 
 pub joinable-spec : {M : Type 1} → statement M
 joinable-spec =
@@ -26,6 +26,6 @@ joinable-spec =
     (tie.spec
     well-formed-requires
     well-formed-requires-2
-    are-in-requires
-    are-in-requires-2
+    holds-all-requires
+    holds-all-requires-2
     returns)
