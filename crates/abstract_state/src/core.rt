@@ -2,6 +2,11 @@
 use crate::state::AbstractState;
 use crate::state::AbstractValue;
 use crate::state::Local;
+use borrow_calls::borrow::add_strong_borrow;
+use borrow_calls::borrow::add_strong_field_borrow;
+use borrow_calls::borrow::add_weak_borrow;
+use borrow_calls::borrow::add_weak_field_borrow;
+use borrow_calls::release::release;
 use borrow_graph::graph::Answer;
 use borrow_graph::graph::Told;
 use file_format::LocalIndex;
@@ -156,7 +161,7 @@ impl AbstractState {
         ensures { λ r. ⌜ outcomeOf r ≡ then (outcomeOf self) (addCopy (parent .0) (child .0)) ⌝ }
     {
         let g = self.borrow_graph;
-        let a = g.add_strong_borrow(parent, child);
+        let a = add_strong_borrow(g, parent, child);
         self.on_graph(a)
     }
 
@@ -164,7 +169,7 @@ impl AbstractState {
         ensures { λ r. ⌜ outcomeOf r ≡ then (outcomeOf self) (addBorrow (parent .0) (child .0)) ⌝ }
     {
         let g = self.borrow_graph;
-        let a = g.add_weak_borrow(parent, child);
+        let a = add_weak_borrow(g, parent, child);
         self.on_graph(a)
     }
 
@@ -172,7 +177,7 @@ impl AbstractState {
         ensures { λ r. ⌜ outcomeOf r ≡ then (outcomeOf self) (addFieldBorrow (parent .0) field (child .0)) ⌝ }
     {
         let g = self.borrow_graph;
-        let a = g.add_strong_field_borrow(parent, Label::Field(field), child);
+        let a = add_strong_field_borrow(g, parent, Label::Field(field), child);
         self.on_graph(a)
     }
 
@@ -181,7 +186,7 @@ impl AbstractState {
     {
         let g = self.borrow_graph;
         let root = RefID(self.num_locals as u16);
-        let a = g.add_strong_field_borrow(root, Label::Local(local.0 as u16), child);
+        let a = add_strong_field_borrow(g, root, Label::Local(local.0 as u16), child);
         self.on_graph(a)
     }
 
@@ -190,7 +195,7 @@ impl AbstractState {
     {
         let g = self.borrow_graph;
         let root = RefID(self.num_locals as u16);
-        let a = g.add_weak_field_borrow(root, Label::Global(resource), child);
+        let a = add_weak_field_borrow(g, root, Label::Global(resource), child);
         self.on_graph(a)
     }
 
@@ -198,7 +203,7 @@ impl AbstractState {
         ensures { λ r. ⌜ outcomeOf r ≡ then (outcomeOf self) (releaseName (id .0)) ⌝ }
     {
         let g = self.borrow_graph;
-        let a = g.release(id);
+        let a = release(g, id);
         self.on_graph(a)
     }
 }
