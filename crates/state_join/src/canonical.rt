@@ -10,7 +10,6 @@ use references::references::RefID;
 ghost use mathlib.Core.Path.{_≡_};
 ghost use mathlib.Core.List.{_∷_};
 ghost use Prim.Native.Nat.{_<_, _≤_};
-ghost use lib.ListN.{getD};
 ghost use Rattle.meaning.specs.Base.{any};
 ghost use Rattle.meaning.specs.State as S;
 ghost use Rattle.meaning.specs.State.{eqLocal};
@@ -44,15 +43,16 @@ fn is_named(locals: [Local; 16], n: usize, id: RefID) -> bool
     false
 }
 
-// Whether the local at the index holds a name below the index, and some local holds the index as its name.
-fn crossed(locals: [Local; 16], n: usize, i: usize) -> bool
-    requires { ⌜ (n ≤ 16) × (i < n) ⌝ }
-    ensures { λ r. ⌜ r ≡ R.crossed (localsIn locals n) i (getD (localsIn locals n) i S.Local.absent) ⌝ }
+// The local at the index holds a name below the index, and some local holds the index as its name.
+fn crossed(locals: [Local; 16], n: usize, x: Local, i: usize) -> bool
+    requires { ⌜ (n ≤ 16) × (i < 16) ⌝ }
+    ensures { λ r. ⌜ r ≡ R.crossed (localsIn locals n) i (localOf x) ⌝ }
 {
-    let v = value_of(locals[i]);
+    let v = value_of(x);
     match v {
         AbstractValue::Reference(held) => {
-            if (held.0 as usize) < i {
+            let below = (held.0 as usize) < i;
+            if below {
                 return is_named(locals, n, RefID(i as u16));
             }
             false
@@ -68,7 +68,7 @@ fn crosses(locals: [Local; 16], n: usize) -> bool
 {
     let mut i: usize = 0;
     while i < n {
-        if crossed(locals, n, i) {
+        if crossed(locals, n, locals[i], i) {
             return true;
         }
         i += 1;
@@ -144,8 +144,8 @@ fn own_names(locals: [Local; 16], n: usize) -> [Local; 16]
 pub fn construct_canonical_state(state: AbstractState) -> AbstractState
     ensures { λ r. ⌜ outcomeOf r ≡ then (outcomeOf state) canonicalEnd ⌝ }
 {
-    let mut s = state;
     if (state.violation == 0) & (state.refusal == 0) {
+        let mut s = state;
         let n = lesser(state.num_locals as usize, 16);
         let locals = state.locals;
         if crosses(locals, n) {
@@ -159,6 +159,7 @@ pub fn construct_canonical_state(state: AbstractState) -> AbstractState
         s.locals = own;
         s.borrow_graph = h;
         s.next_id = state.num_locals as u32 + 1;
+        return s;
     }
-    s
+    state
 }
