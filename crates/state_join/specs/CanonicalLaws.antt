@@ -6,14 +6,15 @@ use mathlib.Core.Path.{_≡_, refl, sym, ap, _∙_}
 use mathlib.Core.Bool.{Bool, true, false, not, _&&_, _||_, cond}
 use mathlib.Core.List.{List, [], _∷_}
 use lib.Dec.{eqb, ltb}
-use Rattle.meaning.specs.Base.{Ans, ok, refuse, guard, any, decide, eqb-eq, eqb-self, eqb-no, eqb-ne}
+use Rattle.meaning.specs.Base.{Ans, ok, refuse, guard, any, decide, and-l, and-r, eqb-eq, eqb-self, eqb-no, eqb-ne}
 use Rattle.meaning.specs.Graph.{Graph}
 use Rattle.meaning.specs.State as S
 use Rattle.meaning.specs.State.{State, absent, value, ref, eqLocal}
 use Rattle.meaning.specs.Rename.{renamed, indexOf, newNameOf, ownNames, crossed, crosses, canonical}
 use Rattle.meaning.specs.Remap.{Change, changed}
-use Rattle.meaning.specs.Running.{Operand, nonRef, reference}
-use Rattle.state_join.specs.Models.{heldBy, ownName, renames}
+use Rattle.meaning.specs.Running.{then, Operand, nonRef, reference, Running}
+use Rattle.abstract_state.specs.Models.{halted}
+use Rattle.state_join.specs.Models.{heldBy, ownName, renames, canonicalEnd}
 
 -- ---- what a local holds
 
@@ -31,6 +32,9 @@ pub is-ref : (x : S.Local) (n : ℕ) → reference n ≡ heldBy x → x ≡ ref 
 is-ref absent n e = let w : _≡_ {A = ℕ} 0 1 = cc in absurd (omega arith)
 is-ref value n e = let w : _≡_ {A = ℕ} 0 1 = cc in absurd (omega arith)
 is-ref (ref m) n e = let z : m ≡ n = cc in ap ref z
+
+pub named-held : (x : S.Local) (m n : ℕ) (b : Bool) → reference m ≡ heldBy x → eqb m n ≡ b → eqLocal x (ref n) ≡ b
+named-held x m n b e h = ap (λ (y : S.Local). eqLocal y (ref n)) (is-ref x m e) ∙ h
 
 pub named-none : (x : S.Local) (n : ℕ) → nonRef ≡ heldBy x → eqLocal x (ref n) ≡ false
 named-none absent n e = refl
@@ -111,3 +115,13 @@ module _ (l : ℕ) (s : State) where
   canonical-ok xs g e p q =
       let r : renamed (newNameOf l (s .locals)) (s .graph) ≡ g = sym (q ∙ (λ i. renamed (λ n. new-name l (s .locals) n i) (s .graph))) in
       rw e (λ i. ok (record { locals = sym p i; graph = r i }))
+
+-- a state that goes on: refused with 16, or renamed
+pub end-16 : (v n : ℕ) (r q : Running) → eqb v 0 && eqb n 0 ≡ true → canonical (r .root) (record { locals = r .locals; graph = r .graph }) ≡ refuse 16 → halted v 16 q ≡ then (halted v n r) canonicalEnd
+unfolding canonicalEnd
+end-16 v n r q e k = rw (and-l (eqb v 0) (eqb n 0) e, and-r (eqb v 0) (eqb n 0) e, k)
+
+pub end-ok : (v n : ℕ) (r : Running) (xs : List S.Local) (g : Graph) → eqb v 0 && eqb n 0 ≡ true → canonical (r .root) (record { locals = r .locals; graph = r .graph }) ≡ ok (record { locals = xs; graph = g })
+    → halted v n (record { locals = xs; graph = g; next = r .root + 1; root = r .root }) ≡ then (halted v n r) canonicalEnd
+unfolding canonicalEnd
+end-ok v n r xs g e k = rw (and-l (eqb v 0) (eqb n 0) e, and-r (eqb v 0) (eqb n 0) e, k, add-one (r .root))

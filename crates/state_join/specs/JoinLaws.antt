@@ -1,14 +1,14 @@
 -- The join, local by local, and whether it changed the state.
-use Prim.Native.Nat.{ℕ, zero, suc, _+_, _-_, _≤_, _<_, min}
+use Prim.Native.Nat.{ℕ, _+_, _<_}
 use native.Mathlib.Omega.{arith}
 use mathlib.Core.Path.{_≡_, refl, sym, ap, _∙_, subst}
 use mathlib.Core.Logic.{_⊎_, inl, inr}
 use mathlib.Core.Bool.{Bool, true, false, not, _&&_, _||_, cond}
 use mathlib.Core.List.{List, [], _∷_, _++_, map, append-nil}
-use lib.Dec.{eqb, leb}
-use lib.ListN.{length, take, drop, set, length-drop}
+use lib.Dec.{eqb}
+use lib.ListN.{length, take, set}
 use lib.Seq.{append-snoc}
-use Rattle.meaning.specs.Base.{Ans, ok, refuse, andThen, guard, all, empty, decide, and-l, and-r, and-i, or-l, or-r, andThen-ok, guard-ok, ok-inj, eqb-self, leb-le, leb-gt}
+use Rattle.meaning.specs.Base.{Ans, ok, refuse, andThen, guard, all, empty, and-l, and-i, or-l, or-r, andThen-ok, guard-ok, ok-inj, eqb-self}
 use Rattle.meaning.specs.ArrayLaws.{push-map}
 use Rattle.meaning.specs.Graph.{Name, Graph, holds, held, wellFormed, sameNames, unmatched, release, joinGraphs}
 use Rattle.meaning.specs.CoverLaws.{covered-at, unmatched-none}
@@ -18,14 +18,14 @@ use Rattle.meaning.specs.State.{State, Step, absent, value, ref, joinLocal, joi
 use Rattle.meaning.specs.StateLaws.{Joined, join-law}
 use Rattle.meaning.specs.ChangeLaws.{leq, rustChanged, changed-is-rust, eqLocals-eq}
 use Rattle.meaning.specs.Running as R
-use Rattle.meaning.specs.Running.{Outcome, done, then, Operand, nonRef, reference, Running}
+use Rattle.meaning.specs.Running.{Operand, nonRef, reference}
 use Rattle.borrow_graph.specs.Models.{told}
-use Rattle.borrow_graph.specs.ModelLaws.{told-yes, told-no}
+use Rattle.borrow_graph.specs.ModelLaws.{told-no, told-on, told-off}
 use Rattle.references.specs.declared.references.RefID.{RefID}
-use Rattle.abstract_state.specs.Models.{localOf, localsIn, stateOf, outcomeOf, runningOf, halted}
+use Rattle.abstract_state.specs.Models.{localOf, stateOf}
 use Rattle.abstract_state.specs.declared.state.Local.{Local}
 use Rattle.abstract_state.specs.declared.state.AbstractState.{AbstractState}
-use Rattle.state_join.specs.Models.{heldBy, acted, withState, Joins, changedBy}
+use Rattle.state_join.specs.Models.{heldBy, acted, Joins}
 use Rattle.state_join.specs.declared.join.Action.{Action}
 use Rattle.state_join.specs.declared.join.Action.the-variants.{Nothing, ReleaseOurs, ReleaseTheirs, Refuse}
 
@@ -121,97 +121,77 @@ start (refuse n) = refl
 pub front-next : (out : List Local) (i : ℕ) (x : Local) → i < length out → map localOf (take (i + 1) (set out i x)) ≡ map localOf (take i out) ++ (localOf x ∷ [])
 front-next out i x h = sym (append-nil (map localOf (take (i + 1) (set out i x)))) ∙ push-map localOf out i (i + 1) x [] refl h
 
--- a turn of the loop: `pre` is what is left of the locals before, `inv` the loop's invariant
-module _ (xs ys : List S.Local) (i : ℕ) (a b : S.Local) (g h : Graph) (pre : List S.Local) (j : Ans S.Parts)
-    (ex : drop i xs ≡ a ∷ drop (i + 1) xs) (ey : drop i ys ≡ b ∷ drop (i + 1) ys) (inv : andThen (joinLocals (drop i xs) (drop i ys) g h) (after pre) ≡ j)
-    (l : S.Local) (act : Action) (m : acted l act g h ≡ joinLocal a b g h) (pre′ : List S.Local) (ep : pre′ ≡ pre ++ (l ∷ [])) where
-  abbrev more : S.Local → List S.Local → Graph → Graph → Ans S.Parts
-  more x before g′ h′ = andThen (joinLocals (drop (i + 1) xs) (drop (i + 1) ys) g′ h′) (after (before ++ (x ∷ [])))
+-- the rest after a local's step
+abbrev on : List S.Local → List S.Local → List S.Local → Step → Ans S.Parts
+on pre xs ys s = andThen (joinLocals xs ys (s .ours) (s .theirs)) (after (pre ++ (s .local ∷ [])))
 
-  turned : andThen (acted l act g h) (λ s. more (s .local) pre (s .ours) (s .theirs)) ≡ j
+-- A turn of the loop, by its action: the locals left are `xs` and `ys`, what was written is `pre`, and all gives `j`. A release
+-- answers `told n k`.
+pub record Turn (xs ys : List S.Local) (g h : Graph) (pre : List S.Local) (j : Ans S.Parts) (act : Action) : Type 0 where
+  pub nothing : act ≡ Nothing → andThen (joinLocals xs ys g h) (after pre) ≡ j
+  pub refused : act ≡ Refuse → refuse 15 ≡ j
+  pub ours : (r : RefID) (n : ℕ) (k : Graph) → act ≡ ReleaseOurs r → told n k ≡ release g (r .0) → n ≡ 0 → andThen (joinLocals xs ys k h) (after pre) ≡ j
+  pub oursOff : (r : RefID) (n : ℕ) (k : Graph) → act ≡ ReleaseOurs r → told n k ≡ release g (r .0) → (n ≡ 0 → ⊥) → (p : S.Parts) → told n p ≡ j
+  pub theirs : (r : RefID) (n : ℕ) (k : Graph) → act ≡ ReleaseTheirs r → told n k ≡ release h (r .0) → n ≡ 0 → andThen (joinLocals xs ys g k) (after pre) ≡ j
+  pub theirsOff : (r : RefID) (n : ℕ) (k : Graph) → act ≡ ReleaseTheirs r → told n k ≡ release h (r .0) → (n ≡ 0 → ⊥) → (p : S.Parts) → told n p ≡ j
+
+bind-ok : {A : Type 0} (a : Ans A) (f : A → Step) (k : Step → Ans S.Parts) → andThen a (λ x. k (f x)) ≡ andThen (andThen a (λ x. ok (f x))) k
+bind-ok (ok x) f k = refl
+bind-ok (refuse n) f k = refl
+
+module _ (as′ bs : List S.Local) (a b : S.Local) (xs ys : List S.Local) (g h : Graph) (pre : List S.Local) (j : Ans S.Parts)
+    (ex : as′ ≡ a ∷ xs) (ey : bs ≡ b ∷ ys) (inv : andThen (joinLocals as′ bs g h) (after pre) ≡ j) where
+  turned : andThen (joinLocal a b g h) (on pre xs ys) ≡ j
   unfolding joinLocals
-  turned =
-      ap (λ (z : Ans Step). andThen z (λ s. more (s .local) pre (s .ours) (s .theirs))) m
-      ∙ go (joinLocal a b g h)
-      ∙ (λ k. andThen (joinLocals (sym ex k) (sym ey k) g h) (after pre)) ∙ inv
+  turned = go (joinLocal a b g h) ∙ (λ k. andThen (joinLocals (sym ex k) (sym ey k) g h) (after pre)) ∙ inv
     where
       inner : (s : Step) (r : Ans S.Parts) → andThen r (after (pre ++ (s .local ∷ []))) ≡ andThen (andThen r (λ t. ok (record { locals = s .local ∷ t .locals; ours = t .ours; theirs = t .theirs }))) (after pre)
       inner s (ok t) = ap (λ (zs : List S.Local). ok (record { locals = zs; ours = t .ours; theirs = t .theirs })) (append-snoc pre (s .local) (t .locals))
       inner s (refuse n) = refl
 
-      go : (z : Ans Step) → andThen z (λ s. more (s .local) pre (s .ours) (s .theirs))
-          ≡ andThen (andThen z (λ s. andThen (joinLocals (drop (i + 1) xs) (drop (i + 1) ys) (s .ours) (s .theirs)) (λ t. ok (record { locals = s .local ∷ t .locals; ours = t .ours; theirs = t .theirs })))) (after pre)
-      go (ok s) = inner s (joinLocals (drop (i + 1) xs) (drop (i + 1) ys) (s .ours) (s .theirs))
+      go : (z : Ans Step) → andThen z (on pre xs ys)
+          ≡ andThen (andThen z (λ s. andThen (joinLocals xs ys (s .ours) (s .theirs)) (λ t. ok (record { locals = s .local ∷ t .locals; ours = t .ours; theirs = t .theirs })))) (after pre)
+      go (ok s) = inner s (joinLocals xs ys (s .ours) (s .theirs))
       go (refuse n) = refl
 
-  told-refused : (n : ℕ) (p : S.Parts) → (n ≡ 0 → ⊥) → refuse n ≡ j → told n p ≡ j
-  told-refused n p z e = told-no n p z ∙ e
+  pub turn : (l : S.Local) (act : Action) (pre′ : List S.Local) → acted l act g h ≡ joinLocal a b g h → pre′ ≡ pre ++ (l ∷ []) → Turn xs ys g h pre′ j act
+  turn l act pre′ m ep =
+      let step : Graph → Graph → Step = λ g′ h′. record { local = l; ours = g′; theirs = h′ } in
+      let by : (c : Action) → act ≡ c → andThen (acted l c g h) (on pre xs ys) ≡ j =
+      λ c e. ap (λ (d : Action). andThen (acted l d g h) (on pre xs ys)) (sym e) ∙ ap (λ (z : Ans Step). andThen z (on pre xs ys)) m ∙ turned in
+      let more : (g′ h′ : Graph) → andThen (joinLocals xs ys g′ h′) (after pre′) ≡ on pre xs ys (step g′ h′) =
+      λ g′ h′. ap (λ (zs : List S.Local). andThen (joinLocals xs ys g′ h′) (after zs)) ep in
+      let ours : (r : RefID) → act ≡ ReleaseOurs r → andThen (release g (r .0)) (λ k. on pre xs ys (step k h)) ≡ j =
+      λ r e. bind-ok (release g (r .0)) (λ k. step k h) (on pre xs ys) ∙ by (ReleaseOurs r) e in
+      let theirs : (r : RefID) → act ≡ ReleaseTheirs r → andThen (release h (r .0)) (λ k. on pre xs ys (step g k)) ≡ j =
+      λ r e. bind-ok (release h (r .0)) (λ k. step g k) (on pre xs ys) ∙ by (ReleaseTheirs r) e in
+      record {
+        nothing = λ e. more g h ∙ by Nothing e;
+        refused = λ e. by Refuse e;
+        ours = λ r n k e f z. more k h ∙ told-on n k (release g (r .0)) (λ y. on pre xs ys (step y h)) j f (ours r e) z;
+        oursOff = λ r n k e f z p. told-off n k (release g (r .0)) (λ y. on pre xs ys (step y h)) j f (ours r e) z p;
+        theirs = λ r n k e f z. more g k ∙ told-on n k (release h (r .0)) (λ y. on pre xs ys (step g y)) j f (theirs r e) z;
+        theirsOff = λ r n k e f z p. told-off n k (release h (r .0)) (λ y. on pre xs ys (step g y)) j f (theirs r e) z p;
+      }
 
-  -- each action's turn; the graph that is released answers `told n`
-  pub turn-nothing : act ≡ Nothing → andThen (joinLocals (drop (i + 1) xs) (drop (i + 1) ys) g h) (after pre′) ≡ j
-  turn-nothing e =
-      ap (λ (zs : List S.Local). andThen (joinLocals (drop (i + 1) xs) (drop (i + 1) ys) g h) (after zs)) ep
-      ∙ ap (λ (c : Action). andThen (acted l c g h) (λ s. more (s .local) pre (s .ours) (s .theirs))) (sym e) ∙ turned
+one-left : (as′ bs : List S.Local) (g h : Graph) → (length as′ ≡ 0) ⊎ (length bs ≡ 0) → (length as′ ≡ length bs → ⊥) → joinLocals as′ bs g h ≡ refuse 9
+unfolding joinLocals
+one-left [] [] g h d z = absurd (z refl)
+one-left [] (b ∷ bs) g h d z = refl
+one-left (a ∷ as′) [] g h d z = refl
+one-left (a ∷ as′) (b ∷ bs) g h (inl e) z = absurd (omega arith)
+one-left (a ∷ as′) (b ∷ bs) g h (inr e) z = absurd (omega arith)
 
-  pub turn-refuse : act ≡ Refuse → refuse 15 ≡ j
-  turn-refuse e = ap (λ (c : Action). andThen (acted l c g h) (λ s. more (s .local) pre (s .ours) (s .theirs))) (sym e) ∙ turned
-
-  module _ (r : RefID) (n : ℕ) (k : Graph) where
-    ours-told : act ≡ ReleaseOurs r → told n k ≡ release g (r .0) → andThen (andThen (told n k) (λ g′. ok (record { local = l; ours = g′; theirs = h }))) (λ (s : Step). more (s .local) pre (s .ours) (s .theirs)) ≡ j
-    ours-told e f =
-        ap (λ (z : Ans Graph). andThen (andThen z (λ g′. ok (record { local = l; ours = g′; theirs = h }))) (λ (s : Step). more (s .local) pre (s .ours) (s .theirs))) f
-        ∙ ap (λ (c : Action). andThen (acted l c g h) (λ s. more (s .local) pre (s .ours) (s .theirs))) (sym e) ∙ turned
-
-    pub turn-ours : act ≡ ReleaseOurs r → told n k ≡ release g (r .0) → n ≡ 0 → andThen (joinLocals (drop (i + 1) xs) (drop (i + 1) ys) k h) (after pre′) ≡ j
-    turn-ours e f z =
-        ap (λ (zs : List S.Local). andThen (joinLocals (drop (i + 1) xs) (drop (i + 1) ys) k h) (after zs)) ep
-        ∙ ap (λ (y : Ans Graph). andThen (andThen y (λ g′. ok (record { local = l; ours = g′; theirs = h }))) (λ (s : Step). more (s .local) pre (s .ours) (s .theirs))) (sym (told-yes n k z)) ∙ ours-told e f
-
-    pub stop-ours : act ≡ ReleaseOurs r → told n k ≡ release g (r .0) → (n ≡ 0 → ⊥) → (p : S.Parts) → told n p ≡ j
-    stop-ours e f z p =
-        told-no n p z
-        ∙ ap (λ (y : Ans Graph). andThen (andThen y (λ g′. ok (record { local = l; ours = g′; theirs = h }))) (λ (s : Step). more (s .local) pre (s .ours) (s .theirs))) (sym (told-no n k z)) ∙ ours-told e f
-
-    theirs-told : act ≡ ReleaseTheirs r → told n k ≡ release h (r .0) → andThen (andThen (told n k) (λ h′. ok (record { local = l; ours = g; theirs = h′ }))) (λ (s : Step). more (s .local) pre (s .ours) (s .theirs)) ≡ j
-    theirs-told e f =
-        ap (λ (z : Ans Graph). andThen (andThen z (λ h′. ok (record { local = l; ours = g; theirs = h′ }))) (λ (s : Step). more (s .local) pre (s .ours) (s .theirs))) f
-        ∙ ap (λ (c : Action). andThen (acted l c g h) (λ s. more (s .local) pre (s .ours) (s .theirs))) (sym e) ∙ turned
-
-    pub turn-theirs : act ≡ ReleaseTheirs r → told n k ≡ release h (r .0) → n ≡ 0 → andThen (joinLocals (drop (i + 1) xs) (drop (i + 1) ys) g k) (after pre′) ≡ j
-    turn-theirs e f z =
-        ap (λ (zs : List S.Local). andThen (joinLocals (drop (i + 1) xs) (drop (i + 1) ys) g k) (after zs)) ep
-        ∙ ap (λ (y : Ans Graph). andThen (andThen y (λ h′. ok (record { local = l; ours = g; theirs = h′ }))) (λ (s : Step). more (s .local) pre (s .ours) (s .theirs))) (sym (told-yes n k z)) ∙ theirs-told e f
-
-    pub stop-theirs : act ≡ ReleaseTheirs r → told n k ≡ release h (r .0) → (n ≡ 0 → ⊥) → (p : S.Parts) → told n p ≡ j
-    stop-theirs e f z p =
-        told-no n p z
-        ∙ ap (λ (y : Ans Graph). andThen (andThen y (λ h′. ok (record { local = l; ours = g; theirs = h′ }))) (λ (s : Step). more (s .local) pre (s .ours) (s .theirs))) (sym (told-no n k z)) ∙ theirs-told e f
-
--- the end: no local is left on either side, or on one
-module _ (xs ys : List S.Local) (i : ℕ) (g h : Graph) (pre : List S.Local) (j : Ans S.Parts)
-    (inv : andThen (joinLocals (drop i xs) (drop i ys) g h) (after pre) ≡ j) where
-  pub end-equal : drop i xs ≡ [] → drop i ys ≡ [] → (zs : List S.Local) → zs ≡ pre → ok (record { locals = zs; ours = g; theirs = h }) ≡ j
+-- the end: no local is left on either side, or on one only
+module _ (as′ bs : List S.Local) (g h : Graph) (pre : List S.Local) (j : Ans S.Parts) (inv : andThen (joinLocals as′ bs g h) (after pre) ≡ j) where
+  pub end-equal : as′ ≡ [] → bs ≡ [] → (zs : List S.Local) → zs ≡ pre → ok (record { locals = zs; ours = g; theirs = h }) ≡ j
   unfolding joinLocals
   end-equal ex ey zs e =
       ap (λ (l : List S.Local). ok (record { locals = l; ours = g; theirs = h })) (e ∙ sym (append-nil pre))
       ∙ (λ k. andThen (joinLocals (sym ex k) (sym ey k) g h) (after pre)) ∙ inv
 
-  end-one : (as′ bs : List S.Local) → (length as′ ≡ 0) ⊎ (length bs ≡ 0) → (length as′ ≡ length bs → ⊥) → joinLocals as′ bs g h ≡ refuse 9
-  unfolding joinLocals
-  end-one [] [] d z = absurd (z refl)
-  end-one [] (b ∷ bs) d z = refl
-  end-one (a ∷ as′) [] d z = refl
-  end-one (a ∷ as′) (b ∷ bs) (inl e) z = absurd (omega arith)
-  end-one (a ∷ as′) (b ∷ bs) (inr e) z = absurd (omega arith)
-
-  pub end-unequal : i ≡ min (length xs) (length ys) → (length xs ≡ length ys → ⊥) → refuse 9 ≡ j
-  end-unequal e z =
-      let a : length (drop i xs) ≡ length xs - i = length-drop i xs in
-      let b : length (drop i ys) ≡ length ys - i = length-drop i ys in
-      let d : (length (drop i xs) ≡ 0) ⊎ (length (drop i ys) ≡ 0) = decide (leb (length xs) (length ys))
-      (λ t. let k : length xs ≤ length ys = leb-le t in inl (omega arith)) (λ t. let k : length ys < length xs = leb-gt t in inr (omega arith)) in
-      let q : length (drop i xs) ≡ length (drop i ys) → ⊥ = λ y. z (omega arith) in
-      ap (λ (r : Ans S.Parts). andThen r (after pre)) (sym (end-one (drop i xs) (drop i ys) d q)) ∙ inv
+  pub end-unequal : (length as′ ≡ 0) ⊎ (length bs ≡ 0) → (length as′ ≡ length bs → ⊥) → refuse 9 ≡ j
+  end-unequal d z = ap (λ (r : Ans S.Parts). andThen r (after pre)) (sym (one-left as′ bs g h d z)) ∙ inv
 
 -- ---- the state
 
@@ -226,26 +206,12 @@ module _ (s o : State) where
       ap (λ (r : Ans S.Parts). andThen r (λ q. andThen (joinGraphs (q .ours) (q .theirs)) (λ g. ok (record { locals = q .locals; graph = g })))) e
       ∙ ap (λ (b : Ans Graph). andThen b (λ g. ok (record { locals = p .locals; graph = g }))) f
 
-rest-kept : (v n : ℕ) (r : Running) (s : State) → halted v n (withState r s) ≡ then (halted v n r) (λ q. done (withState q s))
-rest-kept v n r s = go (eqb v 0) (eqb n 0)
-  where
-    go : (p q : Bool) → cond p (cond q (done (withState r s)) (Outcome.refused n)) (Outcome.violated v) ≡ then (cond p (cond q (done r) (Outcome.refused n)) (Outcome.violated v)) (λ q. done (withState q s))
-    go true true = refl
-    go true false = refl
-    go false q = refl
-
 pub joins-refused : (s o : AbstractState) (n : ℕ) → (n ≡ 0 → ⊥) → join (stateOf s) (stateOf o) ≡ refuse n → Joins s o n s
 joins-refused s o n z e = record {
   answer = told-no n (stateOf s) z ∙ sym e;
   left = ap (kept (stateOf s)) (sym e);
-  rest = rest-kept (s .violation) (s .refusal) (runningOf s) (stateOf s);
-}
-
-pub joins-done : (s o t : AbstractState) → join (stateOf s) (stateOf o) ≡ ok (stateOf t) → outcomeOf t ≡ halted (s .violation) (s .refusal) (withState (runningOf s) (stateOf t)) → Joins s o 0 t
-joins-done s o t e k = record {
-  answer = sym e;
-  left = ap (kept (stateOf s)) (sym e);
-  rest = k ∙ rest-kept (s .violation) (s .refusal) (runningOf s) (stateOf t);
+  rest = refl;
+  stop = (refl, refl);
 }
 
 -- ---- whether it changed the state

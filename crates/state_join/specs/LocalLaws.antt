@@ -21,38 +21,40 @@ use Rattle.state_join.specs.Models.{heldBy}
 abbrev pub no-local : Local
 no-local = record { present = false; value = Reference (record { 0 = 0 }) }
 
-module _ (xs : List Local) (n : ℕ) (l : length xs ≡ 16) where
-  -- more than 16 read as 16
-  pub locals-clip : (k : ℕ) → k ≡ min n 16 → localsIn xs k ≡ localsIn xs n
+-- a number beyond 16 reads as 16
+module _ (xs : List Local) (n k : ℕ) (l : length xs ≡ 16) (e : k ≡ min n 16) where
+  clip : localsIn xs k ≡ localsIn xs n
   unfolding localsIn
-  locals-clip k e =
+  clip =
       decide (leb n 16)
       (λ t. let h : n ≤ 16 = leb-le t in let z : k ≡ n = omega arith in ap (λ (j : ℕ). map localOf (take j xs)) z)
       (λ t. let h : 16 < n = leb-gt t in ap (λ (ys : List Local). map localOf ys) (take-all k xs (omega arith) ∙ sym (take-all n xs (omega arith))))
 
-  module _ (b : n ≤ 16) where
-    pub locals-count : length (localsIn xs n) ≡ n
-    unfolding localsIn
-    locals-count = simp (length-map, length-take) (omega arith)
+  pub locals-count : length (localsIn xs n) ≡ k
+  unfolding localsIn
+  locals-count = simp (length-map, length-take) (omega arith)
 
-    pub locals-step : (i : ℕ) → i < n → drop i (localsIn xs n) ≡ localOf (getD xs i no-local) ∷ drop (i + 1) (localsIn xs n)
-    unfolding localsIn
-    locals-step i h = front-map-step localOf n xs no-local i (simp (length-map, length-take) (omega arith))
+  pub locals-step : (i : ℕ) → i < k → drop i (localsIn xs n) ≡ localOf (getD xs i no-local) ∷ drop (i + 1) (localsIn xs n)
+  unfolding localsIn
+  locals-step i h = front-map-step localOf n xs no-local i (simp (length-map, length-take) (omega arith))
 
-    pub locals-end : (i : ℕ) → n ≤ i → drop i (localsIn xs n) ≡ []
-    locals-end i h =
-        let z : length (localsIn xs n) ≡ n = locals-count in
-        let k : length (localsIn xs n) ≤ i = omega arith in
-        drop-of-length-le (localsIn xs n) k
+  pub locals-end : (i : ℕ) → k ≤ i → drop i (localsIn xs n) ≡ []
+  locals-end i h =
+      let z : length (localsIn xs n) ≡ k = locals-count in
+      let y : length (localsIn xs n) ≤ i = omega arith in
+      drop-of-length-le (localsIn xs n) y
+
+  pub locals-all : (i : ℕ) → i ≡ k → localsIn xs n ≡ map localOf (take i xs)
+  unfolding localsIn
+  locals-all i z = sym clip ∙ ap (λ (j : ℕ). map localOf (take j xs)) (sym z)
 
 -- a loop that writes: one more local, and the end
 module _ (out : List Local) (i : ℕ) (rest total : List S.Local) (h : map localOf (take i out) ++ rest ≡ total) where
   pub written : (x : Local) (more : List S.Local) → i < length out → rest ≡ localOf x ∷ more → map localOf (take (i + 1) (set out i x)) ++ more ≡ total
   written x more l e = push-map localOf out i (i + 1) x more refl l ∙ ap (λ (ys : List S.Local). map localOf (take i out) ++ ys) (sym e) ∙ h
 
-  pub all-written : (n : ℕ) → i ≡ n → rest ≡ [] → localsIn out n ≡ total
-  unfolding localsIn
-  all-written n e z = ap (λ (k : ℕ). map localOf (take k out)) (sym e) ∙ sym (append-nil (map localOf (take i out))) ∙ ap (λ (ys : List S.Local). map localOf (take i out) ++ ys) (sym z) ∙ h
+  pub all-written : (n k : ℕ) → length out ≡ 16 → k ≡ min n 16 → i ≡ k → rest ≡ [] → localsIn out n ≡ total
+  all-written n k l e z r = locals-all out n k l e i z ∙ sym (append-nil (map localOf (take i out))) ∙ ap (λ (ys : List S.Local). map localOf (take i out) ++ ys) (sym r) ∙ h
 
 pub held-present : (b : Bool) (v : Operand) → b ≡ true → v ≡ heldBy (cond b (R.localOf v) S.Local.absent)
 held-present true nonRef e = refl

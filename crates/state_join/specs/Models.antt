@@ -12,7 +12,7 @@ use Rattle.meaning.specs.Remap.{Change}
 use Rattle.meaning.specs.Running.{Outcome, done, then, lift, Operand, nonRef, reference, Token, ofValue, ofRef, Running}
 use Rattle.meaning.specs.Blocks.{start, firstState}
 use Rattle.borrow_graph.specs.Models.{graphOf, told}
-use Rattle.abstract_state.specs.Models.{localOf, localsIn, stateOf, outcomeOf}
+use Rattle.abstract_state.specs.Models.{localOf, localsIn, runningOf, stateOf}
 use Rattle.abstract_state.specs.declared.state.AbstractState.{AbstractState}
 use Rattle.state_join.specs.declared.join.Action.{Action}
 use Rattle.state_join.specs.declared.join.Action.the-variants.{Nothing, ReleaseOurs, ReleaseTheirs, Refuse}
@@ -73,11 +73,12 @@ partsOf p n = record { locals = localsIn (p .locals) n; ours = graphOf (p .ours)
 abbrev pub withState : Running → State → Running
 withState r s = record { locals = s .locals; graph = s .graph; next = r .next; root = r .root }
 
--- A join with the refusal n (0: none) left the state t. Only locals and graph count, also of a state that has stopped; all else is kept.
+-- A join with the refusal n (0: none) left the state t. Of both states, stopped or not, only locals and graph count; all else of the first is kept.
 pub record Joins (s o : AbstractState) (n : ℕ) (t : AbstractState) : Type 0 where
   pub answer : told n (stateOf t) ≡ join (stateOf s) (stateOf o)
   pub left : stateOf t ≡ kept (stateOf s) (join (stateOf s) (stateOf o))
-  pub rest : outcomeOf t ≡ then (outcomeOf s) (λ r. done (withState r (stateOf t)))
+  pub rest : runningOf t ≡ withState (runningOf s) (stateOf t)
+  pub stop : (t .violation ≡ s .violation) × (t .refusal ≡ s .refusal)
 
 -- a refused join changes nothing
 abbrev pub changedBy : State → Ans State → Bool

@@ -1,5 +1,5 @@
 // The end of a block with successors: each local's reference takes the local's index for its name.
-use crate::locals::lesser;
+use crate::locals::count;
 use crate::locals::value_of;
 use abstract_state::state::AbstractState;
 use abstract_state::state::AbstractValue;
@@ -9,7 +9,7 @@ use borrow_graph::remap::IdPair;
 use references::references::RefID;
 ghost use mathlib.Core.Path.{_≡_};
 ghost use mathlib.Core.List.{_∷_};
-ghost use Prim.Native.Nat.{_<_, _≤_};
+ghost use Prim.Native.Nat.{_<_};
 ghost use Rattle.meaning.specs.Base.{any};
 ghost use Rattle.meaning.specs.State as S;
 ghost use Rattle.meaning.specs.State.{eqLocal};
@@ -21,12 +21,12 @@ ghost use Rattle.abstract_state.specs.Models.{localOf, localsIn, outcomeOf};
 ghost use Rattle.state_join.specs.Models.{canonicalEnd, ownName, renames};
 
 // Whether some local holds the name.
-fn is_named(locals: [Local; 16], n: usize, id: RefID) -> bool
-    requires { ⌜ n ≤ 16 ⌝ }
+fn is_named(locals: [Local; 16], n: u8, id: RefID) -> bool
     ensures { λ r. ⌜ r ≡ any (λ y. eqLocal y (S.Local.ref (id .0))) (localsIn locals n) ⌝ }
 {
+    let k = count(n);
     let mut i: usize = 0;
-    while i < n {
+    while i < k {
         let v = value_of(locals[i]);
         match v {
             AbstractValue::Reference(held) => {
@@ -44,8 +44,8 @@ fn is_named(locals: [Local; 16], n: usize, id: RefID) -> bool
 }
 
 // The local at the index holds a name below the index, and some local holds the index as its name.
-fn crossed(locals: [Local; 16], n: usize, x: Local, i: usize) -> bool
-    requires { ⌜ (n ≤ 16) × (i < 16) ⌝ }
+fn crossed(locals: [Local; 16], n: u8, x: Local, i: usize) -> bool
+    requires { ⌜ i < 16 ⌝ }
     ensures { λ r. ⌜ r ≡ R.crossed (localsIn locals n) i (localOf x) ⌝ }
 {
     let v = value_of(x);
@@ -62,12 +62,12 @@ fn crossed(locals: [Local; 16], n: usize, x: Local, i: usize) -> bool
 }
 
 // The test for 16.
-fn crosses(locals: [Local; 16], n: usize) -> bool
-    requires { ⌜ n ≤ 16 ⌝ }
+fn crosses(locals: [Local; 16], n: u8) -> bool
     ensures { λ r. ⌜ r ≡ R.crosses (localsIn locals n) 0 (localsIn locals n) ⌝ }
 {
+    let k = count(n);
     let mut i: usize = 0;
-    while i < n {
+    while i < k {
         if crossed(locals, n, locals[i], i) {
             return true;
         }
@@ -77,8 +77,7 @@ fn crosses(locals: [Local; 16], n: usize) -> bool
 }
 
 // The root keeps its name; a local's reference gets the local's index.
-fn id_map(locals: [Local; 16], n: usize, root: RefID) -> IdMap
-    requires { ⌜ n ≤ 16 ⌝ }
+fn id_map(locals: [Local; 16], n: u8, root: RefID) -> IdMap
     ensures { λ r. ⌜ mapOf r ≡ record { old = root .0; new = root .0 } ∷ renames 0 (localsIn locals n) ⌝ }
 {
     let kept = IdPair {
@@ -87,8 +86,9 @@ fn id_map(locals: [Local; 16], n: usize, root: RefID) -> IdMap
     };
     let mut list = [kept; 48];
     let mut len: usize = 1;
+    let k = count(n);
     let mut i: usize = 0;
-    while i < n {
+    while i < k {
         let v = value_of(locals[i]);
         match v {
             AbstractValue::Reference(held) => {
@@ -126,13 +126,13 @@ fn own_name(x: Local, i: usize) -> Local
     }
 }
 
-fn own_names(locals: [Local; 16], n: usize) -> [Local; 16]
-    requires { ⌜ n ≤ 16 ⌝ }
+fn own_names(locals: [Local; 16], n: u8) -> [Local; 16]
     ensures { λ r. ⌜ localsIn r n ≡ ownNames 0 (localsIn locals n) ⌝ }
 {
+    let k = count(n);
     let mut out = locals;
     let mut i: usize = 0;
-    while i < n {
+    while i < k {
         let x = own_name(locals[i], i);
         out[i] = x;
         i += 1;
@@ -146,19 +146,19 @@ pub fn construct_canonical_state(state: AbstractState) -> AbstractState
 {
     if (state.violation == 0) & (state.refusal == 0) {
         let mut s = state;
-        let n = lesser(state.num_locals as usize, 16);
+        let n = state.num_locals;
         let locals = state.locals;
         if crosses(locals, n) {
             s.refusal = 16;
             return s;
         }
-        let map = id_map(locals, n, RefID(state.num_locals as u16));
+        let map = id_map(locals, n, RefID(n as u16));
         let own = own_names(locals, n);
         let g = state.borrow_graph;
         let h = g.renamed(map);
         s.locals = own;
         s.borrow_graph = h;
-        s.next_id = state.num_locals as u32 + 1;
+        s.next_id = n as u32 + 1;
         return s;
     }
     state

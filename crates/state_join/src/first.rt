@@ -1,4 +1,5 @@
 // The state of a routine's start: the parameters present, the root held, no edges.
+use crate::locals;
 use crate::locals::absent;
 use crate::locals::lesser;
 use abstract_state::state::AbstractState;
@@ -77,7 +78,7 @@ fn first_graph(n: usize, params: [u8; 16], count: usize) -> BorrowGraph
 pub fn new(num_locals: u8, params: [u8; 16], count: usize) -> AbstractState
     ensures { λ r. ⌜ answerOf r ≡ answer (firstRunning (min «num_locals» 16) (map tokenAs (take count params))) nonRef ⌝ }
 {
-    let n = lesser(num_locals as usize, 16);
+    let n = locals::count(num_locals);
     let locals = first_locals(n, params, count);
     let g = first_graph(n, params, count);
     AbstractState {

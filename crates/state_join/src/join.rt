@@ -1,5 +1,6 @@
 // The join of two states.
 use crate::locals::absent;
+use crate::locals::count;
 use crate::locals::lesser;
 use crate::locals::value_of;
 use abstract_state::state::AbstractState;
@@ -8,7 +9,6 @@ use abstract_state::state::Local;
 use borrow_graph::graph::BorrowGraph;
 use references::references::RefID;
 ghost use mathlib.Core.Path.{_≡_};
-ghost use Prim.Native.Nat.{_≤_};
 ghost use Rattle.meaning.specs.Graph.{Graph};
 ghost use Rattle.meaning.specs.State as S;
 ghost use Rattle.meaning.specs.State.{joinLocal, joinLocals, eqLocal, eqLocals};
@@ -79,12 +79,12 @@ fn same_local(a: Local, b: Local) -> bool
     !(a.present | b.present)
 }
 
-fn same_locals(a: [Local; 16], b: [Local; 16], n: usize) -> bool
-    requires { ⌜ n ≤ 16 ⌝ }
+fn same_locals(a: [Local; 16], b: [Local; 16], n: u8) -> bool
     ensures { λ r. ⌜ r ≡ eqLocals (localsIn a n) (localsIn b n) ⌝ }
 {
+    let k = count(n);
     let mut i: usize = 0;
-    while i < n {
+    while i < k {
         if same_local(a[i], b[i]) {
             i += 1;
         } else {
@@ -135,8 +135,8 @@ fn meet(a: Local, b: Local) -> Meeting
 fn join_locals(s: AbstractState, o: AbstractState) -> Parts
     ensures { λ r. ⌜ told (r .refusal) (partsOf r (s .«num_locals»)) ≡ joinLocals (localsIn (s .locals) (s .«num_locals»)) (localsIn (o .locals) (o .«num_locals»)) (graphOf (s .«borrow_graph»)) (graphOf (o .«borrow_graph»)) ⌝ }
 {
-    let n = lesser(s.num_locals as usize, 16);
-    let m = lesser(o.num_locals as usize, 16);
+    let n = count(s.num_locals);
+    let m = count(o.num_locals);
     let k = lesser(n, m);
     let mut locals = s.locals;
     let mut ours = s.borrow_graph;
@@ -248,10 +248,9 @@ pub fn join(s: AbstractState, o: AbstractState) -> Joined
             state: t,
         };
     }
-    let n = lesser(s.num_locals as usize, 16);
     let xs = s.locals;
     let ys = t.locals;
-    if same_locals(xs, ys, n) {
+    if same_locals(xs, ys, s.num_locals) {
         let g = s.borrow_graph;
         let h = t.borrow_graph;
         let c = g.leq(h);

@@ -1,6 +1,7 @@
 // The locals of a state.
 use abstract_state::state::AbstractValue;
 use abstract_state::state::Local;
+use meaning::MAX_LOCALS;
 ghost use mathlib.Core.Path.{_≡_};
 ghost use Prim.Native.Nat.{min};
 ghost use Rattle.meaning.specs.State as S;
@@ -11,6 +12,13 @@ pub(crate) fn lesser(a: usize, b: usize) -> usize
     ensures { λ r. ⌜ r ≡ min a b ⌝ }
 {
     if a < b { a } else { b }
+}
+
+// How many locals a state has: a number beyond 16 reads as 16.
+pub(crate) fn count(num_locals: u8) -> usize
+    ensures { λ r. ⌜ r ≡ min «num_locals» 16 ⌝ }
+{
+    lesser(num_locals as usize, MAX_LOCALS as usize)
 }
 
 pub(crate) fn absent() -> Local

@@ -1,18 +1,30 @@
 use mathlib.Core.Path.{_≡_, refl, sym, ap, _∙_}
-use Prim.Native.Nat.{ℕ, _+_, _-_, _≤_, _<_, min}
+use mathlib.Core.List.{List, _∷_, _++_, map, append-nil}
+use Prim.Native.Nat.{_+_, _-_, _≤_}
+use lib.ListN.{length, take, drop, getD, length-set}
+use Rattle.meaning.specs.ArrayLaws.{length-of-map, push-map}
+use Rattle.meaning.specs.Remap.{Change}
+use Rattle.borrow_graph.specs.Models.{changeOf, mapOf}
+use Rattle.abstract_state.specs.Models.{localOf, localsIn, operandOf}
+use Rattle.state_join.specs.Models.{renames}
+use Rattle.state_join.specs.LocalLaws.{no-local, locals-step, locals-end}
+use Rattle.state_join.specs.CanonicalLaws.{renames-held, renames-none, renames-end}
 use native.Mathlib.Omega.{arith}
 use borrow.Author.Needs.{needs}
 use Rattle.state_join.proofs.canonical.id_map.Statement.{statement}
 use Rattle.state_join.proofs.canonical.id_map.Tie as tie
 
 abbrev Inv-loop : tie.InvT-loop
-Inv-loop n locals list₀ len₀ i₀ list len i = ?
+Inv-loop n locals list₀ len₀ k i₀ list len i = (len ≤ i + 1) × (i ≤ k) × (length list ≡ 48) × (map changeOf (take len list) ++ renames i (drop i (localsIn locals n)) ≡ map changeOf (take 1 list₀) ++ renames 0 (localsIn locals n))
 
 abbrev μ-loop : tie.MeasureT-loop
-μ-loop n locals list₀ len₀ i₀ list len i = n - i
+μ-loop n locals list₀ len₀ k i₀ list len i = k - i
+
+count-requires : tie.Need-count-requires Inv-loop μ-loop
+count-requires c κs = search needs
 
 loop-holds : tie.Need-loop-holds Inv-loop μ-loop
-loop-holds c = ?
+loop-holds c = (omega arith, omega arith, refl, refl)
 
 mul-value-of : tie.Need-mul-value-of Inv-loop μ-loop
 mul-value-of c = omega arith
@@ -26,8 +38,8 @@ value-of-requires c κs = search needs
 enum-known-v : tie.Need-enum-known-v Inv-loop μ-loop
 enum-known-v c = search needs
 
-cast-t17 : tie.Need-cast-t17 Inv-loop μ-loop
-cast-t17 c = omega arith
+cast-t18 : tie.Need-cast-t18 Inv-loop μ-loop
+cast-t18 c = omega arith
 
 mul-list : tie.Need-mul-list Inv-loop μ-loop
 mul-list c = omega arith
@@ -45,7 +57,15 @@ loop-less : tie.Need-loop-less Inv-loop μ-loop
 loop-less c = omega arith
 
 loop-again : tie.Need-loop-again Inv-loop μ-loop
-loop-again c = ?
+loop-again c =
+    let a = (c .before .before .before .before .before .before .before .before .args) in
+    let l = (c .before .before .before .before .before .before .loop) in
+    let h : length (a .t1) ≡ 16 = search length-of-map in
+    let xs = drop (l .i + 1) (localsIn (a .t1) (a .n)) in
+    (omega arith, omega arith, simp length-set (l .inv .2),
+    push-map changeOf (l .list) (l .len) (l .len + 1) _ (renames (l .i + 1) xs) refl (omega arith)
+    ∙ ap (λ (ms : List Change). map changeOf (take (l .len) (l .list)) ++ ms) (sym (ap (renames (l .i)) (locals-step (a .t1) (a .n) ((c .before .before .before .before .before .before .before .count) .result) h ((c .before .before .before .before .before .before .before .count) .ensures) (l .i) (omega arith)) ∙ renames-held (l .i) (localOf (getD (a .t1) (l .i) no-local)) _ xs (sym (ap operandOf ((c .before .v) .given .1)) ∙ (c .before .before .before .value-of) .ensures)))
+    ∙ l .inv .3)
 
 enum-told : tie.Need-enum-told Inv-loop μ-loop
 enum-told c = search needs
@@ -57,13 +77,25 @@ loop-less-2 : tie.Need-loop-less-2 Inv-loop μ-loop
 loop-less-2 c = omega arith
 
 loop-again-2 : tie.Need-loop-again-2 Inv-loop μ-loop
-loop-again-2 c = ?
+loop-again-2 c =
+    let a = (c .before .before .before .before .before .before .before .args) in
+    let l = (c .before .before .before .before .before .loop) in
+    let h : length (a .t1) ≡ 16 = search length-of-map in
+    let xs = drop (l .i + 1) (localsIn (a .t1) (a .n)) in
+    (omega arith, omega arith, l .inv .2,
+    ap (λ (ms : List Change). map changeOf (take (l .len) (l .list)) ++ ms) (sym (ap (renames (l .i)) (locals-step (a .t1) (a .n) ((c .before .before .before .before .before .before .count) .result) h ((c .before .before .before .before .before .before .count) .ensures) (l .i) (omega arith)) ∙ renames-none (l .i) (localOf (getD (a .t1) (l .i) no-local)) xs (sym (ap operandOf ((c .enum-told) .given .1)) ∙ (c .before .before .value-of) .ensures)))
+    ∙ l .inv .3)
 
-cast-t23 : tie.Need-cast-t23 Inv-loop μ-loop
-cast-t23 c = omega arith
+cast-t24 : tie.Need-cast-t24 Inv-loop μ-loop
+cast-t24 c = omega arith
 
 returns : tie.Need-returns Inv-loop μ-loop
-returns c = ?
+unfolding mapOf
+returns c =
+    let a = (c .before .before .before .args) in
+    let l = (c .before .loop) in
+    let h : length (a .t1) ≡ 16 = search length-of-map in
+    sym (append-nil _) ∙ ap (λ (ms : List Change). map changeOf (take (l .len) (l .list)) ++ ms) (sym (ap (renames (l .i)) (locals-end (a .t1) (a .n) ((c .before .before .count) .result) h ((c .before .before .count) .ensures) (l .i) (omega arith)) ∙ renames-end (l .i))) ∙ l .inv .3
 
 pub id-map-spec : {M : Type 1} → statement M
 id-map-spec =
@@ -71,12 +103,13 @@ id-map-spec =
     (tie.spec
     Inv-loop
     μ-loop
+    count-requires
     loop-holds
     mul-value-of
     array-copy-out-value-of
     value-of-requires
     enum-known-v
-    cast-t17
+    cast-t18
     mul-list
     array-set-from-list
     add-len
@@ -87,5 +120,5 @@ id-map-spec =
     add-i-2
     loop-less-2
     loop-again-2
-    cast-t23
+    cast-t24
     returns)

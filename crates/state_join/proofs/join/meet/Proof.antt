@@ -1,59 +1,49 @@
+use mathlib.Core.Path.{_≡_, sym, ap, _∙_}
+use Rattle.abstract_state.specs.Models.{operandOf}
+use Rattle.state_join.specs.JoinLaws.{meet-same, meet-other, meet-ours, meet-theirs, meet-none}
 use native.Mathlib.Omega.{arith}
 use borrow.Author.Needs.{needs}
 use Rattle.state_join.proofs.join.meet.Statement.{statement}
 use Rattle.state_join.proofs.join.meet.Tie as tie
 
--- src/join.rt:102:12
 same-local-requires : tie.Need-same-local-requires
 same-local-requires c κs = search needs
 
--- src/join.rt:103:13
 returns : tie.Need-returns
-returns c = ?
+returns c = λ g h. meet-same ((c .before .before .before .before .before .args) .a .present) ((c .before .before .before .before .before .args) .b .present) (operandOf ((c .before .before .before .before .before .args) .a .value)) (operandOf ((c .before .before .before .before .before .args) .b .value)) g h ((c .before .before .if1) .taken) (sym ((c .before .same-local) .ensures) ∙ (c .if2) .taken)
 
--- src/join.rt:108:9
 returns-2 : tie.Need-returns-2
-returns-2 c = ?
+returns-2 c = λ g h. meet-other ((c .before .before .before .before .before .args) .a .present) ((c .before .before .before .before .before .args) .b .present) (operandOf ((c .before .before .before .before .before .args) .a .value)) (operandOf ((c .before .before .before .before .before .args) .b .value)) g h ((c .before .before .if1) .taken) (sym ((c .before .same-local) .ensures) ∙ (c .if2) .left)
 
--- src/join.rt:113:9
 absent-requires : tie.Need-absent-requires
 absent-requires c κs = search needs
 
--- src/join.rt:114:9
 value-of-requires : tie.Need-value-of-requires
 value-of-requires c κs = search needs
 
--- src/join.rt:115:9
 value-of-requires-2 : tie.Need-value-of-requires-2
 value-of-requires-2 c κs = search needs
 
--- src/join.rt:117:34
 enum-known-v : tie.Need-enum-known-v
 enum-known-v c = search needs
 
--- src/join.rt:121:40
 enum-told : tie.Need-enum-told
 enum-told c = search needs
 
--- src/join.rt:122:38
 enum-known-w : tie.Need-enum-known-w
 enum-known-w c = search needs
 
--- src/join.rt:128:25
 enum-told-2 : tie.Need-enum-told-2
 enum-told-2 c = search needs
 
--- src/join.rt:98:1
 returns-3 : tie.Need-returns-3
-returns-3 c = ?
+returns-3 c = λ g h. meet-ours ((c .before .before .before .before .before .before .before .before .before .args) .a .present) ((c .before .before .before .before .before .before .before .before .before .args) .b .present) (operandOf ((c .before .before .before .before .before .before .before .before .before .args) .a .value)) (operandOf ((c .before .before .before .before .before .before .before .before .before .args) .b .value)) g h _ _ ((c .before .before .before .before .before .before .if1) .left) ((c .before .before .before .before .before .absent) .ensures) (sym (ap operandOf ((c .before .v) .given .1)) ∙ (c .before .before .before .before .value-of) .ensures)
 
--- src/join.rt:98:1
 returns-4 : tie.Need-returns-4
-returns-4 c = ?
+returns-4 c = λ g h. meet-theirs ((c .before .before .before .before .before .before .before .before .before .before .before .args) .a .present) ((c .before .before .before .before .before .before .before .before .before .before .before .args) .b .present) (operandOf ((c .before .before .before .before .before .before .before .before .before .before .before .args) .a .value)) (operandOf ((c .before .before .before .before .before .before .before .before .before .before .before .args) .b .value)) g h _ _ ((c .before .before .before .before .before .before .before .before .if1) .left) ((c .before .before .before .before .before .before .before .absent) .ensures) (sym (ap operandOf ((c .before .w) .given .1)) ∙ (c .before .before .before .before .before .value-of2) .ensures)
 
--- src/join.rt:98:1
 returns-5 : tie.Need-returns-5
-returns-5 c = ?
+returns-5 c = λ g h. meet-none ((c .before .before .before .before .before .before .before .before .before .before .args) .a .present) ((c .before .before .before .before .before .before .before .before .before .before .args) .b .present) (operandOf ((c .before .before .before .before .before .before .before .before .before .before .args) .a .value)) (operandOf ((c .before .before .before .before .before .before .before .before .before .before .args) .b .value)) g h _ ((c .before .before .before .before .before .before .before .if1) .left) ((c .before .before .before .before .before .before .absent) .ensures) (sym (ap operandOf ((c .before .before .enum-told) .given .1)) ∙ (c .before .before .before .before .before .value-of) .ensures) (sym (ap operandOf ((c .enum-told2) .given .1)) ∙ (c .before .before .before .before .value-of2) .ensures)
 
 pub meet-spec : {M : Type 1} → statement M
 meet-spec =

@@ -3,43 +3,33 @@ use borrow.Author.Needs.{needs}
 use Rattle.state_join.proofs.join.same_value.Statement.{statement}
 use Rattle.state_join.proofs.join.same_value.Tie as tie
 
--- src/join.rt:60:34
 enum-known-a : tie.Need-enum-known-a
 enum-known-a c = search needs
 
--- src/join.rt:61:38
 enum-known-b : tie.Need-enum-known-b
 enum-known-b c = search needs
 
--- src/join.rt:62:44
 enum-told : tie.Need-enum-told
 enum-told c = search needs
 
--- src/join.rt:64:40
 enum-told-2 : tie.Need-enum-told-2
 enum-told-2 c = search needs
 
--- src/join.rt:65:38
 enum-known-b-2 : tie.Need-enum-known-b-2
 enum-known-b-2 c = search needs
 
--- src/join.rt:66:44
 enum-told-3 : tie.Need-enum-told-3
 enum-told-3 c = search needs
 
--- src/join.rt:56:1
 returns : tie.Need-returns
-returns c = ?
+returns c = rw ((c .before .before .before .before .before .before .a) .given .1, (c .before .before .before .b) .given .1)
 
--- src/join.rt:56:1
 returns-2 : tie.Need-returns-2
 returns-2 c = search needs
 
--- src/join.rt:56:1
 returns-3 : tie.Need-returns-3
 returns-3 c = search needs
 
--- src/join.rt:56:1
 returns-4 : tie.Need-returns-4
 returns-4 c = search needs
 
