@@ -61,11 +61,14 @@ loop-again c =
     let a = (c .before .before .before .before .before .before .before .before .args) in
     let l = (c .before .before .before .before .before .before .loop) in
     let h : length (a .t1) ≡ 16 = search length-of-map in
-    let xs = drop (l .i + 1) (localsIn (a .t1) (a .n)) in
-    (omega arith, omega arith, simp length-set (l .inv .2),
-    push-map changeOf (l .list) (l .len) (l .len + 1) _ (renames (l .i + 1) xs) refl (omega arith)
-    ∙ ap (λ (ms : List Change). map changeOf (take (l .len) (l .list)) ++ ms) (sym (ap (renames (l .i)) (locals-step (a .t1) (a .n) ((c .before .before .before .before .before .before .before .count) .result) h ((c .before .before .before .before .before .before .before .count) .ensures) (l .i) (omega arith)) ∙ renames-held (l .i) (localOf (getD (a .t1) (l .i) no-local)) _ xs (sym (ap operandOf ((c .before .v) .given .1)) ∙ (c .before .before .before .value-of) .ensures)))
-    ∙ l .inv .3)
+    let xs = drop (l .i + 1) (localsIn (a .t1) (a .n)) in (
+      omega arith,
+      omega arith,
+      simp length-set (l .inv .2),
+      push-map changeOf (l .list) (l .len) (l .len + 1) _ (renames (l .i + 1) xs) refl (omega arith)
+          ∙ ap (λ (ms : List Change). map changeOf (take (l .len) (l .list)) ++ ms) (sym (ap (renames (l .i)) (locals-step (a .t1) (a .n) ((c .before .before .before .before .before .before .before .count) .result) h ((c .before .before .before .before .before .before .before .count) .ensures) (l .i) (omega arith)) ∙ renames-held (l .i) (localOf (getD (a .t1) (l .i) no-local)) _ xs (sym (ap operandOf ((c .before .v) .given .1)) ∙ (c .before .before .before .value-of) .ensures)))
+          ∙ l .inv .3,
+    )
 
 enum-told : tie.Need-enum-told Inv-loop μ-loop
 enum-told c = search needs
@@ -81,10 +84,13 @@ loop-again-2 c =
     let a = (c .before .before .before .before .before .before .before .args) in
     let l = (c .before .before .before .before .before .loop) in
     let h : length (a .t1) ≡ 16 = search length-of-map in
-    let xs = drop (l .i + 1) (localsIn (a .t1) (a .n)) in
-    (omega arith, omega arith, l .inv .2,
-    ap (λ (ms : List Change). map changeOf (take (l .len) (l .list)) ++ ms) (sym (ap (renames (l .i)) (locals-step (a .t1) (a .n) ((c .before .before .before .before .before .before .count) .result) h ((c .before .before .before .before .before .before .count) .ensures) (l .i) (omega arith)) ∙ renames-none (l .i) (localOf (getD (a .t1) (l .i) no-local)) xs (sym (ap operandOf ((c .enum-told) .given .1)) ∙ (c .before .before .value-of) .ensures)))
-    ∙ l .inv .3)
+    let xs = drop (l .i + 1) (localsIn (a .t1) (a .n)) in (
+      omega arith,
+      omega arith,
+      l .inv .2,
+      ap (λ (ms : List Change). map changeOf (take (l .len) (l .list)) ++ ms) (sym (ap (renames (l .i)) (locals-step (a .t1) (a .n) ((c .before .before .before .before .before .before .count) .result) h ((c .before .before .before .before .before .before .count) .ensures) (l .i) (omega arith)) ∙ renames-none (l .i) (localOf (getD (a .t1) (l .i) no-local)) xs (sym (ap operandOf ((c .enum-told) .given .1)) ∙ (c .before .before .value-of) .ensures)))
+          ∙ l .inv .3,
+    )
 
 cast-t24 : tie.Need-cast-t24 Inv-loop μ-loop
 cast-t24 c = omega arith

@@ -53,9 +53,12 @@ loop-again c =
     let a = (c .before .before .before .before .before .args) in
     let l = (c .before .before .before .loop) in
     let h : length (a .t1) ≡ 16 = search length-of-map in
-    let xs = drop (l .i + 1) (localsIn (a .t1) (a .n)) in
-    (omega arith, simp length-set (l .inv .1), written (l .out) (l .i) _ _ (l .inv .2) ((c .own-name) .result) (ownNames (l .i + 1) xs) (omega arith)
-    (ap (ownNames (l .i)) (locals-step (a .t1) (a .n) ((c .before .before .before .before .count) .result) h ((c .before .before .before .before .count) .ensures) (l .i) (omega arith)) ∙ own-step (l .i) (localOf (getD (a .t1) (l .i) no-local)) xs ∙ ap (λ (y : S.Local). y ∷ ownNames (l .i + 1) xs) (sym ((c .own-name) .ensures))))
+    let xs = drop (l .i + 1) (localsIn (a .t1) (a .n)) in (
+      omega arith,
+      simp length-set (l .inv .1),
+      written (l .out) (l .i) _ _ (l .inv .2) ((c .own-name) .result) (ownNames (l .i + 1) xs) (omega arith)
+          (ap (ownNames (l .i)) (locals-step (a .t1) (a .n) ((c .before .before .before .before .count) .result) h ((c .before .before .before .before .count) .ensures) (l .i) (omega arith)) ∙ own-step (l .i) (localOf (getD (a .t1) (l .i) no-local)) xs ∙ ap (λ (y : S.Local). y ∷ ownNames (l .i + 1) xs) (sym ((c .own-name) .ensures))),
+    )
 
 returns : tie.Need-returns Inv-loop μ-loop
 returns c =

@@ -45,9 +45,12 @@ loop-less c = omega arith
 loop-again : tie.Need-loop-again Inv-loop μ-loop
 loop-again c =
     let ts = map tokenAs (take ((c .before .before .before .before .args) .count) ((c .before .before .before .before .args) .params)) in
-    let l = (c .before .before .loop) in
-    (omega arith, simp length-set (l .inv .1), written (l .out) (l .i) _ _ (l .inv .2) ((c .first-local) .result) (firstLocals (l .i + 1) ((c .before .before .before .before .args) .n - (l .i + 1)) (drop (l .i + 1) ts)) (omega arith)
-    (local-step (l .i) ((c .before .before .before .before .args) .n) ts (omega arith) ∙ ap (λ (y : S.Local). y ∷ firstLocals (l .i + 1) ((c .before .before .before .before .args) .n - (l .i + 1)) (drop (l .i + 1) ts)) (sym ((c .first-local) .ensures))))
+    let l = (c .before .before .loop) in (
+      omega arith,
+      simp length-set (l .inv .1),
+      written (l .out) (l .i) _ _ (l .inv .2) ((c .first-local) .result) (firstLocals (l .i + 1) ((c .before .before .before .before .args) .n - (l .i + 1)) (drop (l .i + 1) ts)) (omega arith)
+          (local-step (l .i) ((c .before .before .before .before .args) .n) ts (omega arith) ∙ ap (λ (y : S.Local). y ∷ firstLocals (l .i + 1) ((c .before .before .before .before .args) .n - (l .i + 1)) (drop (l .i + 1) ts)) (sym ((c .first-local) .ensures))),
+    )
 
 returns : tie.Need-returns Inv-loop μ-loop
 returns c =

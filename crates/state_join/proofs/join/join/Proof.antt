@@ -38,17 +38,19 @@ returns-2 : tie.Need-returns-2
 returns-2 c =
     let s = (c .before .before .before .before .before .before .before .before .before .before .before .before .before .args) .s in
     let o = (c .before .before .before .before .before .before .before .before .before .before .before .before .before .args) .o in
-    let t = (c .before .before .before .before .before .before .before .before .before .before .before .before .join-) .result .state in
-    (subst (λ (n : ℕ). Joins s o n t) ((c .before .before .before .before .before .before .before .before .before .if1) .left) ((c .before .before .before .before .before .before .before .before .before .before .before .before .join-) .ensures),
-    changed-graph (stateOf s) (stateOf o) (stateOf t) (joined ((c .before .before .before .before .before .before .before .before .before))) (sym (same ((c .before .before .before .before .before .before))) ∙ (c .before .before .before .before .before .if2) .taken) ((c .before .before .leq) .result .refusal) ((c .before .before .leq) .result .yes) ((c .before .before .leq) .ensures) ∙ ap (changedBy (stateOf s)) (sym (joined ((c .before .before .before .before .before .before .before .before .before)))))
+    let t = (c .before .before .before .before .before .before .before .before .before .before .before .before .join-) .result .state in (
+      subst (λ (n : ℕ). Joins s o n t) ((c .before .before .before .before .before .before .before .before .before .if1) .left) ((c .before .before .before .before .before .before .before .before .before .before .before .before .join-) .ensures),
+      changed-graph (stateOf s) (stateOf o) (stateOf t) (joined ((c .before .before .before .before .before .before .before .before .before))) (sym (same ((c .before .before .before .before .before .before))) ∙ (c .before .before .before .before .before .if2) .taken) ((c .before .before .leq) .result .refusal) ((c .before .before .leq) .result .yes) ((c .before .before .leq) .ensures) ∙ ap (changedBy (stateOf s)) (sym (joined ((c .before .before .before .before .before .before .before .before .before)))),
+    )
 
 returns-3 : tie.Need-returns-3
 returns-3 c =
     let s = (c .before .before .before .before .before .before .before .before .args) .s in
     let o = (c .before .before .before .before .before .before .before .before .args) .o in
-    let t = (c .before .before .before .before .before .before .before .join-) .result .state in
-    (subst (λ (n : ℕ). Joins s o n t) ((c .before .before .before .before .if1) .left) ((c .before .before .before .before .before .before .before .join-) .ensures),
-    changed-locals (stateOf s) (stateOf o) (stateOf t) (joined ((c .before .before .before .before))) (sym (same ((c .before))) ∙ (c .if2) .left) ∙ ap (changedBy (stateOf s)) (sym (joined ((c .before .before .before .before)))))
+    let t = (c .before .before .before .before .before .before .before .join-) .result .state in (
+      subst (λ (n : ℕ). Joins s o n t) ((c .before .before .before .before .if1) .left) ((c .before .before .before .before .before .before .before .join-) .ensures),
+      changed-locals (stateOf s) (stateOf o) (stateOf t) (joined ((c .before .before .before .before))) (sym (same ((c .before))) ∙ (c .if2) .left) ∙ ap (changedBy (stateOf s)) (sym (joined ((c .before .before .before .before)))),
+    )
 
 pub join-spec : {M : Type 1} → statement M
 join-spec =
