@@ -28,7 +28,7 @@ eqLocal-eq (ref m) absent e = absurd (false≢true e)
 eqLocal-eq (ref m) value e = absurd (false≢true e)
 eqLocal-eq (ref m) (ref n) e = ap ref (eqb-eq e)
 
-eqLocals-eq : (xs ys : List Local) → eqLocals xs ys ≡ true → xs ≡ ys
+pub eqLocals-eq : (xs ys : List Local) → eqLocals xs ys ≡ true → xs ≡ ys
 unfolding eqLocals
 eqLocals-eq [] [] e = refl
 eqLocals-eq [] (y ∷ ys) e = absurd (false≢true e)

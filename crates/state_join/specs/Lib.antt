@@ -1,0 +1,5 @@
+pub mod Models
+pub mod LocalLaws
+pub mod FirstLaws
+pub mod CanonicalLaws
+pub mod JoinLaws

@@ -1,0 +1,268 @@
+// The join of two states.
+use crate::locals::absent;
+use crate::locals::count;
+use crate::locals::lesser;
+use crate::locals::value_of;
+use abstract_state::state::AbstractState;
+use abstract_state::state::AbstractValue;
+use abstract_state::state::Local;
+use borrow_graph::graph::BorrowGraph;
+use references::references::RefID;
+ghost use mathlib.Core.Path.{_≡_};
+ghost use Rattle.meaning.specs.Graph.{Graph};
+ghost use Rattle.meaning.specs.State as S;
+ghost use Rattle.meaning.specs.State.{joinLocal, joinLocals, eqLocal, eqLocals};
+ghost use Rattle.meaning.specs.Running as R;
+ghost use Rattle.borrow_graph.specs.Models.{told, graphOf};
+ghost use Rattle.abstract_state.specs.Models.{operandOf, localOf, localsIn, stateOf};
+ghost use Rattle.state_join.specs.Models.{stepBy, partsOf, Joins, changedBy};
+
+// What the join of two locals does to the graphs.
+pub(crate) enum Action {
+    Nothing,
+    ReleaseOurs(RefID),
+    ReleaseTheirs(RefID),
+    Refuse,
+}
+
+// What it leaves of the two locals, and what it does.
+pub(crate) struct Meeting {
+    pub local: Local,
+    pub action: Action,
+}
+
+// A refusal's number, or 0 and what is left of the locals, with the graphs after the releases.
+pub(crate) struct Parts {
+    pub refusal: u8,
+    pub locals: [Local; 16],
+    pub ours: BorrowGraph,
+    pub theirs: BorrowGraph,
+}
+
+// A refusal's number, or 0 and the state; refused, the state that was handed over.
+pub(crate) struct Answer {
+    pub refusal: u8,
+    pub state: AbstractState,
+}
+
+// The same, and whether the state was changed.
+pub struct Joined {
+    pub refusal: u8,
+    pub changed: bool,
+    pub state: AbstractState,
+}
+
+// Two values are the same: both no references, or references of one name.
+fn same_value(a: AbstractValue, b: AbstractValue) -> bool
+    ensures { λ r. ⌜ r ≡ eqLocal (R.localOf (operandOf a)) (R.localOf (operandOf b)) ⌝ }
+{
+    match a {
+        AbstractValue::Reference(m) => match b {
+            AbstractValue::Reference(n) => m.0 == n.0,
+            AbstractValue::NonReference => false,
+        },
+        AbstractValue::NonReference => match b {
+            AbstractValue::Reference(n) => false,
+            AbstractValue::NonReference => true,
+        },
+    }
+}
+
+fn same_local(a: Local, b: Local) -> bool
+    ensures { λ r. ⌜ r ≡ eqLocal (localOf a) (localOf b) ⌝ }
+{
+    if a.present & b.present {
+        let v = a.value;
+        let w = b.value;
+        return same_value(v, w);
+    }
+    !(a.present | b.present)
+}
+
+fn same_locals(a: [Local; 16], b: [Local; 16], n: u8) -> bool
+    ensures { λ r. ⌜ r ≡ eqLocals (localsIn a n) (localsIn b n) ⌝ }
+{
+    let k = count(n);
+    let mut i: usize = 0;
+    while i < k {
+        if same_local(a[i], b[i]) {
+            i += 1;
+        } else {
+            return false;
+        }
+    }
+    true
+}
+
+// A reference that exists on one side only is released there. What both have must be the same.
+fn meet(a: Local, b: Local) -> Meeting
+    ensures { λ r. ⌜ ((g h : Graph) → stepBy r g h ≡ joinLocal (localOf a) (localOf b) g h) ⌝ }
+{
+    if a.present & b.present {
+        if same_local(a, b) {
+            return Meeting {
+                local: a,
+                action: Action::Nothing,
+            };
+        }
+        return Meeting {
+            local: a,
+            action: Action::Refuse,
+        };
+    }
+    let local = absent();
+    let v = value_of(a);
+    let w = value_of(b);
+    match v {
+        AbstractValue::Reference(id) => Meeting {
+            local: local,
+            action: Action::ReleaseOurs(id),
+        },
+        AbstractValue::NonReference => match w {
+            AbstractValue::Reference(id) => Meeting {
+                local: local,
+                action: Action::ReleaseTheirs(id),
+            },
+            AbstractValue::NonReference => Meeting {
+                local: local,
+                action: Action::Nothing,
+            },
+        },
+    }
+}
+
+// Local by local, ascending. Document 01 leaves open what states with different numbers of locals give: 9, behind the others.
+fn join_locals(s: AbstractState, o: AbstractState) -> Parts
+    ensures { λ r. ⌜ told (r .refusal) (partsOf r (s .«num_locals»)) ≡ joinLocals (localsIn (s .locals) (s .«num_locals»)) (localsIn (o .locals) (o .«num_locals»)) (graphOf (s .«borrow_graph»)) (graphOf (o .«borrow_graph»)) ⌝ }
+{
+    let n = count(s.num_locals);
+    let m = count(o.num_locals);
+    let k = lesser(n, m);
+    let mut locals = s.locals;
+    let mut ours = s.borrow_graph;
+    let mut theirs = o.borrow_graph;
+    let mut i: usize = 0;
+    while i < k {
+        let x = meet(s.locals[i], o.locals[i]);
+        let l = x.local;
+        let act = x.action;
+        locals[i] = l;
+        match act {
+            Action::Nothing => {
+                i += 1;
+            }
+            Action::ReleaseOurs(id) => {
+                let a = ours.release(id);
+                if a.refusal != 0 {
+                    return Parts {
+                        refusal: a.refusal,
+                        locals: locals,
+                        ours: ours,
+                        theirs: theirs,
+                    };
+                }
+                let g = a.graph;
+                ours = g;
+                i += 1;
+            }
+            Action::ReleaseTheirs(id) => {
+                let a = theirs.release(id);
+                if a.refusal != 0 {
+                    return Parts {
+                        refusal: a.refusal,
+                        locals: locals,
+                        ours: ours,
+                        theirs: theirs,
+                    };
+                }
+                let g = a.graph;
+                theirs = g;
+                i += 1;
+            }
+            Action::Refuse => {
+                return Parts {
+                    refusal: 15,
+                    locals: locals,
+                    ours: ours,
+                    theirs: theirs,
+                };
+            }
+        }
+    }
+    if n == m {
+        return Parts {
+            refusal: 0,
+            locals: locals,
+            ours: ours,
+            theirs: theirs,
+        };
+    }
+    Parts {
+        refusal: 9,
+        locals: locals,
+        ours: ours,
+        theirs: theirs,
+    }
+}
+
+fn join_(s: AbstractState, o: AbstractState) -> Answer
+    ensures { λ r. ⌜ Joins s o (r .refusal) (r .state) ⌝ }
+{
+    let p = join_locals(s, o);
+    if p.refusal != 0 {
+        return Answer {
+            refusal: p.refusal,
+            state: s,
+        };
+    }
+    let ours = p.ours;
+    let theirs = p.theirs;
+    let a = ours.join(theirs);
+    if a.refusal != 0 {
+        return Answer {
+            refusal: a.refusal,
+            state: s,
+        };
+    }
+    let locals = p.locals;
+    let g = a.graph;
+    let mut t = s;
+    t.locals = locals;
+    t.borrow_graph = g;
+    Answer {
+        refusal: 0,
+        state: t,
+    }
+}
+
+// Changed: the locals differ, or our graph does not cover the joined one.
+pub fn join(s: AbstractState, o: AbstractState) -> Joined
+    ensures { λ r. ⌜ Joins s o (r .refusal) (r .state) × (r .changed ≡ changedBy (stateOf s) (S.join (stateOf s) (stateOf o))) ⌝ }
+{
+    let a = join_(s, o);
+    let t = a.state;
+    if a.refusal != 0 {
+        return Joined {
+            refusal: a.refusal,
+            changed: false,
+            state: t,
+        };
+    }
+    let xs = s.locals;
+    let ys = t.locals;
+    if same_locals(xs, ys, s.num_locals) {
+        let g = s.borrow_graph;
+        let h = t.borrow_graph;
+        let c = g.leq(h);
+        return Joined {
+            refusal: 0,
+            changed: (c.refusal != 0) | !c.yes,
+            state: t,
+        };
+    }
+    Joined {
+        refusal: 0,
+        changed: true,
+        state: t,
+    }
+}
