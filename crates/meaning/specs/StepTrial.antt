@@ -91,7 +91,11 @@ cases =
     ∷ whole 2 (mut ∷ []) 0 (CopyLoc 0 ∷ StLoc 1 ∷ MoveLoc 0 ∷ load ∷ BorrowElement false ∷ Pop ∷ []) accept
     ∷ whole 2 (mut ∷ []) 0 (CopyLoc 0 ∷ StLoc 1 ∷ MoveLoc 0 ∷ Call 1 [] [] ∷ []) (violation 112 3)
     ∷ whole 2 (mut ∷ imm ∷ []) 2 (MoveLoc 0 ∷ MoveLoc 1 ∷ Call 2 [] (mut ∷ imm ∷ []) ∷ Ret ∷ []) accept
+    ∷ whole 1 (ofValue ∷ []) 0 (BorrowLoc 0 true ∷ Call 1 [] [] ∷ MoveLoc 0 ∷ Pop ∷ []) accept
+    ∷ whole 1 (ofValue ∷ []) 0 (BorrowLoc 0 true ∷ Call 1 [] (mut ∷ []) ∷ MoveLoc 0 ∷ []) (violation 102 2)
+    ∷ whole 2 (mut ∷ []) 0 (load ∷ BorrowGlobal 3 false ∷ CopyLoc 0 ∷ StLoc 1 ∷ MoveLoc 0 ∷ Call 1 (3 ∷ []) [] ∷ []) (violation 109 5)
     ∷ whole 1 (ofValue ∷ []) 1 (BorrowLoc 0 false ∷ Ret ∷ []) (violation 113 1)
+    ∷ whole 2 (ofValue ∷ []) 0 (BorrowLoc 0 false ∷ StLoc 1 ∷ Ret ∷ []) accept
     ∷ whole 1 (mut ∷ []) 2 (CopyLoc 0 ∷ MoveLoc 0 ∷ Ret ∷ []) (violation 114 2)
     ∷ whole 1 (mut ∷ []) 1 (MoveLoc 0 ∷ BorrowField 1 true ∷ Ret ∷ []) accept
     ∷ whole 0 [] 0 (Pop ∷ []) (refusal 10 0)
