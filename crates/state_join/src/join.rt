@@ -6,6 +6,7 @@ use crate::locals::value_of;
 use abstract_state::state::AbstractState;
 use abstract_state::state::AbstractValue;
 use abstract_state::state::Local;
+use borrow_calls::release::release;
 use borrow_graph::graph::BorrowGraph;
 use references::references::RefID;
 ghost use mathlib.Core.Path.{_≡_};
@@ -152,7 +153,7 @@ fn join_locals(s: AbstractState, o: AbstractState) -> Parts
                 i += 1;
             }
             Action::ReleaseOurs(id) => {
-                let a = ours.release(id);
+                let a = release(ours, id);
                 if a.refusal != 0 {
                     return Parts {
                         refusal: a.refusal,
@@ -166,7 +167,7 @@ fn join_locals(s: AbstractState, o: AbstractState) -> Parts
                 i += 1;
             }
             Action::ReleaseTheirs(id) => {
-                let a = theirs.release(id);
+                let a = release(theirs, id);
                 if a.refusal != 0 {
                     return Parts {
                         refusal: a.refusal,
@@ -217,7 +218,7 @@ fn join_(s: AbstractState, o: AbstractState) -> Answer
     }
     let ours = p.ours;
     let theirs = p.theirs;
-    let a = ours.join(theirs);
+    let a = borrow_calls::join::join(ours, theirs);
     if a.refusal != 0 {
         return Answer {
             refusal: a.refusal,
