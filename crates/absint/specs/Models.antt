@@ -18,10 +18,15 @@ use Rattle.listing.specs.declared.Routine as D
 use Rattle.abstract_state.specs.declared.state.AbstractState.{AbstractState}
 use Rattle.absint.specs.declared.tally.BlockStatus.{BlockStatus}
 use Rattle.absint.specs.declared.tally.Tally.{Tally}
-use Rattle.absint.specs.declared.ruling.Lowest.{Lowest}
+use Rattle.absint.specs.declared.error.Lowest.{Lowest}
 use Rattle.absint.specs.declared.Ruling.{Ruling}
 use Rattle.absint.specs.declared.Ruling.the-variants.{Accept, Violation, Refused}
-use Rattle.absint.specs.declared.Verdict as D
+use Rattle.absint.specs.declared.Verdict as W
+use Rattle.absint.specs.declared.stub.Ran.{Ran}
+use Rattle.meaning.specs.Running.{Outcome, Running, done}
+use Rattle.meaning.specs.Running as R
+use Rattle.abstract_state.specs.Models.{localsIn, outcomeOf}
+use Rattle.borrow_graph.specs.Models.{graphOf}
 
 abbrev pub statusOf : BlockStatus → Status
 statusOf x = cond (x .failed) (failed (x .code) (x .offset .0)) fine
@@ -39,7 +44,7 @@ rulingOf Accept = accept
 rulingOf (Violation c o) = violation c (o .0)
 rulingOf (Refused n p) = refusal n p
 
-abbrev pub verdictOf : D.Verdict → Answered
+abbrev pub verdictOf : W.Verdict → Answered
 verdictOf v = record { verdict = rulingOf (v .ruling); visits = v .visits }
 
 abbrev pub lowestVerdict : Lowest → Verdict
@@ -84,6 +89,13 @@ module _ (s : List ℕ) (d : D.Routine) where
   abbrev pub At : Run State → List ℕ → Tally → Type 0
   At r ws t = Reached State join changed (exec theRoutine) (theRoutine .blocks) r (keptOf (d .locals) ws) (statusesOf t) (nextOf t) (t .visits)
 
+  -- what the reader promises of the routine, as the code has it
+  pub record Readable : Type 0 where
+    pub promise : promised theRoutine ≡ true
+    pub blocks : d .«block_count» ≤ 16
+    pub some : 1 ≤ d .«block_count»
+    pub params : d .«param_count» ≤ 16
+
   -- a block is next
   pub record Ready (ws : List ℕ) (t : Tally) : Type 0 where
     pub promise : promised theRoutine ≡ true
@@ -111,3 +123,14 @@ pub record Left (s : List ℕ) (ws ws′ : List ℕ) : Type 0 where
   pub unread : (n p : ℕ) → readListing s ≡ refused n p → ws′ ≡ ws
   pub short : length ws < 16384 → ws′ ≡ ws
   pub beyond : drop 16384 ws′ ≡ drop 16384 ws
+
+abbrev pub stateIn : ℕ → AbstractState → State
+stateIn l s = record { locals = localsIn (s .locals) l; graph = graphOf (s .«borrow_graph») }
+
+abbrev pub placed : ℕ → Outcome Running → Result State
+placed p (done r) = Result.ended (record { locals = r .locals; graph = r .graph })
+placed p (R.violated c) = Result.violated c p
+placed p (R.refused n) = Result.refused n p
+
+abbrev pub ranOf : Ran → Result State
+ranOf r = placed (r .place .0) (outcomeOf (r .state))

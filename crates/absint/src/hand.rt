@@ -55,12 +55,15 @@ fn hand(
     }
     let k = load(area, j, locals);
     if k.present {
-        let x = join(k.state, s);
+        let old = k.state;
+        let x = join(old, s);
         if x.refusal != 0 {
-            return t.stop(x.refusal, b.exit);
+            let place = b.exit;
+            return t.stop(x.refusal, place);
         }
         if x.changed {
-            store(area, j, x.state);
+            let new = x.state;
+            store(area, j, new);
             let mut u = t.clear(j);
             if e.0 <= b.entry.0 {
                 u.next = j;
@@ -89,9 +92,11 @@ pub(crate) fn spread(
     if b.count == 0 {
         return t;
     }
-    let u = hand(area, blocks, n, locals, b, b.first, s, t);
+    let first = b.first;
+    let u = hand(area, blocks, n, locals, b, first, s, t);
     if b.count == 1 {
         return u;
     }
-    hand(area, blocks, n, locals, b, b.second, s, u)
+    let second = b.second;
+    hand(area, blocks, n, locals, b, second, s, u)
 }

@@ -1,20 +1,18 @@
 // The run of a routine's blocks.
 use crate::hand::spread;
+use crate::stub::run_block;
 use crate::tally::BlockStatus;
 use crate::tally::Tally;
 use kept_states::clear;
 use kept_states::load;
 use kept_states::store;
 use listing::Routine;
-use reference_safety::block::run_block;
 use state_join::first::new;
 ghost use mathlib.Core.Path.{_≡_};
 ghost use mathlib.Core.Bool.{false};
 ghost use Prim.Native.Nat.{_≤_, _<_};
 ghost use lib.ListN.{length};
-ghost use Rattle.meaning.specs.Listing.{readListing, read};
-ghost use Rattle.listing.specs.Models.{routineOf};
-ghost use Rattle.absint.specs.Models.{Turned, Analyzed};
+ghost use Rattle.absint.specs.Models.{Readable, Ready, Turned, Analyzed};
 
 // The next block: passed over where it has no kept state, else run from it.
 fn visit(listing: &[u8], routine: Routine, area: &mut [u32], t: Tally) -> Tally
@@ -28,19 +26,21 @@ fn visit(listing: &[u8], routine: Routine, area: &mut [u32], t: Tally) -> Tally
     let k = load(area, i, routine.locals);
     if k.present {
         let b = routine.blocks[i];
-        let r = run_block(listing, routine, b, k.state);
+        let start = k.state;
+        let r = run_block(listing, routine, b, start);
         let s = r.state;
+        let place = r.place;
         u.visits = t.visits + 1;
         if s.violation != 0 {
             let x = BlockStatus {
                 failed: true,
                 code: s.violation,
-                offset: r.place,
+                offset: place,
             };
             return u.mark(i, x);
         }
         if s.refusal != 0 {
-            return u.stop(s.refusal, r.place);
+            return u.stop(s.refusal, place);
         }
         let v = u.clear(i);
         let blocks = routine.blocks;
@@ -51,7 +51,7 @@ fn visit(listing: &[u8], routine: Routine, area: &mut [u32], t: Tally) -> Tally
 
 // The loop has no budget: `turns` only counts, and its bound is that of the visits (document 01, demand 3).
 pub(crate) fn visit_all(listing: &[u8], routine: Routine, area: &mut [u32]) -> Tally
-    requires { ⌜ Read (now listing) routine × (16384 ≤ length (now area)) ⌝ }
+    requires { ⌜ Readable (now listing) routine × (16384 ≤ length (now area)) ⌝ }
     ensures { λ r. ⌜ Analyzed (now (listing .entry)) routine (now (area .entry)) (now (area .exit)) r ⌝ }
 {
     let params = routine.params;

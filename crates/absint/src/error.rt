@@ -29,11 +29,12 @@ impl Lowest {
                     return self;
                 }
             }
+            let offset = x.offset;
             return Self {
                 found: true,
                 entry: e,
                 code: x.code,
-                offset: x.offset,
+                offset,
             };
         }
         self
@@ -45,7 +46,7 @@ pub(crate) fn rule(blocks: [Block; 16], n: usize, t: Tally) -> Ruling
     ensures { λ r. ⌜ rulingOf r ≡ verdictIn (blocksIn blocks n) t ⌝ }
 {
     if t.stopped {
-        return Ruling::Refused(t.number, t.place.0 as u32);
+        return Ruling::Refused(t.number, t.place.0 as usize);
     }
     let mut l = Lowest {
         found: false,
@@ -57,11 +58,13 @@ pub(crate) fn rule(blocks: [Block; 16], n: usize, t: Tally) -> Ruling
     while i < n {
         let b = blocks[i];
         let x = t.statuses[i];
-        l = l.lower(b.entry, x);
+        let e = b.entry;
+        l = l.lower(e, x);
         i += 1;
     }
     if l.found {
-        return Ruling::Violation(l.code, l.offset);
+        let offset = l.offset;
+        return Ruling::Violation(l.code, offset);
     }
     Ruling::Accept
 }

@@ -1,0 +1,2 @@
+-- Laws of the loop.
+use Prim.Native.Nat.{ℕ}
