@@ -2,19 +2,24 @@
 use crate::state::AbstractState;
 use crate::state::AbstractValue;
 use crate::state::Local;
+use borrow_calls::borrow::add_strong_borrow;
+use borrow_calls::borrow::add_strong_field_borrow;
+use borrow_calls::borrow::add_weak_borrow;
+use borrow_calls::borrow::add_weak_field_borrow;
+use borrow_calls::release::release;
 use borrow_graph::graph::Answer;
 use borrow_graph::graph::Told;
 use file_format::LocalIndex;
 use references::paths::Label;
 use references::references::RefID;
 ghost use mathlib.Core.Path.{_≡_};
-ghost use mathlib.Core.Bool.{not, cond};
+ghost use mathlib.Core.Bool.{cond};
 ghost use lib.Dec.{ltb};
 ghost use lib.ListN.{getD};
 ghost use Rattle.meaning.specs.State as S;
-ghost use Rattle.meaning.specs.Running.{Outcome, done, then, lift, answer, withLocal, onGraph, newRef, addCopy, addBorrow, addFieldBorrow, addLocalBorrow, addResourceBorrow, releaseName};
+ghost use Rattle.meaning.specs.Running.{done, then, answer, withLocal, onGraph, newRef, addCopy, addBorrow, addFieldBorrow, addLocalBorrow, addResourceBorrow, releaseName};
 ghost use Rattle.borrow_graph.specs.Models as G;
-ghost use Rattle.abstract_state.specs.Models.{operandOf, localOf, localsIn, halted, outcomeOf, answerOf};
+ghost use Rattle.abstract_state.specs.Models.{operandOf, localOf, localsIn, halted, heeding, failing, needing, outcomeOf, answerOf};
 
 impl AbstractState {
     pub fn frame_root(self) -> RefID
@@ -61,7 +66,7 @@ impl AbstractState {
 
     // Refused, where the question was.
     pub fn heed(self, t: Told) -> Self
-        ensures { λ r. ⌜ outcomeOf r ≡ then (outcomeOf self) (λ s. then (lift (G.toldOf t)) (λ yes. done s)) ⌝ }
+        ensures { λ r. ⌜ outcomeOf r ≡ then (outcomeOf self) (heeding (G.toldOf t)) ⌝ }
     {
         let mut s = self;
         if (self.violation == 0) & (self.refusal == 0) {
@@ -72,7 +77,7 @@ impl AbstractState {
 
     // Refused, where the question was or its answer is no.
     pub fn need(self, t: Told, number: u8) -> Self
-        ensures { λ r. ⌜ outcomeOf r ≡ then (outcomeOf self) (λ s. then (lift (G.toldOf t)) (λ yes. halted 0 (cond yes 0 number) s)) ⌝ }
+        ensures { λ r. ⌜ outcomeOf r ≡ then (outcomeOf self) (needing (G.toldOf t) number) ⌝ }
     {
         let mut s = self;
         if (self.violation == 0) & (self.refusal == 0) {
@@ -87,7 +92,7 @@ impl AbstractState {
 
     // Refused where the question was; violated where its answer is yes.
     pub fn fail(self, t: Told, code: u8) -> Self
-        ensures { λ r. ⌜ outcomeOf r ≡ then (outcomeOf self) (λ s. then (lift (G.toldOf t)) (λ yes. halted (cond yes code 0) 0 s)) ⌝ }
+        ensures { λ r. ⌜ outcomeOf r ≡ then (outcomeOf self) (failing (G.toldOf t) code) ⌝ }
     {
         let mut s = self;
         if (self.violation == 0) & (self.refusal == 0) {
@@ -105,8 +110,10 @@ impl AbstractState {
         ensures { λ r. ⌜ localOf r ≡ getD (localsIn (self .locals) (self .«num_locals»)) (i .0) S.Local.absent ⌝ }
     {
         let k = i.0 as usize;
-        if (i.0 < self.num_locals) & (k < 16) {
-            return self.locals[k];
+        if i.0 < self.num_locals {
+            if k < 16 {
+                return self.locals[k];
+            }
         }
         Local {
             present: false,
@@ -154,7 +161,7 @@ impl AbstractState {
         ensures { λ r. ⌜ outcomeOf r ≡ then (outcomeOf self) (addCopy (parent .0) (child .0)) ⌝ }
     {
         let g = self.borrow_graph;
-        let a = g.add_strong_borrow(parent, child);
+        let a = add_strong_borrow(g, parent, child);
         self.on_graph(a)
     }
 
@@ -162,7 +169,7 @@ impl AbstractState {
         ensures { λ r. ⌜ outcomeOf r ≡ then (outcomeOf self) (addBorrow (parent .0) (child .0)) ⌝ }
     {
         let g = self.borrow_graph;
-        let a = g.add_weak_borrow(parent, child);
+        let a = add_weak_borrow(g, parent, child);
         self.on_graph(a)
     }
 
@@ -170,7 +177,7 @@ impl AbstractState {
         ensures { λ r. ⌜ outcomeOf r ≡ then (outcomeOf self) (addFieldBorrow (parent .0) field (child .0)) ⌝ }
     {
         let g = self.borrow_graph;
-        let a = g.add_strong_field_borrow(parent, Label::Field(field), child);
+        let a = add_strong_field_borrow(g, parent, Label::Field(field), child);
         self.on_graph(a)
     }
 
@@ -179,7 +186,7 @@ impl AbstractState {
     {
         let g = self.borrow_graph;
         let root = RefID(self.num_locals as u16);
-        let a = g.add_strong_field_borrow(root, Label::Local(local.0 as u16), child);
+        let a = add_strong_field_borrow(g, root, Label::Local(local.0 as u16), child);
         self.on_graph(a)
     }
 
@@ -188,7 +195,7 @@ impl AbstractState {
     {
         let g = self.borrow_graph;
         let root = RefID(self.num_locals as u16);
-        let a = g.add_weak_field_borrow(root, Label::Global(resource), child);
+        let a = add_weak_field_borrow(g, root, Label::Global(resource), child);
         self.on_graph(a)
     }
 
@@ -196,7 +203,7 @@ impl AbstractState {
         ensures { λ r. ⌜ outcomeOf r ≡ then (outcomeOf self) (releaseName (id .0)) ⌝ }
     {
         let g = self.borrow_graph;
-        let a = g.release(id);
+        let a = release(g, id);
         self.on_graph(a)
     }
 }

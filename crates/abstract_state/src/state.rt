@@ -25,3 +25,12 @@ pub struct AbstractState {
     pub next_id: u32,
     pub borrow_graph: BorrowGraph,
 }
+
+// An operand, so that operands can stand in an array.
+pub struct Operand(pub AbstractValue);
+
+// What lies from `len` on is free; a `len` beyond 16 reads as 16. In the operand stack the last one is the top.
+pub struct Operands {
+    pub list: [Operand; 16],
+    pub len: u8,
+}

@@ -1,20 +1,20 @@
 -- The test of well-formedness as the code's fold, and the borrows of a name edge by edge.
 use mathlib.Core.Path.{_≡_, refl, sym, ap, _∙_}
-use mathlib.Core.Bool.{Bool, true, false, not, cond, _&&_, _||_, and-assoc, and-true, or-assoc}
+use mathlib.Core.Bool.{Bool, true, false, not, cond, _&&_, _||_, and-assoc, and-true, or-assoc, false≢true}
 use mathlib.Core.Option.{Option}
 use mathlib.Core.List.{List, [], _∷_, foldl}
 use Prim.Native.Nat.{ℕ, _+_}
+use native.Mathlib.Omega.{arith}
+use borrow.Author.Tests.{lt-ltb}
 use lib.Dec.{leb, ltb, eqb}
 use lib.ListN.{length}
 use Rattle.meaning.specs.Sets.{Edge, weakest, short, ltEdge, eqEdge}
-use Rattle.meaning.specs.Base.{any}
+use Rattle.meaning.specs.Base.{any, and-l}
 use Rattle.meaning.specs.ArrayLaws.{empty-length}
 use Rattle.meaning.specs.Graph.{GEdge, Name, isBefore}
 use Rattle.meaning.specs.Running.{mutableIn, meetsLabel, emptyPath}
 use Rattle.meaning.specs.Lookups.{Borrows}
-use Rattle.meaning.specs.Chain.{same, link, nextCount, chain, start, climbs}
-use Rattle.borrow_graph.specs.declared.graph.Chain.{Chain}
-use Rattle.borrow_graph.specs.Models.{gedgeOf}
+use Rattle.meaning.specs.Chain.{same, link, nextCount, chain, climbs}
 
 -- ---- names that ascend
 
@@ -29,74 +29,63 @@ pub climb-ok : (s : Climb) (ns : List Name) → foldl climb s ns .ok ≡ s .ok &
 climb-ok s [] = sym (and-true (s .ok))
 climb-ok s (n ∷ ns) = climb-ok (climb s n) ns ∙ and-assoc (s .ok) (ltb (n .id) 65536 && leb (s .from) (n .id)) (climbs (n .id + 1) ns)
 
--- ---- edges that follow one another
+-- ---- an edge that follows another
 
-pub record Linking : Type 0 where
-  pub ok : Bool
-  pub count : ℕ
-  pub last : GEdge
+-- the count after x, or 0 where x may not follow y
+abbrev pub counted : ℕ → GEdge → GEdge → ℕ
+counted k y x = cond (link k y x) (nextCount k y x) 0
 
-abbrev pub chainOf : Chain → Linking
-chainOf s = record { ok = s .ok; count = s .count; last = gedgeOf (s .last) }
+module _ (k : ℕ) (y x : GEdge) (sh : short (x .edge) ≡ true) where
+  -- an edge of the same pair, by the test t of the code
+  module _ (up : Bool) (e : same y x ≡ true) (q : up ≡ ltEdge (y .edge) (x .edge)) where
+    abbrev next : Bool
+    next = ltb k 10 && (not (y .blurred || x .blurred) && up)
 
-unfoldable pub linkOn : Linking → GEdge → Bool → Linking
-linkOn s x h = record { ok = s .ok && (h && link (s .count) (s .last) x); count = nextCount (s .count) (s .last) x; last = x }
+    at-same : counted k y x ≡ cond next (cond (ltb k 10) (k + 1) 10) 0
+    at-same = rw (sh, e, q) refl
 
-abbrev pub linkAll : (ℕ → ℕ → Bool) → Linking → GEdge → Linking
-linkAll q s x = linkOn s x (q (x .parent) (x .child))
+    pub same-on : next ≡ true → k + 1 ≡ counted k y x
+    same-on t = sym (at-same ∙ ap (λ (b : Bool). cond b (cond (ltb k 10) (k + 1) 10) 0) t ∙ ap (λ (b : Bool). cond b (k + 1) 10) (and-l (ltb k 10) (not (y .blurred || x .blurred) && up) t))
 
-pub link-ok : (q : ℕ → ℕ → Bool) (s : Linking) (xs : List GEdge) → foldl (linkAll q) s xs .ok ≡ s .ok && chain q (s .count) (s .last) xs
-unfolding linkOn
-link-ok q s [] = sym (and-true (s .ok))
-link-ok q s (x ∷ xs) =
-    link-ok q (linkAll q s x) xs
-    ∙ and-assoc (s .ok) (q (x .parent) (x .child) && link (s .count) (s .last) x) (chain q (nextCount (s .count) (s .last) x) x xs)
+    pub same-off : next ≡ false → 0 ≡ counted k y x
+    same-off t = sym (at-same ∙ ap (λ (b : Bool). cond b (cond (ltb k 10) (k + 1) 10) 0) t)
 
-no-and : (a b c : Bool) → false ≡ a && (b && (c && false))
-no-and true true true = refl
-no-and true true false = refl
-no-and true false c = refl
-no-and false b c = refl
+  -- the first edge of another pair
+  pub next-is : (bare t : Bool) → isBefore (x .parent) (x .child) y ≡ true → same y x ≡ false → bare ≡ eqEdge (x .edge) weakest → not (x .blurred) || bare ≡ t → cond t 1 0 ≡ counted k y x
+  next-is bare t u e q h = rw (sh, u, e, sym q, h) refl
 
--- the cases of a step
-module _ (s : Linking) (x : GEdge) (h : Bool) (sh : short (x .edge) ≡ true) where
-  pub link-same : (b : Bool) → same (s .last) x ≡ true → ltb (s .count) 10 ≡ true → b ≡ ltEdge (s .last .edge) (x .edge)
-      → _≡_ {A = Linking} (record { ok = s .ok && (h && (not (s .last .blurred || x .blurred) && b)); count = s .count + 1; last = x }) (linkOn s x h)
-  unfolding linkOn
-  link-same b e l q = λ i. record {
-    ok = s .ok && (h && (sym sh i && cond (sym e i) (sym l i && (not (s .last .blurred || x .blurred) && q i)) (isBefore (x .parent) (x .child) (s .last) && (not (x .blurred) || eqEdge (x .edge) weakest))));
-    count = cond (sym e i) (cond (sym l i) (s .count + 1) 10) 1;
-    last = x;
-  }
+  pub over-is : isBefore (x .parent) (x .child) y ≡ false → same y x ≡ false → 0 ≡ counted k y x
+  over-is u e = rw (sh, u, e) refl
 
-  pub link-full : same (s .last) x ≡ true → ltb (s .count) 10 ≡ false → _≡_ {A = Linking} (record { ok = false; count = 10; last = x }) (linkOn s x h)
-  unfolding linkOn
-  link-full e l =
-      (λ i. record { ok = no-and (s .ok) h (short (x .edge)) i; count = 10; last = x })
-      ∙ (λ i. record {
-        ok = s .ok && (h && (short (x .edge) && cond (sym e i) (sym l i && (not (s .last .blurred || x .blurred) && ltEdge (s .last .edge) (x .edge))) (isBefore (x .parent) (x .child) (s .last) && (not (x .blurred) || eqEdge (x .edge) weakest))));
-        count = cond (sym e i) (cond (sym l i) (s .count + 1) 10) 1;
-        last = x;
-      })
+-- a turn of the test: `h` says that the ends of x are two held names, `n` is the count after it
+module _ (q : ℕ → ℕ → Bool) (k : ℕ) (y x : GEdge) (xs : List GEdge) (h : Bool) (n : ℕ) (e : h ≡ q (x .parent) (x .child)) (c : n ≡ counted k y x) where
+  some : ltb 0 (nextCount k y x) ≡ true
+  some = go (same y x) (ltb k 10)
+    where
+      go : (a b : Bool) → ltb 0 (cond a (cond b (k + 1) 10) 1) ≡ true
+      go true true = lt-ltb 0 (k + 1) (omega arith)
+      go true false = refl
+      go false b = refl
 
-  pub link-over : isBefore (x .parent) (x .child) (s .last) ≡ false → same (s .last) x ≡ false → _≡_ {A = Linking} (record { ok = false; count = 1; last = x }) (linkOn s x h)
-  unfolding linkOn
-  link-over u e =
-      (λ i. record { ok = no-and (s .ok) h (short (x .edge)) i; count = 1; last = x })
-      ∙ (λ i. record {
-        ok = s .ok && (h && (short (x .edge) && cond (sym e i) (ltb (s .count) 10 && (not (s .last .blurred || x .blurred) && ltEdge (s .last .edge) (x .edge))) (sym u i && (not (x .blurred) || eqEdge (x .edge) weakest))));
-        count = cond (sym e i) (cond (ltb (s .count) 10) (s .count + 1) 10) 1;
-        last = x;
-      })
+  pub chain-on : h && ltb 0 n ≡ true → chain q k y (x ∷ xs) ≡ chain q n x xs
+  chain-on t =
+      let z = go (link k y x) h n c t in
+      (λ i. (sym e i && z .1 i) && chain q (nextCount k y x) x xs) ∙ (λ i. (z .0 i && true) && chain q (sym (z .2) i) x xs)
+    where
+      go : (l b : Bool) (m : ℕ) → m ≡ cond l (nextCount k y x) 0 → b && ltb 0 m ≡ true → (b ≡ true) × (l ≡ true) × (m ≡ nextCount k y x)
+      go true true m p s = (refl, refl, p)
+      go true false m p s = absurd (false≢true s)
+      go false true m p s = absurd (false≢true (sym (ap (ltb 0) p) ∙ s))
+      go false false m p s = absurd (false≢true s)
 
-  pub link-next : (b : Bool) → isBefore (x .parent) (x .child) (s .last) ≡ true → same (s .last) x ≡ false → b ≡ eqEdge (x .edge) weakest
-      → _≡_ {A = Linking} (record { ok = s .ok && (h && (not (x .blurred) || b)); count = 1; last = x }) (linkOn s x h)
-  unfolding linkOn
-  link-next b u e q = λ i. record {
-    ok = s .ok && (h && (sym sh i && cond (sym e i) (ltb (s .count) 10 && (not (s .last .blurred || x .blurred) && ltEdge (s .last .edge) (x .edge))) (sym u i && (not (x .blurred) || q i))));
-    count = cond (sym e i) (cond (ltb (s .count) 10) (s .count + 1) 10) 1;
-    last = x;
-  }
+  pub chain-off : h && ltb 0 n ≡ false → chain q k y (x ∷ xs) ≡ false
+  chain-off t = (λ i. (sym e i && link k y x) && chain q (nextCount k y x) x xs) ∙ ap (λ (b : Bool). b && chain q (nextCount k y x) x xs) (go (link k y x) h n c t)
+    where
+      go : (l b : Bool) (m : ℕ) → m ≡ cond l (nextCount k y x) 0 → b && ltb 0 m ≡ false → b && l ≡ false
+      go true true m p s = absurd (false≢true (sym s ∙ ap (ltb 0) p ∙ some))
+      go true false m p s = refl
+      go false true m p s = refl
+      go false false m p s = refl
 
 -- ---- the borrows of a name
 

@@ -11,11 +11,12 @@ use Rattle.meaning.specs.Base.{Ans, ok, refuse, andThen, leaves}
 use Rattle.meaning.specs.Pairs.{or21}
 use Rattle.meaning.specs.ArrayLaws.{front-map-step, front-take}
 use Rattle.references.specs.ModelLaws as R
-use Rattle.borrow_graph.specs.Models.{refOf, refsOf, gedgeOf, edgesOf, told, changeOf, mapOf}
+use Rattle.borrow_graph.specs.Models.{refOf, refsOf, gedgeOf, edgesOf, listAt, heldOf, told, changeOf, mapOf}
 use Rattle.borrow_graph.specs.declared.graph.Ref.{Ref}
 use Rattle.borrow_graph.specs.declared.graph.Refs.{Refs}
 use Rattle.borrow_graph.specs.declared.graph.GraphEdge.{GraphEdge}
 use Rattle.borrow_graph.specs.declared.graph.GraphEdges.{GraphEdges}
+use Rattle.borrow_graph.specs.declared.graph.BorrowGraph.{BorrowGraph}
 use Rattle.borrow_graph.specs.declared.remap.IdPair.{IdPair}
 use Rattle.borrow_graph.specs.declared.remap.IdMap.{IdMap}
 
@@ -56,6 +57,13 @@ edges-end s i h = drop-of-length-le (edgesOf s) h
 pub edges-front : (s : GraphEdges) (k : ℕ) → k ≤ length (edgesOf s) → map gedgeOf (take k (s .list)) ≡ take k (edgesOf s)
 unfolding edgesOf
 edges-front s k h = front-take gedgeOf (s .len) k (s .list) h
+
+-- the same of a graph's own edges
+pub held-step : (g : BorrowGraph) (i : ℕ) → i < length (heldOf g) → drop i (heldOf g) ≡ gedgeOf (getD (g .edges) i no-gedge) ∷ drop (i + 1) (heldOf g)
+held-step g i h = edges-step (listAt g) i h
+
+pub held-end : (g : BorrowGraph) (i : ℕ) → length (heldOf g) ≤ i → drop i (heldOf g) ≡ []
+held-end g i h = edges-end (listAt g) i h
 
 pub edges-made : (l : List GraphEdge) (n : ℕ) → edgesOf (record { list = l; len = n }) ≡ map gedgeOf (take n l)
 unfolding edgesOf

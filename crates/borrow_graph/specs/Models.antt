@@ -19,7 +19,6 @@ use Rattle.borrow_graph.specs.declared.graph.BorrowGraph.{BorrowGraph}
 use Rattle.borrow_graph.specs.declared.graph.Answer.{Answer}
 use Rattle.borrow_graph.specs.declared.graph.Told.{Told}
 use Rattle.borrow_graph.specs.declared.graph.Names.{Names}
-use Rattle.borrow_graph.specs.declared.pairs.Replaced.{Replaced}
 use Rattle.borrow_graph.specs.declared.lookups.LabelFilter.{LabelFilter}
 use Rattle.borrow_graph.specs.declared.lookups.LabelFilter.the-variants.{Any, At}
 use Rattle.borrow_graph.specs.declared.lookups.BorrowedBy.{BorrowedBy}
@@ -41,8 +40,15 @@ gedgeOf x = record { parent = x .parent .0; child = x .child .0; blurred = x .bl
 unfoldable pub edgesOf : GraphEdges → List GEdge
 edgesOf s = map gedgeOf (take (s .len) (s .list))
 
+-- the edges of a graph as a list of their own
+abbrev pub listAt : BorrowGraph → GraphEdges
+listAt g = record { list = g .edges; len = g .len }
+
+abbrev pub heldOf : BorrowGraph → List GEdge
+heldOf g = edgesOf (listAt g)
+
 abbrev pub graphOf : BorrowGraph → Graph
-graphOf g = record { names = refsOf (g .refs); edges = edgesOf (g .edges) }
+graphOf g = record { names = refsOf (g .refs); edges = heldOf g }
 
 -- a refusal has its number of document 01; 0 is none
 abbrev pub told : {A : Type 0} → ℕ → A → Ans A
@@ -56,9 +62,6 @@ toldOf a = told (a .refusal) (a .yes)
 
 abbrev pub namesOf : Names → Ans (List Name)
 namesOf a = told (a .refusal) (refsOf (a .refs))
-
-abbrev pub replacedOf : Replaced → Ans (List GEdge)
-replacedOf a = told (a .refusal) (edgesOf (a .edges))
 
 -- a label counts by its number
 abbrev pub filterOf : LabelFilter → Option ℕ

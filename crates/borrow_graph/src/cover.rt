@@ -1,6 +1,5 @@
 // Whether a graph covers another (the Rust's `leq`).
 use crate::graph::BorrowGraph;
-use crate::graph::GraphEdges;
 use crate::graph::Refs;
 use crate::graph::Told;
 ghost use mathlib.Core.Path.{_≡_};
@@ -8,10 +7,10 @@ ghost use Rattle.meaning.specs.Base.{all};
 ghost use Rattle.meaning.specs.Graph as G;
 ghost use Rattle.meaning.specs.Lookups.{covering};
 ghost use Rattle.meaning.specs.CoverLaws.{coveredIn};
-ghost use Rattle.borrow_graph.specs.Models.{refsOf, edgesOf, graphOf, toldOf};
+ghost use Rattle.borrow_graph.specs.Models.{refsOf, heldOf, graphOf, toldOf};
 
 impl Refs {
-    pub(crate) fn holds_all(self, other: Refs) -> bool
+    pub fn holds_all(self, other: Refs) -> bool
         ensures { λ r. ⌜ r ≡ all (λ m. G.holds (refsOf self) (m .id)) (refsOf other) ⌝ }
     {
         let n = other.len();
@@ -29,10 +28,10 @@ impl Refs {
     }
 }
 
-impl GraphEdges {
+impl BorrowGraph {
     // Whether each edge of the other list is covered by one of its own pair here: `j` seeks it for the edge at `i`.
-    pub(crate) fn cover(self, other: GraphEdges) -> bool
-        ensures { λ r. ⌜ r ≡ all (coveredIn (edgesOf self)) (edgesOf other) ⌝ }
+    pub(crate) fn cover(self, other: BorrowGraph) -> bool
+        ensures { λ r. ⌜ r ≡ all (coveredIn (heldOf self)) (heldOf other) ⌝ }
     {
         let n = self.len();
         let m = other.len();
@@ -42,8 +41,8 @@ impl GraphEdges {
             if n <= j {
                 return false;
             }
-            let x = other.list[i];
-            let y = self.list[j];
+            let x = other.edges[i];
+            let y = self.edges[j];
             if (x.parent.0 == y.parent.0) & (x.child.0 == y.child.0) {
                 let e = x.edge;
                 let d = y.edge;
@@ -72,9 +71,7 @@ impl BorrowGraph {
         let v = other.well_formed();
         let h = rs.holds_all(ss);
         if w & v & h {
-            let es = self.edges;
-            let fs = other.edges;
-            let c = es.cover(fs);
+            let c = self.cover(other);
             return Told { refusal: 0, yes: c };
         }
         Told {

@@ -1,18 +1,21 @@
 // The borrow graph by value. Every call tests first that the graph is well formed; a call that is refused leaves the graph as
 // it was.
+use meaning::MAX_EDGE_SET_SIZE;
+use meaning::MAX_EDGES;
+use meaning::MAX_NAMES;
 use references::paths::Ordering;
 use references::references::BorrowEdge;
-use references::references::BorrowEdgeSet;
 use references::references::RefID;
 ghost use mathlib.Core.Path.{_≡_};
 ghost use mathlib.Core.Bool.{true};
 ghost use mathlib.Core.List.{[]};
 ghost use Rattle.meaning.specs.Base.{leaves};
 ghost use Rattle.meaning.specs.Graph.{emptyGraph, wellFormed};
-ghost use Rattle.meaning.specs.Chain.{start};
+ghost use mathlib.Core.Bool.{cond};
+ghost use Rattle.meaning.specs.Chain as C;
+ghost use Rattle.meaning.specs.Chain.{start, nextCount};
 ghost use Rattle.meaning.specs.Borrow.{newName};
 ghost use Rattle.meaning.specs.Lookups.{mutableOf, containsId, allRefs};
-ghost use Rattle.borrow_graph.specs.Folds.{chainOf, linkOn};
 ghost use Rattle.borrow_graph.specs.Models.{gedgeOf, graphOf, answerOf, toldOf, namesOf};
 
 // A name, and whether its reference is mutable.
@@ -23,7 +26,7 @@ pub struct Ref {
 
 // What lies from `len` on is free; a `len` beyond 48 reads as 48.
 pub struct Refs {
-    pub list: [Ref; 48],
+    pub list: [Ref; MAX_NAMES],
     pub len: u8,
 }
 
@@ -37,19 +40,22 @@ pub struct GraphEdge {
 
 // What lies from `len` on is free; a `len` beyond 96 reads as 96.
 pub struct GraphEdges {
-    pub list: [GraphEdge; 96],
+    pub list: [GraphEdge; MAX_EDGES],
     pub len: u8,
 }
 
+// The names, and the edges ascending by parent, child and edge. What lies from `len` on is free; a `len` beyond 96 reads as 96.
 pub struct BorrowGraph {
     pub refs: Refs,
-    pub edges: GraphEdges,
+    pub edges: [GraphEdge; MAX_EDGES],
+    pub len: u8,
 }
 
-// A refusal's number, or 0 and the graph; refused, the graph that was handed over.
+// A refusal's number, or 0 and the graph; refused, the graph that was handed over. The graph comes first: with
+// no gap before it the compiler makes it in place.
 pub struct Answer {
-    pub refusal: u8,
     pub graph: BorrowGraph,
+    pub refusal: u8,
 }
 
 // A refusal's number, or 0 and the answer to a question.
@@ -62,25 +68,6 @@ pub struct Told {
 pub struct Names {
     pub refusal: u8,
     pub refs: Refs,
-}
-
-// The set of a pair, and how many edges stand before it.
-pub(crate) struct Between {
-    pub low: usize,
-    pub set: BorrowEdgeSet,
-}
-
-// Edges in two lists: those that a strong borrow moves, and the others.
-pub(crate) struct Taken {
-    pub kept: GraphEdges,
-    pub moved: GraphEdges,
-}
-
-// The test of the order so far: the last edge, and how many edges of its pair there have been.
-pub(crate) struct Chain {
-    pub ok: bool,
-    pub count: usize,
-    pub last: GraphEdge,
 }
 
 impl GraphEdge {
@@ -96,48 +83,32 @@ impl GraphEdge {
             edge: e,
         }
     }
-}
 
-impl Chain {
-    // One edge more; `h` says that its ends are two held names.
-    pub(crate) fn step(self, x: GraphEdge, h: bool) -> Self
-        ensures { λ r. ⌜ chainOf r ≡ linkOn (chainOf self) (gedgeOf x) h ⌝ }
+    // How many edges of its pair there have been with x, which follows this one as number `count` of its pair; 0 where x may not
+    // follow.
+    pub(crate) fn link(self, count: usize, x: GraphEdge) -> usize
+        ensures { λ r. ⌜ r ≡ cond (C.link count (gedgeOf self) (gedgeOf x)) (nextCount count (gedgeOf self) (gedgeOf x)) 0 ⌝ }
     {
-        let y = self.last;
-        let e = x.edge;
-        let o = y.side(x.parent, x.child);
+        let o = self.side(x.parent, x.child);
         match o {
             Ordering::Less => {
+                let e = x.edge;
                 let p = e.path;
                 let bare = !e.strong & (p.len() == 0);
-                Self {
-                    ok: self.ok & (h & (!x.blurred | bare)),
-                    count: 1,
-                    last: x,
+                if !x.blurred | bare {
+                    return 1;
                 }
+                0
             }
             Ordering::Equal => {
-                let d = y.edge;
-                let up = d.lt(e);
-                if self.count < 10 {
-                    Self {
-                        ok: self.ok & (h & (!(y.blurred | x.blurred) & up)),
-                        count: self.count + 1,
-                        last: x,
-                    }
-                } else {
-                    Self {
-                        ok: false,
-                        count: 10,
-                        last: x,
-                    }
+                let d = self.edge;
+                let up = d.lt(x.edge);
+                if (count < MAX_EDGE_SET_SIZE) & (!(self.blurred | x.blurred) & up) {
+                    return count + 1;
                 }
+                0
             }
-            Ordering::Greater => Self {
-                ok: false,
-                count: 1,
-                last: x,
-            },
+            Ordering::Greater => 0,
         }
     }
 }
@@ -153,13 +124,11 @@ impl BorrowGraph {
         let x = GraphEdge::none();
         Self {
             refs: Refs {
-                list: [a; 48],
+                list: [a; MAX_NAMES],
                 len: 0,
             },
-            edges: GraphEdges {
-                list: [x; 96],
-                len: 0,
-            },
+            edges: [x; MAX_EDGES],
+            len: 0,
         }
     }
 
@@ -168,23 +137,26 @@ impl BorrowGraph {
         ensures { λ r. ⌜ r ≡ wellFormed (graphOf self) ⌝ }
     {
         let rs = self.refs;
-        let es = self.edges;
-        let n = es.len();
-        let a = rs.ascend();
-        let e = GraphEdge::none();
-        let mut s = Chain {
-            ok: a,
-            count: 0,
-            last: e,
-        };
+        let n = self.len();
+        if !rs.ascend() {
+            return false;
+        }
+        let mut last = GraphEdge::none();
+        let mut count: usize = 0;
         let mut i: usize = 0;
         while i < n {
-            let x = es.list[i];
+            let x = self.edges[i];
             let h = rs.pair_ok(x.parent, x.child);
-            s = s.step(x, h);
-            i += 1;
+            let k = last.link(count, x);
+            if h & (0 < k) {
+                last = x;
+                count = k;
+                i += 1;
+            } else {
+                return false;
+            }
         }
-        s.ok
+        true
     }
 
     pub fn contains_id(self, id: RefID) -> Told
@@ -234,7 +206,7 @@ impl BorrowGraph {
     }
 
     // 8 where the name is held, then 23 where 48 are.
-    pub fn new_ref(self, id: RefID, mutable: bool) -> Answer
+    pub fn new_ref(mut self, id: RefID, mutable: bool) -> Answer
         ensures { λ r. ⌜ (answerOf r ≡ newName (graphOf self) (id .0) mutable) × (graphOf (r .graph) ≡ leaves (graphOf self) (newName (graphOf self) (id .0) mutable)) ⌝ }
     {
         if self.well_formed() {
@@ -245,7 +217,7 @@ impl BorrowGraph {
                     graph: self,
                 };
             }
-            if 48 <= rs.len() {
+            if MAX_NAMES <= rs.len() {
                 return Answer {
                     refusal: 23,
                     graph: self,
@@ -257,13 +229,10 @@ impl BorrowGraph {
                 mutable: mutable,
             };
             let ms = rs.put_at(k, a);
-            let es = self.edges;
+            self.refs = ms;
             return Answer {
                 refusal: 0,
-                graph: BorrowGraph {
-                    refs: ms,
-                    edges: es,
-                },
+                graph: self,
             };
         }
         Answer {

@@ -1,11 +1,8 @@
-// The labelled borrow graph (graph.rs).
-mod borrow;
+// The labelled borrow graph (graph.rs): its types, names, look-ups, cover and renaming. Borrows, release and join stand in
+// the crate borrow_calls.
 mod cover;
-mod edges;
+pub mod edges;
 pub mod graph;
-mod join;
 pub mod lookups;
-mod pairs;
-mod refs;
-mod release;
+pub mod refs;
 pub mod remap;

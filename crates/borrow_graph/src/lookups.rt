@@ -11,7 +11,7 @@ ghost use Rattle.meaning.specs.Base.{keep};
 ghost use Rattle.meaning.specs.Running.{meetsLabel};
 ghost use Rattle.meaning.specs.Lookups.{known, borrowedBy, outEdges, inEdges, betweenEdges};
 ghost use Rattle.references.specs.Models.{pathOf};
-ghost use Rattle.borrow_graph.specs.Models.{filterOf, gedgeOf, refsOf, edgesOf, graphOf, borrowsOf, borrowedOf, listOf};
+ghost use Rattle.borrow_graph.specs.Models.{filterOf, gedgeOf, refsOf, edgesOf, heldOf, graphOf, borrowsOf, borrowedOf, listOf};
 ghost use Rattle.borrow_graph.specs.Models as M;
 ghost use Rattle.borrow_graph.specs.Folds.{noBorrows, addBorrow, borrowsIn};
 
@@ -94,9 +94,9 @@ impl Ends {
     }
 }
 
-impl GraphEdges {
+impl BorrowGraph {
     pub(crate) fn borrows(self, refs: Refs, id: RefID, at: LabelFilter) -> BorrowedBy
-        ensures { λ r. ⌜ (r .refusal ≡ 0) × (borrowsOf r ≡ borrowsIn (refsOf refs) (id .0) (filterOf at) noBorrows (edgesOf self)) ⌝ }
+        ensures { λ r. ⌜ (r .refusal ≡ 0) × (borrowsOf r ≡ borrowsIn (refsOf refs) (id .0) (filterOf at) noBorrows (heldOf self)) ⌝ }
     {
         let n = self.len();
         let mut found = BorrowedBy {
@@ -107,7 +107,7 @@ impl GraphEdges {
         };
         let mut i: usize = 0;
         while i < n {
-            let x = self.list[i];
+            let x = self.edges[i];
             if id.0 == x.parent.0 {
                 found = found.add(x, refs, at);
                 i += 1;
@@ -118,15 +118,15 @@ impl GraphEdges {
         found
     }
 
-    pub(crate) fn select(self, ends: Ends) -> Self
-        ensures { λ r. ⌜ edgesOf r ≡ keep (λ x. M.picks ends (x .parent) (x .child)) (edgesOf self) ⌝ }
+    pub(crate) fn select(self, ends: Ends) -> GraphEdges
+        ensures { λ r. ⌜ edgesOf r ≡ keep (λ x. M.picks ends (x .parent) (x .child)) (heldOf self) ⌝ }
     {
         let n = self.len();
-        let mut out = self.list;
+        let mut out = self.edges;
         let mut j: usize = 0;
         let mut i: usize = 0;
         while i < n {
-            let x = self.list[i];
+            let x = self.edges[i];
             if ends.picks(x.parent, x.child) {
                 out[j] = x;
                 j += 1;
@@ -135,7 +135,7 @@ impl GraphEdges {
                 i += 1;
             }
         }
-        Self {
+        GraphEdges {
             list: out,
             len: j as u8,
         }
@@ -150,8 +150,7 @@ impl BorrowGraph {
         let w = self.well_formed();
         let h = rs.holds(id);
         if w & h {
-            let es = self.edges;
-            return es.borrows(rs, id, at);
+            return self.borrows(rs, id, at);
         }
         BorrowedBy {
             refusal: 9,
@@ -163,22 +162,22 @@ impl BorrowGraph {
 
     // The edges at a name.
     pub(crate) fn edges_at(self, id: RefID, ends: Ends) -> Edges
-        ensures { λ r. ⌜ listOf r ≡ known (graphOf self) (id .0) (keep (λ x. M.picks ends (x .parent) (x .child)) (edgesOf (self .edges))) ⌝ }
+        ensures { λ r. ⌜ listOf r ≡ known (graphOf self) (id .0) (keep (λ x. M.picks ends (x .parent) (x .child)) (heldOf self)) ⌝ }
     {
         let rs = self.refs;
-        let es = self.edges;
         let w = self.well_formed();
         let h = rs.holds(id);
         if w & h {
-            let fs = es.select(ends);
+            let fs = self.select(ends);
             return Edges {
                 refusal: 0,
                 edges: fs,
             };
         }
+        let list = self.edges;
         Edges {
             refusal: 9,
-            edges: es,
+            edges: GraphEdges { list: list, len: 0 },
         }
     }
 
@@ -200,10 +199,9 @@ impl BorrowGraph {
     pub fn between_edges(self, parent: RefID, child: RefID) -> Edges
         ensures { λ r. ⌜ listOf r ≡ betweenEdges (graphOf self) (parent .0) (child .0) ⌝ }
     {
-        let es = self.edges;
         let w = self.well_formed();
         let ends = Ends::Between(parent, child);
-        let fs = es.select(ends);
+        let fs = self.select(ends);
         let none = fs.len() == 0;
         if w & !none {
             return Edges {
@@ -211,9 +209,10 @@ impl BorrowGraph {
                 edges: fs,
             };
         }
+        let list = self.edges;
         Edges {
             refusal: 9,
-            edges: es,
+            edges: GraphEdges { list: list, len: 0 },
         }
     }
 }

@@ -97,6 +97,39 @@ module _ {A : Type 0} where
   empty-length [] n e = eq-eqb n 0 e
   empty-length (x ∷ xs) n e = ne-eqb n 0 (λ z. omega arith)
 
+-- ---- an array changed in place
+
+module _ {A : Type 0} where
+  -- the element below k + 1 moves up to it: k + 1 was free, and then k is
+  pub shift-on : (l : List A) (d : A) (k m : ℕ) → suc k < length l → suc k < m
+      → take k (set l (suc k) (getD l k d)) ++ drop (suc k) (take m (set l (suc k) (getD l k d))) ≡ take (suc k) l ++ drop (suc (suc k)) (take m l)
+  shift-on [] d k m h n = absurd (not-suc-le-zero h)
+  shift-on (x ∷ []) d k m h n = absurd (not-suc-le-zero (le-of-suc-le-suc h))
+  shift-on (x ∷ y ∷ l) d k zero h n = absurd (not-suc-le-zero n)
+  shift-on (x ∷ y ∷ l) d k (suc zero) h n = absurd (not-suc-le-zero (le-of-suc-le-suc n))
+  shift-on (x ∷ y ∷ l) d zero (suc (suc m)) h n = refl
+  shift-on (x ∷ y ∷ l) d (suc k) (suc (suc m)) h n = ap (λ (r : List A). x ∷ r) (shift-on (y ∷ l) d k (suc m) (le-of-suc-le-suc h) (le-of-suc-le-suc n))
+
+  -- the free place k is filled
+  pub fill-in : {B : Type 0} (f : A → B) (l : List A) (k m : ℕ) (a : A) → k < length l → k < m
+      → map f (take m (set l k a)) ≡ take k (map f (take k l ++ drop (suc k) (take m l))) ++ (f a ∷ drop k (map f (take k l ++ drop (suc k) (take m l))))
+  fill-in f [] k m a h n = absurd (not-suc-le-zero h)
+  fill-in f (x ∷ l) k zero a h n = absurd (not-suc-le-zero n)
+  fill-in f (x ∷ l) zero (suc m) a h n = refl
+  fill-in {B} f (x ∷ l) (suc k) (suc m) a h n = ap (λ (r : List B). f x ∷ r) (fill-in f l k m a (le-of-suc-le-suc h) (le-of-suc-le-suc n))
+
+  -- what is written at j is not seen from k on
+  pub drop-set : {B : Type 0} (f : A → B) (l : List A) (j k m : ℕ) (a : A) → j < k → drop k (map f (take m (set l j a))) ≡ drop k (map f (take m l))
+  drop-set f l j zero m a h = absurd (not-suc-le-zero h)
+  drop-set f [] j (suc k) m a h = refl
+  drop-set f (x ∷ l) j (suc k) zero a h = ap (λ (r : List A). drop (suc k) (map f r)) (none (set (x ∷ l) j a))
+    where
+      none : (r : List A) → take zero r ≡ []
+      none [] = refl
+      none (y ∷ r) = refl
+  drop-set f (x ∷ l) zero (suc k) (suc m) a h = refl
+  drop-set f (x ∷ l) (suc j) (suc k) (suc m) a h = drop-set f l j k m a (le-of-suc-le-suc h)
+
 -- what owning an array of structs tells of its list
 pub length-of-map : (A B : Type 0) (f : A → B) (l : List A) (n : ℕ) → length (map f l) ≡ n → length l ≡ n
 length-of-map A B f l n e = sym (length-map l f) ∙ e

@@ -240,7 +240,7 @@ module _ (St : Type 0) (join : St → St → Ans St) (changed : St → St → Bo
   unfolding step
   step-still r e = still-at r (r .next) e
 
-  steps-still : (f : ℕ) (r : Run St) → hasEnded St join changed exec blocks r ≡ true → steps St join changed exec blocks f r ≡ r
+  pub steps-still : (f : ℕ) (r : Run St) → hasEnded St join changed exec blocks r ≡ true → steps St join changed exec blocks f r ≡ r
   unfolding steps
   steps-still zero r e = refl
   steps-still (suc f) r e = ap (steps St join changed exec blocks f) (step-still r e) ∙ steps-still f r e

@@ -6,10 +6,10 @@ use mathlib.Core.Bool.{Bool, true, false, not, _&&_, cond, false≢true}
 use mathlib.Core.List.{List, [], _∷_, _++_, map}
 use lib.ListN.{length, drop}
 use lib.Dec.{leb, eqb}
-use Rattle.meaning.specs.Base.{Ans, ok, refuse, andThen, guard, leaves, all, keep, leb-le, le-leb, and-l, and-r, and-i, ok-inj, andThen-ok, not-true, all-imp, all-keep, all-and, decide}
-use Rattle.meaning.specs.Sets.{Edge, EdgeSet, blur, insert, has, put, isBlur, short, ordered, setOk}
+use Rattle.meaning.specs.Base.{Ans, ok, refuse, andThen, guard, leaves, any, all, keep, none-kept, none-lost, leb-le, le-leb, and-l, and-r, and-i, ok-inj, andThen-ok, not-true, all-imp, all-keep, all-and, decide}
+use Rattle.meaning.specs.Sets.{Edge, EdgeSet, emptySet, blur, insert, has, put, isBlur, short, ordered, setOk}
 use Rattle.meaning.specs.SetLaws.{Inserted, inserted, before, justNow, present, added, length-put, setOk-blurred, setOk-unblurred}
-use Rattle.meaning.specs.Graph.{Name, GEdge, Graph, holds, pairOk, onPairs, setAt, setTo, between, addEdge, addAll, limit, wellFormed}
+use Rattle.meaning.specs.Graph.{Name, GEdge, Graph, eqPair, union, one, holds, pairOk, onPairs, setAt, setTo, between, addEdge, addAll, limit, wellFormed}
 use Rattle.meaning.specs.GraphLaws.{Inv, wf→inv, inv→wf, room}
 use Rattle.meaning.specs.Borrow.{moves, shift, borrowStrong}
 use Rattle.meaning.specs.BorrowLaws.{keep-inv}
@@ -174,3 +174,34 @@ module _ (g : Graph) (p : ℕ) (path : List ℕ) (c : ℕ) where
         flat : (a : Ans Graph) → andThen (andThen a (λ k. ok k)) limit ≡ andThen a limit
         flat (ok k) = refl
         flat (refuse n) = refl
+
+-- ---- a pair's first edge, and a strong borrow that moves nothing
+
+empty-set : (p c : ℕ) (es : List GEdge) → length (edgesAt p c es) ≡ 0 → setAt p c es ≡ emptySet
+unfolding setAt
+empty-set p c [] z = refl
+empty-set p c (x ∷ xs) z = go (eqPair p c (x .parent) (x .child)) z (empty-set p c xs)
+  where
+    go : (b : Bool) → length (cond b (union (one x) (setAt p c xs)) (setAt p c xs) .edges) ≡ 0 → (length (edgesAt p c xs) ≡ 0 → setAt p c xs ≡ emptySet) → cond b (union (one x) (setAt p c xs)) (setAt p c xs) ≡ emptySet
+    go true q k = absurd (omega arith)
+    go false q k = k q
+
+pub insert-first : (p c : ℕ) (es : List GEdge) (e : Edge) → length (edgesAt p c es) ≡ 0 → length (e .path) ≤ 8 → insert (setAt p c es) e ≡ ok (record { edges = e ∷ []; blurred = false })
+unfolding insert has put
+insert-first p c es e z h = ap (λ (s : EdgeSet). insert s e) (empty-set p c es z) ∙ ap (λ (b : Bool). cond b made (refuse 22)) (le-leb h)
+  where
+    made : Ans EdgeSet
+    made = ok (record { edges = e ∷ []; blurred = false })
+
+pub strong-still : (g : Graph) (p : ℕ) (path : List ℕ) (c : ℕ) → wellFormed g ≡ true → pairOk (g .names) p c ≡ true → any (moves p path) (g .edges) ≡ false
+    → borrowStrong g p path c ≡ andThen (addEdge g (between p (record { strong = true; path = path }) c)) limit
+unfolding addAll
+strong-still g p path c w k e =
+    let n : keep (moves p path) (g .edges) ≡ [] = none-kept (moves p path) (g .edges) e in
+    let s : keep (λ x. not (moves p path x)) (g .edges) ≡ g .edges = none-lost (moves p path) (g .edges) e in
+    let t = and-i w (and-i k (ap (all (λ (x : GEdge). not (eqb c (x .child)))) n)) in
+    strong-last g p path c t g (record {
+      done = λ i. addAll (map (shift c path) (n i)) (record { names = g .names; edges = s i });
+      formed = w;
+      names = refl;
+    })

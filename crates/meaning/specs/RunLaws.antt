@@ -3,7 +3,7 @@ use Prim.Native.Nat.{ℕ, zero, suc, _+_, _*_, _≤_, _<_}
 use native.Mathlib.Omega.{arith}
 use mathlib.Core.Path.{_≡_, refl, sym, ap, _∙_, subst}
 use mathlib.Core.Logic.{_⊎_, inl, inr, _≢_}
-use mathlib.Core.Bool.{Bool, true, false, not, _&&_, _||_, cond}
+use mathlib.Core.Bool.{Bool, true, false, not, _&&_, _||_, cond, true≢false}
 use mathlib.Core.Option.{Option, none, some}
 use mathlib.Core.List.{List, [], _∷_, map}
 use lib.ListN.{length, getD, set}
@@ -77,6 +77,23 @@ module _ (q : Routine) (p : promised q ≡ true) where
   same-run f =
       Laws.run-same State join changed (exec q) blocks (Strong l) (rank l) (11 * l * l + l) (rank-le l)
       (join-strong l) (λ s o t e fs fo. change-lt l s o t (join-law s o t e) (fs .form) (fo .form)) (exec-keeps q p) f (firstState l ts) (first-strong l ts small)
+
+  steps-add : (k f : ℕ) (r : Run State) → steps State join changed (exec q) blocks (k + f) r ≡ steps State join changed (exec q) blocks f (steps State join changed (exec q) blocks k r)
+  unfolding steps
+  steps-add zero f r = let z : 0 + f ≡ f = omega arith in ap (λ (n : ℕ). steps State join changed (exec q) blocks n r) z
+  steps-add (suc k) f r = let z : suc k + f ≡ suc (k + f) = omega arith in ap (λ (n : ℕ). steps State join changed (exec q) blocks n r) z ∙ steps-add k f (step State join changed (exec q) blocks r)
+
+  -- a run that has ended is the whole run, and one that has not has made fewer steps than the bound
+  pub settled : (k : ℕ) → hasEnded State join changed (exec q) blocks (theRun k) ≡ true → theRun k ≡ theRun mostVisits
+  unfolding run
+  settled k e =
+      let r : Run State = record { slots = startSlots State join changed (exec q) blocks blocks (firstState l ts); next = at 0; trail = [] } in
+      sym (Laws.steps-still State join changed (exec q) blocks (Strong l) (rank l) (11 * l * l + l) (rank-le l) (join-strong l) (λ s o t e fs fo. change-lt l s o t (join-law s o t e) (fs .form) (fo .form)) (exec-keeps q p) mostVisits (theRun k) e)
+      ∙ sym (steps-add k mostVisits r)
+      ∙ same-run (k + mostVisits) (omega arith)
+
+  pub unsettled : (k : ℕ) → hasEnded State join changed (exec q) blocks (theRun k) ≡ false → k < mostVisits
+  unsettled k e = decide (leb mostVisits k) (λ h. absurd (true≢false (sym (ends-itself k (leb-le h)) ∙ e))) (λ h. leb-gt h)
 
   -- ---- the refusals of a run
 

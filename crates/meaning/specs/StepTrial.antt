@@ -1,50 +1,20 @@
--- Whole blocks run: the marked listing, and the exchange of two reference parameters.
-use Prim.Native.Nat.{ℕ, zero, suc, _+_, _*_, _-_}
+-- Whole routines run that document 01 does not mark.
+use Prim.Native.Nat.{ℕ, _-_}
 use mathlib.Core.Path.{_≡_, refl}
-use mathlib.Core.Bool.{Bool, true, false, not, _&&_}
-use mathlib.Core.Option.{Option, none, some}
-use mathlib.Core.List.{List, [], _∷_, map}
-use lib.ListN.{length, getD}
+use mathlib.Core.Bool.{Bool, true, false, _&&_}
+use mathlib.Core.List.{List, [], _∷_}
+use lib.ListN.{length}
 use lib.Dec.{eqb}
-use Rattle.meaning.specs.Base.{Ans, ok, refuse, all}
-use Rattle.meaning.specs.Sets.{Edge, EdgeSet, insert, covers, eqEdge, eqPath, prefix, has, put, ltEdge, ltPath, setOk, ordered, short, isBlur}
-use Rattle.meaning.specs.Graph.{Graph, Name, GEdge, splice, setAt, release, wellFormed, holds, spliced, without, addAll, addEdge, setTo, limit, ascending, inOrder, between, unmatched, sameNames, joinGraphs}
+use Rattle.meaning.specs.Base.{all}
+use Rattle.meaning.specs.Sets.{insert, eqEdge, eqPath, prefix, has, put, ltEdge, ltPath, setOk, ordered, short, isBlur}
+use Rattle.meaning.specs.Graph.{splice, setAt, release, wellFormed, holds, spliced, without, addAll, addEdge, setTo, limit, ascending, inOrder}
 use Rattle.meaning.specs.Borrow.{newName, borrowWeak, borrowStrong, placeName}
 use Rattle.meaning.specs.Rename.{canonical, crosses, renamed, renameNames, renameEdges, placeEdge, ownNames, newNameOf, indexOf}
-use Rattle.meaning.specs.State.{Local, absent, value, ref, State, join, joinLocal, joinLocals, changed, eqLocals, eqSets, eqSet, eqEdges}
-use Rattle.meaning.specs.Loop.{Result, Block, Run, run, visits, verdict, lowest, Verdict, violation, accept, refusal, spread, step as loopStep, steps, startSlots, position}
-use Rattle.meaning.specs.Marked.{name}
+use Rattle.meaning.specs.State.{State, join, changed}
+use Rattle.meaning.specs.Loop.{Block, run, verdict, lowest, Verdict, violation, accept, refusal, spread, step as loopStep, steps, startSlots, position}
 use Rattle.meaning.specs.Running.{Token, ofValue, ofRef, isMutable, fullyBorrowed, borrowed, mutablyBorrowed, newRef, addCopy, addBorrow, addFieldBorrow, addLocalBorrow, addResourceBorrow, releaseName, valueFor, releaseValue, copyLoc, moveLoc, stLoc, freezeRef, comparison, readRef, writeRef, borrowLoc, borrowField, borrowGlobal, moveFrom, vectorOp, vectorElementBorrow, placeNumber, ascend, releaseAll, borrowFrom, handOver, notAcquired, returnValues, call, ret}
 use Rattle.meaning.specs.Steps.{Instr, Pop, CopyLoc, MoveLoc, StLoc, FreezeRef, Compare, ReadRef, WriteRef, BorrowLoc, BorrowField, BorrowGlobal, MoveFrom, Ret, Values, Call, MoveTo, VectorOp, BorrowElement, popValues, popMany, push, pushAll, pushNew, step}
 use Rattle.meaning.specs.Blocks.{Routine, instrsOf, runFrom, runBlock, exec, firstState, firstLocals, firstNames}
-
--- load, store 0, mutable borrow of local 0, move 0
-abbrev listing : Routine
-listing = record {
-  params = [];
-  locals = 1;
-  returns = 0;
-  blocks = record { entry = 0; exit = 3; successors = [] } ∷ [];
-  code = Values 0 1 ofValue ∷ StLoc 0 ∷ BorrowLoc 0 true ∷ MoveLoc 0 ∷ [];
-}
-
-pub marked-listing : verdict (listing .blocks) (run State join changed (exec listing) (listing .blocks) 10 (firstState (listing .locals) (listing .params))) ≡ violation 102 3
-unfolding firstState firstLocals firstNames run steps loopStep spread startSlots position verdict lowest exec runBlock runFrom instrsOf step popValues popMany push pushAll pushNew valueFor newRef stLoc borrowLoc moveLoc addLocalBorrow borrowed mutablyBorrowed isMutable newName borrowStrong placeName wellFormed holds ascending setAt setTo setOk ordered short inOrder isBlur addAll addEdge insert limit has put prefix eqEdge eqPath ltEdge ltPath
-marked-listing = refl
-
--- move 0, move 1, store 0, store 1: both names held, a successor
-abbrev exchange : Routine
-exchange = record {
-  params = ofRef true ∷ ofRef true ∷ [];
-  locals = 2;
-  returns = 0;
-  blocks = record { entry = 0; exit = 3; successors = 4 ∷ [] } ∷ record { entry = 4; exit = 4; successors = [] } ∷ [];
-  code = MoveLoc 0 ∷ MoveLoc 1 ∷ StLoc 0 ∷ StLoc 1 ∷ Ret ∷ [];
-}
-
-pub marked-exchange : verdict (exchange .blocks) (run State join changed (exec exchange) (exchange .blocks) 10 (firstState (exchange .locals) (exchange .params))) ≡ refusal 16 3
-unfolding firstState firstLocals firstNames run steps loopStep spread startSlots position verdict lowest exec runBlock runFrom instrsOf step popValues popMany push pushAll pushNew valueFor newRef stLoc borrowLoc moveLoc addLocalBorrow borrowed mutablyBorrowed isMutable newName borrowStrong placeName wellFormed holds ascending setAt setTo setOk ordered short inOrder isBlur addAll addEdge insert limit has put prefix eqEdge eqPath ltEdge ltPath canonical crosses
-marked-exchange = refl
 
 -- move 0 to local 1, local 1 absent before; then a call that takes it and returns a reference; then return it: accepted
 abbrev moved : Routine
@@ -121,7 +91,11 @@ cases =
     ∷ whole 2 (mut ∷ []) 0 (CopyLoc 0 ∷ StLoc 1 ∷ MoveLoc 0 ∷ load ∷ BorrowElement false ∷ Pop ∷ []) accept
     ∷ whole 2 (mut ∷ []) 0 (CopyLoc 0 ∷ StLoc 1 ∷ MoveLoc 0 ∷ Call 1 [] [] ∷ []) (violation 112 3)
     ∷ whole 2 (mut ∷ imm ∷ []) 2 (MoveLoc 0 ∷ MoveLoc 1 ∷ Call 2 [] (mut ∷ imm ∷ []) ∷ Ret ∷ []) accept
+    ∷ whole 1 (ofValue ∷ []) 0 (BorrowLoc 0 true ∷ Call 1 [] [] ∷ MoveLoc 0 ∷ Pop ∷ []) accept
+    ∷ whole 1 (ofValue ∷ []) 0 (BorrowLoc 0 true ∷ Call 1 [] (mut ∷ []) ∷ MoveLoc 0 ∷ []) (violation 102 2)
+    ∷ whole 2 (mut ∷ []) 0 (load ∷ BorrowGlobal 3 false ∷ CopyLoc 0 ∷ StLoc 1 ∷ MoveLoc 0 ∷ Call 1 (3 ∷ []) [] ∷ []) (violation 109 5)
     ∷ whole 1 (ofValue ∷ []) 1 (BorrowLoc 0 false ∷ Ret ∷ []) (violation 113 1)
+    ∷ whole 2 (ofValue ∷ []) 0 (BorrowLoc 0 false ∷ StLoc 1 ∷ Ret ∷ []) accept
     ∷ whole 1 (mut ∷ []) 2 (CopyLoc 0 ∷ MoveLoc 0 ∷ Ret ∷ []) (violation 114 2)
     ∷ whole 1 (mut ∷ []) 1 (MoveLoc 0 ∷ BorrowField 1 true ∷ Ret ∷ []) accept
     ∷ whole 0 [] 0 (Pop ∷ []) (refusal 10 0)

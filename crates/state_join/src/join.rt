@@ -6,6 +6,7 @@ use crate::locals::value_of;
 use abstract_state::state::AbstractState;
 use abstract_state::state::AbstractValue;
 use abstract_state::state::Local;
+use borrow_calls::release::release;
 use borrow_graph::graph::BorrowGraph;
 use references::references::RefID;
 ghost use mathlib.Core.Path.{_≡_};
@@ -139,7 +140,7 @@ impl Parts {
         let theirs = self.theirs;
         match action {
             Action::ReleaseOurs(id) => {
-                let a = ours.release(id);
+                let a = release(ours, id);
                 let g = a.graph;
                 Self {
                     refusal: a.refusal,
@@ -149,7 +150,7 @@ impl Parts {
                 }
             }
             Action::ReleaseTheirs(id) => {
-                let a = theirs.release(id);
+                let a = release(theirs, id);
                 let g = a.graph;
                 Self {
                     refusal: a.refusal,
@@ -219,7 +220,7 @@ fn join_(s: AbstractState, o: AbstractState) -> Answer
     }
     let ours = p.ours;
     let theirs = p.theirs;
-    let a = ours.join(theirs);
+    let a = borrow_calls::join::join(ours, theirs);
     if a.refusal != 0 {
         return Answer {
             refusal: a.refusal,

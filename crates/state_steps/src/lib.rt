@@ -84,13 +84,13 @@ pub fn move_loc(state: AbstractState, local: LocalIndex) -> AbstractState
         match v {
             AbstractValue::Reference(id) => {
                 let s = state.set_local(local, absent);
-                return s.give(v);
+                return s.give(AbstractValue::Reference(id));
             }
             AbstractValue::NonReference => {
                 let b = state.is_local_borrowed(local);
                 let s = state.fail(b, 102);
                 let t = s.set_local(local, absent);
-                return t.give(v);
+                return t.give(AbstractValue::NonReference);
             }
         }
     }
@@ -114,7 +114,7 @@ pub fn st_loc(state: AbstractState, local: LocalIndex, new: AbstractValue) -> Ab
         match v {
             AbstractValue::Reference(id) => return s.release(id),
             AbstractValue::NonReference => {
-                let b = s.is_local_borrowed(local);
+                let b = state.is_local_borrowed(local);
                 return s.fail(b, 103);
             }
         }

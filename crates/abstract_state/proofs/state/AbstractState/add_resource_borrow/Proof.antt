@@ -1,28 +1,26 @@
+use mathlib.Core.Path.{refl}
+use Rattle.meaning.specs.Running.{addResourceBorrow}
+use Rattle.borrow_graph.specs.Models.{answerOf}
+use Rattle.abstract_state.specs.Models.{runningOf, outcomeOf}
+use Rattle.abstract_state.specs.ModelLaws.{called}
 use borrow.Author.Needs.{needs}
 use Rattle.abstract_state.proofs.state.AbstractState.add_resource_borrow.Statement.{
   statement,
 }
 use Rattle.abstract_state.proofs.state.AbstractState.add_resource_borrow.Tie as tie
-use Rattle.abstract_state.proofs.state.AbstractState.add_resource_borrow.Reads as reads
-use Rattle.abstract_state.proofs.state.AbstractState.add_resource_borrow.Lts as lts
-use Rattle.abstract_state.proofs.state.AbstractState.on_graph.Reads as on-graph-reads
-use Rattle.borrow_graph.proofs.graph.BorrowGraph.add_weak_field_borrow.Reads as add-weak-field-borrow-reads
 
--- src/core.rt:190:26
 cast-t7 : tie.Need-cast-t7
 cast-t7 c = search needs
 
--- src/core.rt:191:13
 add-weak-field-borrow-requires : tie.Need-add-weak-field-borrow-requires
 add-weak-field-borrow-requires c κs = search needs
 
--- src/core.rt:192:9
 on-graph-requires : tie.Need-on-graph-requires
 on-graph-requires c κs = search needs
 
--- src/core.rt:186:5
 returns : tie.Need-returns
-returns c = ?
+unfolding addResourceBorrow
+returns c = called ((c .before .before .before .before .args) .self .violation) ((c .before .before .before .before .args) .self .refusal) (runningOf ((c .before .before .before .before .args) .self)) (outcomeOf ((c .on-graph) .result)) (answerOf ((c .before .add-weak-field-borrow) .result)) _ (addResourceBorrow ((c .before .before .before .before .args) .resource) ((c .before .before .before .before .args) .child .0)) refl ((c .on-graph) .ensures) ((c .before .add-weak-field-borrow) .ensures .0)
 
 pub add-resource-borrow-spec : {M : Type 1} → statement M
 add-resource-borrow-spec =

@@ -1,19 +1,19 @@
+use Rattle.meaning.specs.Lookups.{Borrows, borrowedBy}
+use Rattle.meaning.specs.Running.{fullyBorrowed, borrowed, mutablyBorrowed}
+use Rattle.borrow_graph.specs.Models.{graphOf, borrowsOf, filterOf}
+use Rattle.abstract_state.specs.ModelLaws.{told-map}
 use borrow.Author.Needs.{needs}
 use Rattle.abstract_state.proofs.state.AbstractState.has_consistent_borrows.Statement.{
   statement,
 }
 use Rattle.abstract_state.proofs.state.AbstractState.has_consistent_borrows.Tie as tie
-use Rattle.abstract_state.proofs.state.AbstractState.has_consistent_borrows.Reads as reads
-use Rattle.abstract_state.proofs.state.AbstractState.has_consistent_borrows.Lts as lts
-use Rattle.borrow_graph.proofs.graph.BorrowGraph.borrowed_by.Reads as borrowed-by-reads
 
--- src/predicates.rt:40:13
 borrowed-by-requires : tie.Need-borrowed-by-requires
 borrowed-by-requires c κs = search needs
 
--- src/predicates.rt:36:5
 returns : tie.Need-returns
-returns c = ?
+unfolding borrowedBy
+returns c = told-map {A = Borrows} (graphOf ((c .before .before .args) .self .«borrow_graph»)) ((c .before .before .args) .id .0) ((c .borrowed-by) .result .refusal) (borrowsOf ((c .borrowed-by) .result)) (record { full = fullyBorrowed (graphOf ((c .before .before .args) .self .«borrow_graph»)) ((c .before .before .args) .id .0); consistent = borrowed (graphOf ((c .before .before .args) .self .«borrow_graph»)) ((c .before .before .args) .id .0) (filterOf ((c .before .before .args) .at)); mutable = mutablyBorrowed (graphOf ((c .before .before .args) .self .«borrow_graph»)) ((c .before .before .args) .id .0) (filterOf ((c .before .before .args) .at)) }) (λ b. b .consistent) ((c .borrowed-by) .ensures)
 
 pub has-consistent-borrows-spec : {M : Type 1} → statement M
 has-consistent-borrows-spec = tie.close (tie.spec borrowed-by-requires returns)

@@ -3,22 +3,15 @@ use Rattle.abstract_state.proofs.state.AbstractState.is_global_mutably_
   statement,
 }
 use Rattle.abstract_state.proofs.state.AbstractState.is_global_mutably_borrowed.Tie as tie
-use Rattle.abstract_state.proofs.state.AbstractState.is_global_mutably_borrowed.Reads as reads
-use Rattle.abstract_state.proofs.state.AbstractState.is_global_mutably_borrowed.Lts as lts
-use Rattle.abstract_state.proofs.state.AbstractState.frame_root.Reads as frame-root-reads
-use Rattle.abstract_state.proofs.state.AbstractState.has_consistent_mutable_borrows.Reads as has-consistent-mutable-borrows-reads
 
--- src/predicates.rt:115:13
 frame-root-requires : tie.Need-frame-root-requires
 frame-root-requires c κs = search needs
 
--- src/predicates.rt:116:9
 has-consistent-mutable-borrows-requires : tie.Need-has-consistent-mutable-borrows-requires
 has-consistent-mutable-borrows-requires c κs = search needs
 
--- src/predicates.rt:112:5
 returns : tie.Need-returns
-returns c = ?
+returns c = rw ((c .before .frame-root) .ensures) at ((c .has-consistent-mutable-borrows) .ensures)
 
 pub is-global-mutably-borrowed-spec : {M : Type 1} → statement M
 is-global-mutably-borrowed-spec =

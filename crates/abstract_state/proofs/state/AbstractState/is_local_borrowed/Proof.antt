@@ -3,26 +3,18 @@ use Rattle.abstract_state.proofs.state.AbstractState.is_local_borrowed.
   statement,
 }
 use Rattle.abstract_state.proofs.state.AbstractState.is_local_borrowed.Tie as tie
-use Rattle.abstract_state.proofs.state.AbstractState.is_local_borrowed.Reads as reads
-use Rattle.abstract_state.proofs.state.AbstractState.is_local_borrowed.Lts as lts
-use Rattle.abstract_state.proofs.state.AbstractState.frame_root.Reads as frame-root-reads
-use Rattle.abstract_state.proofs.state.AbstractState.has_consistent_borrows.Reads as has-consistent-borrows-reads
 
--- src/predicates.rt:94:13
 frame-root-requires : tie.Need-frame-root-requires
 frame-root-requires c κs = search needs
 
--- src/predicates.rt:95:72
 cast-t4 : tie.Need-cast-t4
 cast-t4 c = search needs
 
--- src/predicates.rt:95:9
 has-consistent-borrows-requires : tie.Need-has-consistent-borrows-requires
 has-consistent-borrows-requires c κs = search needs
 
--- src/predicates.rt:91:5
 returns : tie.Need-returns
-returns c = ?
+returns c = rw ((c .before .before .frame-root) .ensures) at ((c .has-consistent-borrows) .ensures)
 
 pub is-local-borrowed-spec : {M : Type 1} → statement M
 is-local-borrowed-spec =

@@ -1,17 +1,17 @@
+use mathlib.Core.Option.{none}
+use mathlib.Core.Bool.{not}
+use Rattle.meaning.specs.Running.{borrowed}
+use Rattle.borrow_graph.specs.Models.{graphOf}
+use Rattle.abstract_state.specs.ModelLaws.{told-map}
 use borrow.Author.Needs.{needs}
 use Rattle.abstract_state.proofs.state.AbstractState.is_writable.Statement.{statement}
 use Rattle.abstract_state.proofs.state.AbstractState.is_writable.Tie as tie
-use Rattle.abstract_state.proofs.state.AbstractState.is_writable.Reads as reads
-use Rattle.abstract_state.proofs.state.AbstractState.is_writable.Lts as lts
-use Rattle.abstract_state.proofs.state.AbstractState.has_consistent_borrows.Reads as has-consistent-borrows-reads
 
--- src/predicates.rt:62:13
 has-consistent-borrows-requires : tie.Need-has-consistent-borrows-requires
 has-consistent-borrows-requires c κs = search needs
 
--- src/predicates.rt:59:5
 returns : tie.Need-returns
-returns c = ?
+returns c = told-map (graphOf ((c .before .before .args) .self .«borrow_graph»)) ((c .before .before .args) .id .0) ((c .before .has-consistent-borrows) .result .refusal) ((c .before .has-consistent-borrows) .result .yes) (borrowed (graphOf ((c .before .before .args) .self .«borrow_graph»)) ((c .before .before .args) .id .0) none) not ((c .before .has-consistent-borrows) .ensures)
 
 pub is-writable-spec : {M : Type 1} → statement M
 is-writable-spec = tie.close (tie.spec has-consistent-borrows-requires returns)

@@ -6,7 +6,7 @@ use Rattle.meaning.specs.Base.{Ans, ok, keep, empty}
 use Rattle.meaning.specs.ArrayLaws.{empty-length}
 use Rattle.meaning.specs.Graph.{GEdge, wellFormed, eqPair}
 use Rattle.meaning.specs.Lookups.{betweenEdges}
-use Rattle.borrow_graph.specs.Models.{edgesOf, graphOf}
+use Rattle.borrow_graph.specs.Models.{edgesOf, heldOf, graphOf}
 use lib.Dec.{eqb}
 use native.Mathlib.Omega.{arith}
 use borrow.Author.Needs.{needs}
@@ -14,8 +14,8 @@ use Rattle.borrow_graph.proofs.graph.BorrowGraph.between_edges.Statemen
 use Rattle.borrow_graph.proofs.graph.BorrowGraph.between_edges.Tie as tie
 
 found : (c : tie.After-len) →
-    let a = c .before .before .before .before .args in
-    (c .before .before .well-formed .result && not (eqb (c .len .result) 0)) ≡ (wellFormed (graphOf (a .self)) && not (empty (keep (λ x. eqPair (a .parent .0) (a .child .0) (x .parent) (x .child)) (edgesOf (a .self .edges)))))
+    let a = c .before .before .before .args in
+    (c .before .before .well-formed .result && not (eqb (c .len .result) 0)) ≡ (wellFormed (graphOf (a .self)) && not (empty (keep (λ x. eqPair (a .parent .0) (a .child .0) (x .parent) (x .child)) (heldOf (a .self)))))
 found c = λ i. c .before .before .well-formed .ensures i && not ((empty-length (edgesOf (c .before .select .result)) (c .len .result) (c .len .ensures .0) ∙ ap (λ (xs : List GEdge). empty xs) (c .before .select .ensures)) i)
 
 well-formed-requires : tie.Need-well-formed-requires
@@ -33,7 +33,7 @@ returns c = rw (sym (found (c .before)) ∙ (c .if1) .taken) (ap {B = Ans (List 
 
 returns-2 : tie.Need-returns-2
 unfolding betweenEdges
-returns-2 c = rw (sym (found (c .before)) ∙ (c .if1) .left)
+returns-2 c = rw (sym (found (c .before .before)) ∙ (c .before .if1) .left)
 
 pub between-edges-spec : {M : Type 1} → statement M
 between-edges-spec =

@@ -23,7 +23,7 @@ borrows-requires c κs = search needs
 returns : tie.Need-returns
 unfolding borrowedBy borrowsIn fullyBorrowed borrowed mutablyBorrowed isMutable
 returns c =
-    let h : (wellFormed (graphOf ((c .before .before .before .before .before .before .args) .self)) && held (graphOf ((c .before .before .before .before .before .before .args) .self)) ((c .before .before .before .before .before .before .args) .id .0)) ≡ true = (λ i. sym ((c .before .before .before .before .well-formed) .ensures) i && sym ((c .before .before .before .holds) .ensures) i) ∙ (c .before .before .if1) .taken in
+    let h : (wellFormed (graphOf ((c .before .before .before .before .before .args) .self)) && held (graphOf ((c .before .before .before .before .before .args) .self)) ((c .before .before .before .before .before .args) .id .0)) ≡ true = (λ i. sym ((c .before .before .before .well-formed) .ensures) i && sym ((c .before .before .holds) .ensures) i) ∙ (c .before .if1) .taken in
     rw (h, (c .borrows) .ensures .0) (ap {B = Ans Borrows} ok ((c .borrows) .ensures .1))
 
 returns-2 : tie.Need-returns-2

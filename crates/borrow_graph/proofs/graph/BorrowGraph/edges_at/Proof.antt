@@ -20,12 +20,12 @@ select-requires c κs = search needs
 
 returns : tie.Need-returns
 returns c =
-    let h : (wellFormed (graphOf ((c .before .before .before .before .before .before .args) .self)) && held (graphOf ((c .before .before .before .before .before .before .args) .self)) ((c .before .before .before .before .before .before .args) .id .0)) ≡ true = (λ i. sym ((c .before .before .before .well-formed) .ensures) i && sym ((c .before .before .holds) .ensures) i) ∙ (c .before .if1) .taken in
+    let h : (wellFormed (graphOf ((c .before .before .before .before .before .args) .self)) && held (graphOf ((c .before .before .before .before .before .args) .self)) ((c .before .before .before .before .before .args) .id .0)) ≡ true = (λ i. sym ((c .before .before .before .well-formed) .ensures) i && sym ((c .before .before .holds) .ensures) i) ∙ (c .before .if1) .taken in
     rw h (ap {B = Ans (List GEdge)} ok ((c .select) .ensures))
 
 returns-2 : tie.Need-returns-2
 returns-2 c =
-    let h : (wellFormed (graphOf ((c .before .before .before .before .before .args) .self)) && held (graphOf ((c .before .before .before .before .before .args) .self)) ((c .before .before .before .before .before .args) .id .0)) ≡ false = (λ i. sym ((c .before .before .well-formed) .ensures) i && sym ((c .before .holds) .ensures) i) ∙ (c .if1) .left in
+    let h : (wellFormed (graphOf ((c .before .before .before .before .before .args) .self)) && held (graphOf ((c .before .before .before .before .before .args) .self)) ((c .before .before .before .before .before .args) .id .0)) ≡ false = (λ i. sym ((c .before .before .before .well-formed) .ensures) i && sym ((c .before .before .holds) .ensures) i) ∙ (c .before .if1) .left in
     rw h
 
 pub edges-at-spec : {M : Type 1} → statement M

@@ -28,7 +28,7 @@ cover-requires c κs = search needs
 
 returns : tie.Need-returns
 unfolding covering
-returns c = rw (sym (asked (c .before .before .before .before)) ∙ (c .before .before .before .if1) .taken) (ap {B = Ans Bool} ok ((c .cover) .ensures ∙ sym (unmatched-none (graphOf ((c .before .before .before .before .before .before .before .before .before .args) .self)) (graphOf ((c .before .before .before .before .before .before .before .before .before .args) .other)))))
+returns c = rw (sym (asked (c .before .before)) ∙ (c .before .if1) .taken) (ap {B = Ans Bool} ok ((c .cover) .ensures ∙ sym (unmatched-none (graphOf ((c .before .before .before .before .before .before .before .args) .self)) (graphOf ((c .before .before .before .before .before .before .before .args) .other)))))
 
 returns-2 : tie.Need-returns-2
 unfolding covering

@@ -38,10 +38,10 @@ put-at-requires c κs = omega (arith, (c .place) .ensures, place-le ((c .before 
 
 returns-3 : tie.Need-returns-3
 returns-3 c =
-    let a = (c .before .before .before .before .before .before .before .before .before .before .args) in
+    let a = (c .before .before .before .before .before .before .before .before .before .args) in
     let n = refsOf (a .self .refs) in
-    let z = (c .before .put-at) .ensures ∙ ap (λ (j : ℕ). take j n ++ (record { id = a .id .0; mutable = a .mutable } ∷ drop j n)) ((c .before .before .place) .ensures) in
-    answered (graphOf (a .self)) _ _ (sym (new-ok (graphOf (a .self)) (a .id .0) (a .mutable) (sym ((c .before .before .before .before .before .before .before .before .before .well-formed) .ensures) ∙ (c .before .before .before .before .before .before .before .before .if1) .taken) (sym ((c .before .before .before .before .before .before .holds) .ensures) ∙ (c .before .before .before .before .before .if2) .left) (omega arith) (refsOf ((c .before .put-at) .result)) z))
+    let z = (c .put-at) .ensures ∙ ap (λ (j : ℕ). take j n ++ (record { id = a .id .0; mutable = a .mutable } ∷ drop j n)) ((c .before .place) .ensures) in
+    answered (graphOf (a .self)) _ _ (sym (new-ok (graphOf (a .self)) (a .id .0) (a .mutable) (sym ((c .before .before .before .before .before .before .before .before .well-formed) .ensures) ∙ (c .before .before .before .before .before .before .before .if1) .taken) (sym ((c .before .before .before .before .before .holds) .ensures) ∙ (c .before .before .before .before .if2) .left) (omega arith) (refsOf ((c .put-at) .result)) z))
 
 returns-4 : tie.Need-returns-4
 returns-4 c =

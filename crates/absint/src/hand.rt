@@ -1,0 +1,97 @@
+// A block's end state goes to its successors.
+use crate::tally::Tally;
+use abstract_state::state::AbstractState;
+use file_format::CodeOffset;
+use kept_states::load;
+use kept_states::store;
+use listing::Block;
+use state_join::join::join;
+ghost use mathlib.Core.Path.{_≡_};
+ghost use Prim.Native.Nat.{ℕ, _≤_};
+ghost use mathlib.Core.List.{List};
+ghost use lib.ListN.{length};
+ghost use Rattle.meaning.specs.Area.{keptOf};
+ghost use Rattle.meaning.specs.Loop.{position, toNext};
+ghost use Rattle.listing.specs.Models.{blockOf, blocksIn};
+ghost use Rattle.abstract_state.specs.Models.{stateOf};
+ghost use Rattle.absint.specs.Models.{Reads, HandedOn, SpreadOut};
+
+// Where the block with this entry is listed; n, if there is none.
+fn position_of(blocks: [Block; 16], n: usize, e: CodeOffset) -> usize
+    requires { ⌜ n ≤ 16 ⌝ }
+    ensures { λ r. ⌜ r ≡ position (blocksIn blocks n) (e .0) ⌝ }
+{
+    let mut i: usize = 0;
+    while i < n {
+        let b = blocks[i];
+        if e.0 == b.entry.0 {
+            return i;
+        }
+        i += 1;
+    }
+    i
+}
+
+// The end state s of block b, handed to the successor with entry e.
+fn hand(
+    area: &mut [u32],
+    blocks: [Block; 16],
+    n: usize,
+    locals: u8,
+    b: Block,
+    e: CodeOffset,
+    s: AbstractState,
+    t: Tally,
+) -> Tally
+    requires { ⌜ (n ≤ 16) × (16384 ≤ length (now area)) × Reads locals s ⌝ }
+    ensures { λ r. ⌜ HandedOn (blocksIn blocks n) locals (blockOf b) (stateOf s) (e .0) (now (area .entry)) (now (area .exit)) t r ⌝ }
+{
+    if t.stopped {
+        return t;
+    }
+    let j = position_of(blocks, n, e);
+    if n <= j {
+        return t;
+    }
+    let k = load(area, j, locals);
+    if k.present {
+        let x = join(k.state, s);
+        if x.refusal != 0 {
+            return t.stop(x.refusal, b.exit);
+        }
+        if x.changed {
+            store(area, j, x.state);
+            let mut u = t.clear(j);
+            if e.0 <= b.entry.0 {
+                u.next = j;
+            }
+            return u;
+        }
+        return t;
+    }
+    store(area, j, s);
+    t.clear(j)
+}
+
+// To its successors as listed.
+pub(crate) fn spread(
+    area: &mut [u32],
+    blocks: [Block; 16],
+    n: usize,
+    locals: u8,
+    b: Block,
+    s: AbstractState,
+    t: Tally,
+) -> Tally
+    requires { ⌜ (n ≤ 16) × (16384 ≤ length (now area)) × Reads locals s ⌝ }
+    ensures { λ r. ⌜ SpreadOut (blocksIn blocks n) locals (blockOf b) (stateOf s) (now (area .entry)) (now (area .exit)) t r ⌝ }
+{
+    if b.count == 0 {
+        return t;
+    }
+    let u = hand(area, blocks, n, locals, b, b.first, s, t);
+    if b.count == 1 {
+        return u;
+    }
+    hand(area, blocks, n, locals, b, b.second, s, u)
+}

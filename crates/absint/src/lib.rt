@@ -1,0 +1,63 @@
+// The block loop (absint.rs) over the lent work area, and the check of a listing from its bytes to the verdict.
+mod hand;
+mod ruling;
+mod tally;
+mod visit;
+
+use crate::ruling::rule;
+use crate::tally::Tally;
+use crate::visit::visit_all;
+use file_format::CodeOffset;
+use kept_states::clear;
+use listing::read_listing;
+ghost use mathlib.Core.Path.{_≡_};
+ghost use lib.ListN.{length, drop};
+ghost use Rattle.meaning.specs.Area.{cleared};
+ghost use Rattle.meaning.specs.Verify as V;
+ghost use Rattle.absint.specs.Models.{verdictOf, Left};
+
+pub enum Ruling {
+    Accept,
+    // The code, and the offset of the instruction.
+    Violation(u8, CodeOffset),
+    // The number of document 01, and its place.
+    Refused(u8, u32),
+}
+
+pub struct Verdict {
+    pub ruling: Ruling,
+    pub visits: u32,
+}
+
+// The verdict, with the kept states as the loop leaves them still in the area.
+pub fn analyze(listing: &[u8], area: &mut [u32]) -> Verdict
+    ensures { λ r. ⌜ (verdictOf r ≡ V.verify (length (now (area .entry))) (now (listing .entry))) × Left (now (listing .entry)) (now (area .entry)) (now (area .exit)) ⌝ }
+{
+    if area.len() < 16384 {
+        return refused(7, 0);
+    }
+    let l = read_listing(listing);
+    if l.number != 0 {
+        return refused(l.number, l.place as u32);
+    }
+    let t = visit_all(listing, l.routine, area);
+    rule(l.routine, t)
+}
+
+// The first 16,384 words of the area end zero, unless it is shorter.
+pub fn verify(listing: &[u8], area: &mut [u32]) -> Verdict
+    ensures { λ r. ⌜ (verdictOf r ≡ V.verify (length (now (area .entry))) (now (listing .entry))) × (now (area .exit) ≡ cleared (now (area .entry))) ⌝ }
+{
+    let v = analyze(listing, area);
+    clear(area);
+    v
+}
+
+fn refused(number: u8, place: u32) -> Verdict
+    ensures { λ r. ⌜ verdictOf r ≡ record { verdict = V.refusal number place; visits = 0 } ⌝ }
+{
+    Verdict {
+        ruling: Ruling::Refused(number, place),
+        visits: 0,
+    }
+}

@@ -1,0 +1,67 @@
+// The verdict of a run: the violation of the lowest entry that ended in error.
+use crate::Ruling;
+use crate::tally::BlockStatus;
+use crate::tally::Tally;
+use file_format::CodeOffset;
+use listing::Block;
+ghost use mathlib.Core.Path.{_≡_};
+ghost use Prim.Native.Nat.{_≤_};
+ghost use Rattle.meaning.specs.Loop.{lowestOf, entryOf};
+ghost use Rattle.meaning.specs.FitLaws.{lowestBy};
+ghost use Rattle.listing.specs.Models.{blocksIn};
+ghost use Rattle.absint.specs.Models.{statusOf, statusesOf, rulingOf, lowestVerdict, verdictIn};
+
+// The error of the lowest entry so far, if there is one.
+pub(crate) struct Lowest {
+    pub found: bool,
+    pub entry: CodeOffset,
+    pub code: u8,
+    pub offset: CodeOffset,
+}
+
+impl Lowest {
+    fn lower(self, e: CodeOffset, x: BlockStatus) -> Self
+        ensures { λ r. ⌜ (lowestVerdict r ≡ lowestOf (e .0) (statusOf x) (self .entry .0) (lowestVerdict self)) × (r .entry .0 ≡ entryOf (e .0) (statusOf x) (self .entry .0) (lowestVerdict self)) ⌝ }
+    {
+        if x.failed {
+            if self.found {
+                if self.entry.0 <= e.0 {
+                    return self;
+                }
+            }
+            return Self {
+                found: true,
+                entry: e,
+                code: x.code,
+                offset: x.offset,
+            };
+        }
+        self
+    }
+}
+
+pub(crate) fn rule(blocks: [Block; 16], n: usize, t: Tally) -> Ruling
+    requires { ⌜ n ≤ 16 ⌝ }
+    ensures { λ r. ⌜ rulingOf r ≡ verdictIn (blocksIn blocks n) t ⌝ }
+{
+    if t.stopped {
+        return Ruling::Refused(t.number, t.place.0 as u32);
+    }
+    let mut l = Lowest {
+        found: false,
+        entry: CodeOffset(0),
+        code: 0,
+        offset: CodeOffset(0),
+    };
+    let mut i: usize = 0;
+    while i < n {
+        let b = blocks[i];
+        let x = t.statuses[i];
+        l = l.lower(b.entry, x);
+        i += 1;
+    }
+    if l.found {
+        return Ruling::Violation(l.code, l.offset);
+    }
+    Ruling::Accept
+}

@@ -1,0 +1,77 @@
+// What a run has by value.
+use file_format::CodeOffset;
+ghost use mathlib.Core.Path.{_≡_};
+ghost use Prim.Native.Nat.{_<_, suc};
+ghost use lib.ListN.{length, set};
+ghost use Rattle.meaning.specs.Loop.{fine, failed, at, stopped};
+ghost use Rattle.absint.specs.Models.{statusOf, statusesOf, nextOf, Started, SameCounts};
+
+pub(crate) struct BlockStatus {
+    pub failed: bool,
+    pub code: u8,
+    pub offset: CodeOffset,
+}
+
+// `next` counts until the run is stopped, `number` and `place` from then on. `turns` counts visits and blocks passed over.
+pub(crate) struct Tally {
+    pub next: usize,
+    pub stopped: bool,
+    pub number: u8,
+    pub place: CodeOffset,
+    pub visits: u32,
+    pub turns: u32,
+    pub statuses: [BlockStatus; 16],
+}
+
+impl Tally {
+    pub(crate) fn start() -> Self
+        ensures { λ r. ⌜ Started r ⌝ }
+    {
+        let x = BlockStatus {
+            failed: false,
+            code: 0,
+            offset: CodeOffset(0),
+        };
+        Self {
+            next: 0,
+            stopped: false,
+            number: 0,
+            place: CodeOffset(0),
+            visits: 0,
+            turns: 0,
+            statuses: [x; 16],
+        }
+    }
+
+    pub(crate) fn stop(self, number: u8, place: CodeOffset) -> Self
+        ensures { λ r. ⌜ (nextOf r ≡ stopped number (place .0)) × (statusesOf r ≡ statusesOf self) × SameCounts self r ⌝ }
+    {
+        let mut t = self;
+        t.stopped = true;
+        t.number = number;
+        t.place = place;
+        t
+    }
+
+    pub(crate) fn mark(self, j: usize, x: BlockStatus) -> Self
+        requires { ⌜ j < 16 ⌝ }
+        ensures { λ r. ⌜ (nextOf r ≡ nextOf self) × (statusesOf r ≡ set (statusesOf self) j (statusOf x)) × SameCounts self r × (length (statusesOf self) ≡ 16) ⌝ }
+    {
+        let mut t = self;
+        t.statuses[j] = x;
+        t
+    }
+
+    // An error vanishes.
+    pub(crate) fn clear(self, j: usize) -> Self
+        requires { ⌜ j < 16 ⌝ }
+        ensures { λ r. ⌜ (nextOf r ≡ nextOf self) × (statusesOf r ≡ set (statusesOf self) j fine) × SameCounts self r × (length (statusesOf self) ≡ 16) ⌝ }
+    {
+        let x = BlockStatus {
+            failed: false,
+            code: 0,
+            offset: CodeOffset(0),
+        };
+        self.mark(j, x)
+    }
+}

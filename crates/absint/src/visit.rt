@@ -1,0 +1,66 @@
+// The run of a routine's blocks.
+use crate::hand::spread;
+use crate::tally::BlockStatus;
+use crate::tally::Tally;
+use kept_states::clear;
+use kept_states::load;
+use kept_states::store;
+use listing::Routine;
+use reference_safety::block::run_block;
+use state_join::first::new;
+ghost use mathlib.Core.Path.{_≡_};
+ghost use mathlib.Core.Bool.{false};
+ghost use Prim.Native.Nat.{_≤_, _<_};
+ghost use lib.ListN.{length};
+ghost use Rattle.meaning.specs.Listing.{readListing, read};
+ghost use Rattle.listing.specs.Models.{routineOf};
+ghost use Rattle.absint.specs.Models.{Turned, Analyzed};
+
+// The next block: passed over where it has no kept state, else run from it.
+fn visit(listing: &[u8], routine: Routine, area: &mut [u32], t: Tally) -> Tally
+    requires { ⌜ Ready (now listing) routine (now area) t ⌝ }
+    ensures { λ r. ⌜ Turned (now (listing .entry)) routine (now (area .entry)) (now (area .exit)) t r ⌝ }
+{
+    let i = t.next;
+    let mut u = t;
+    u.next = i + 1;
+    u.turns = t.turns + 1;
+    let k = load(area, i, routine.locals);
+    if k.present {
+        let b = routine.blocks[i];
+        let r = run_block(listing, routine, b, k.state);
+        let s = r.state;
+        u.visits = t.visits + 1;
+        if s.violation != 0 {
+            let x = BlockStatus {
+                failed: true,
+                code: s.violation,
+                offset: r.place,
+            };
+            return u.mark(i, x);
+        }
+        if s.refusal != 0 {
+            return u.stop(s.refusal, r.place);
+        }
+        let v = u.clear(i);
+        let blocks = routine.blocks;
+        return spread(area, blocks, routine.block_count, routine.locals, b, s, v);
+    }
+    u
+}
+
+// The loop has no budget: `turns` only counts, and its bound is that of the visits (document 01, demand 3).
+pub(crate) fn visit_all(listing: &[u8], routine: Routine, area: &mut [u32]) -> Tally
+    requires { ⌜ Read (now listing) routine × (16384 ≤ length (now area)) ⌝ }
+    ensures { λ r. ⌜ Analyzed (now (listing .entry)) routine (now (area .entry)) (now (area .exit)) r ⌝ }
+{
+    let params = routine.params;
+    let s = new(routine.locals, params, routine.param_count);
+    clear(area);
+    store(area, 0, s);
+    let mut t = Tally::start();
+    while !t.stopped & (t.next < routine.block_count) {
+        t = visit(listing, routine, area, t);
+    }
+    t
+}

@@ -1,0 +1,5 @@
+pub mod Models
+pub mod ModelLaws
+pub mod IdLaws
+pub mod LoopLaws
+pub mod CallLaws
