@@ -3,16 +3,16 @@ use Prim.Native.Nat.{ℕ, suc, _+_}
 use native.Mathlib.Omega.{arith}
 use native.Mathlib.Numerals.{add-one}
 use mathlib.Core.Path.{_≡_, refl, sym, ap, _∙_}
-use mathlib.Core.Bool.{Bool, true, false, not, _&&_, _||_, cond}
+use mathlib.Core.Bool.{Bool, true, false, _&&_, _||_, cond}
 use mathlib.Core.List.{List, [], _∷_}
 use lib.Dec.{eqb, ltb}
-use Rattle.meaning.specs.Base.{Ans, ok, refuse, guard, any, decide, and-l, and-r, eqb-eq, eqb-self, eqb-no, eqb-ne}
+use Rattle.meaning.specs.Base.{ok, refuse, any, decide, and-l, and-r, eqb-eq, eqb-self, eqb-no, eqb-ne}
 use Rattle.meaning.specs.Graph.{Graph}
 use Rattle.meaning.specs.State as S
 use Rattle.meaning.specs.State.{State, absent, value, ref, eqLocal}
 use Rattle.meaning.specs.Rename.{renamed, indexOf, newNameOf, ownNames, crossed, crosses, canonical}
-use Rattle.meaning.specs.Remap.{Change, changed}
-use Rattle.meaning.specs.Running.{then, Operand, nonRef, reference, Running}
+use Rattle.meaning.specs.Remap.{changed}
+use Rattle.meaning.specs.Running.{then, nonRef, reference, Running}
 use Rattle.abstract_state.specs.Models.{halted}
 use Rattle.state_join.specs.Models.{heldBy, ownName, renames, canonicalEnd}
 

@@ -3,19 +3,19 @@ use Prim.Native.Nat.{ℕ, zero, suc, _+_, _-_, _≤_, _<_, min}
 use native.Mathlib.Omega.{arith}
 use native.Mathlib.Numerals.{add-one}
 use mathlib.Core.Path.{_≡_, refl, sym, ap, _∙_, subst}
-use mathlib.Core.Bool.{Bool, true, false, not, _&&_, _||_, cond}
+use mathlib.Core.Bool.{Bool, true, false, _&&_, _||_, cond}
 use mathlib.Core.List.{List, [], _∷_, _++_, map}
 use lib.Dec.{eqb, leb, ltb}
 use lib.ListN.{length, take, drop, getD, length-append, length-map, length-take, drop-of-length-le}
 use lib.Seq.{append-snoc}
-use Rattle.meaning.specs.Base.{Ans, ok, refuse, andThen, leaves, any, all, decide, and-l, and-r, and-i, andThen-ok, ok-inj, leb-le, le-leb, leb-gt, eqb-eq}
+use Rattle.meaning.specs.Base.{Ans, ok, andThen, leaves, all, decide, and-l, and-r, and-i, andThen-ok, leb-le, le-leb, leb-gt, eqb-eq}
 use Rattle.meaning.specs.ArrayLaws.{front-map-step}
-use Rattle.meaning.specs.Graph.{Name, Graph, holds, held, ascending, wellFormed, inOrder}
+use Rattle.meaning.specs.Graph.{Name, Graph, holds, ascending, wellFormed, inOrder}
 use Rattle.meaning.specs.Borrow.{placeName, newName}
 use Rattle.meaning.specs.State as S
 use Rattle.meaning.specs.Running.{Token, ofValue, ofRef, Running}
 use Rattle.meaning.specs.Listing.{tokenAs}
-use Rattle.meaning.specs.Blocks.{firstLocals, firstNames, firstState, Strong}
+use Rattle.meaning.specs.Blocks.{firstLocals, firstNames, firstState}
 use Rattle.meaning.specs.FirstLaws.{first-strong}
 use Rattle.state_join.specs.Models.{firstAt, firstRunning}
 

@@ -14,7 +14,7 @@ use Rattle.meaning.specs.Graph.{Name, Graph, holds, held, wellFormed, sameNames
 use Rattle.meaning.specs.CoverLaws.{covered-at, unmatched-none}
 use Rattle.meaning.specs.Lookups.{covering}
 use Rattle.meaning.specs.State as S
-use Rattle.meaning.specs.State.{State, Step, absent, value, ref, joinLocal, joinLocals, join, kept, eqLocal, eqLocals, changed}
+use Rattle.meaning.specs.State.{State, Step, absent, joinLocal, joinLocals, join, kept, eqLocal, eqLocals, changed}
 use Rattle.meaning.specs.StateLaws.{Joined, join-law}
 use Rattle.meaning.specs.ChangeLaws.{leq, rustChanged, changed-is-rust, eqLocals-eq}
 use Rattle.meaning.specs.Running as R
@@ -25,9 +25,10 @@ use Rattle.references.specs.declared.references.RefID.{RefID}
 use Rattle.abstract_state.specs.Models.{localOf, stateOf}
 use Rattle.abstract_state.specs.declared.state.Local.{Local}
 use Rattle.abstract_state.specs.declared.state.AbstractState.{AbstractState}
-use Rattle.state_join.specs.Models.{heldBy, acted, Joins}
+use Rattle.state_join.specs.Models.{heldBy, acted, stepBy, Joins}
+use Rattle.state_join.specs.declared.join.Meeting.{Meeting}
 use Rattle.state_join.specs.declared.join.Action.{Action}
-use Rattle.state_join.specs.declared.join.Action.the-variants.{Nothing, ReleaseOurs, ReleaseTheirs, Refuse}
+use Rattle.state_join.specs.declared.join.Action.the-variants.{ReleaseOurs, ReleaseTheirs}
 
 -- ---- two locals
 
@@ -51,24 +52,25 @@ same-absent false true u nonRef e = refl
 same-absent false true u (reference n) e = refl
 same-absent false false u v e = refl
 
--- both present: the same, or not
-pub meet-same : (p q : Bool) (u v : Operand) (g h : Graph) → p && q ≡ true → eqLocal (loc p u) (loc q v) ≡ true → acted (loc p u) Nothing g h ≡ joinLocal (loc p u) (loc q v) g h
+-- both present
+pub meet-both : (p q : Bool) (u v : Operand) (g h : Graph) → p && q ≡ true → guard (eqLocal (loc p u) (loc q v)) 15 (ok (record { local = loc p u; ours = g; theirs = h })) ≡ joinLocal (loc p u) (loc q v) g h
 unfolding joinLocal
-meet-same true true nonRef nonRef g h e s = refl
-meet-same true true nonRef (reference n) g h e s = no (cc)
-meet-same true true (reference m) nonRef g h e s = no (cc)
-meet-same true true (reference m) (reference n) g h e s = ap (λ (b : Bool). guard b 15 (ok (record { local = ref m; ours = g; theirs = h }))) (sym s)
-meet-same true false u v g h e s = no (cc)
-meet-same false q u v g h e s = no (cc)
+meet-both true true nonRef nonRef g h e = refl
+meet-both true true nonRef (reference n) g h e = refl
+meet-both true true (reference m) nonRef g h e = refl
+meet-both true true (reference m) (reference n) g h e = refl
+meet-both true false u v g h e = no (cc)
+meet-both false q u v g h e = no (cc)
 
-pub meet-other : (p q : Bool) (u v : Operand) (g h : Graph) → p && q ≡ true → eqLocal (loc p u) (loc q v) ≡ false → refuse 15 ≡ joinLocal (loc p u) (loc q v) g h
-unfolding joinLocal
-meet-other true true nonRef nonRef g h e s = no (cc)
-meet-other true true nonRef (reference n) g h e s = refl
-meet-other true true (reference m) nonRef g h e s = refl
-meet-other true true (reference m) (reference n) g h e s = ap (λ (b : Bool). guard b 15 (ok (record { local = ref m; ours = g; theirs = h }))) (sym s)
-meet-other true false u v g h e s = no (cc)
-meet-other false q u v g h e s = no (cc)
+as-guard : (b : Bool) (s : Step) → cond b (ok s) (refuse 15) ≡ guard b 15 (ok s)
+as-guard true s = refl
+as-guard false s = refl
+
+pub meet-same : (p q : Bool) (u v : Operand) (b : Bool) (g h : Graph) → p && q ≡ true → b ≡ eqLocal (loc p u) (loc q v)
+    → cond b (ok (record { local = loc p u; ours = g; theirs = h })) (refuse 15) ≡ joinLocal (loc p u) (loc q v) g h
+meet-same p q u v b g h e s =
+    let t : Step = record { local = loc p u; ours = g; theirs = h } in
+    as-guard b t ∙ ap (λ (c : Bool). guard c 15 (ok t)) s ∙ meet-both p q u v g h e
 
 -- not both present: a reference of ours, one of theirs, none
 pub meet-ours : (p q : Bool) (u v : Operand) (g h : Graph) (l : S.Local) (n : RefID) → p && q ≡ false → l ≡ absent → reference (n .0) ≡ heldBy (loc p u) → acted l (ReleaseOurs n) g h ≡ joinLocal (loc p u) (loc q v) g h
@@ -77,7 +79,7 @@ meet-ours true true u v g h l n e a s = no (cc)
 meet-ours true false nonRef v g h l n e a s = no (cc)
 meet-ours true false (reference m) v g h l n e a s =
     let z : n .0 ≡ m = cc in
-    (λ i. andThen (release g (z i)) (λ g′. ok (record { local = a i; ours = g′; theirs = h })))
+    λ i. andThen (release g (z i)) (λ g′. ok (record { local = a i; ours = g′; theirs = h }))
 meet-ours false q u v g h l n e a s = no (cc)
 
 pub meet-theirs : (p q : Bool) (u v : Operand) (g h : Graph) (l : S.Local) (n : RefID) → p && q ≡ false → l ≡ absent → reference (n .0) ≡ heldBy (loc q v) → acted l (ReleaseTheirs n) g h ≡ joinLocal (loc p u) (loc q v) g h
@@ -86,11 +88,11 @@ meet-theirs true true u v g h l n e a s = no (cc)
 meet-theirs false true u nonRef g h l n e a s = no (cc)
 meet-theirs false true u (reference m) g h l n e a s =
     let z : n .0 ≡ m = cc in
-    (λ i. andThen (release h (z i)) (λ h′. ok (record { local = a i; ours = g; theirs = h′ })))
+    λ i. andThen (release h (z i)) (λ h′. ok (record { local = a i; ours = g; theirs = h′ }))
 meet-theirs true false u v g h l n e a s = no (cc)
 meet-theirs false false u v g h l n e a s = no (cc)
 
-pub meet-none : (p q : Bool) (u v : Operand) (g h : Graph) (l : S.Local) → p && q ≡ false → l ≡ absent → nonRef ≡ heldBy (loc p u) → nonRef ≡ heldBy (loc q v) → acted l Nothing g h ≡ joinLocal (loc p u) (loc q v) g h
+pub meet-none : (p q : Bool) (u v : Operand) (g h : Graph) (l : S.Local) → p && q ≡ false → l ≡ absent → nonRef ≡ heldBy (loc p u) → nonRef ≡ heldBy (loc q v) → ok (record { local = l; ours = g; theirs = h }) ≡ joinLocal (loc p u) (loc q v) g h
 unfolding joinLocal
 meet-none true true u v g h l e a s t = no (cc)
 meet-none true false nonRef v g h l e a s t = λ i. ok (record { local = a i; ours = g; theirs = h })
@@ -98,6 +100,29 @@ meet-none true false (reference m) v g h l e a s t = no (cc)
 meet-none false true u nonRef g h l e a s t = λ i. ok (record { local = a i; ours = g; theirs = h })
 meet-none false true u (reference m) g h l e a s t = no (cc)
 meet-none false false u v g h l e a s t = λ i. ok (record { local = a i; ours = g; theirs = h })
+
+-- what was released, told by a number and a graph
+pub acted-ours : (n : ℕ) (k : Graph) (r : RefID) (act : Action) (l : S.Local) (g h : Graph) → told n k ≡ release g (r .0) → act ≡ ReleaseOurs r → told n (record { local = l; ours = k; theirs = h }) ≡ acted l act g h
+acted-ours n k r act l g h e f =
+    go (eqb n 0) ∙ ap (λ (a : Ans Graph). andThen a (λ g′. ok (record { local = l; ours = g′; theirs = h }))) e ∙ ap (λ (c : Action). acted l c g h) (sym f)
+  where
+    go : (b : Bool) → cond {A = Ans Step} b (ok (record { local = l; ours = k; theirs = h })) (refuse n) ≡ andThen (cond {A = Ans Graph} b (ok k) (refuse n)) (λ g′. ok (record { local = l; ours = g′; theirs = h }))
+    go true = refl
+    go false = refl
+
+pub acted-theirs : (n : ℕ) (k : Graph) (r : RefID) (act : Action) (l : S.Local) (g h : Graph) → told n k ≡ release h (r .0) → act ≡ ReleaseTheirs r → told n (record { local = l; ours = g; theirs = k }) ≡ acted l act g h
+acted-theirs n k r act l g h e f =
+    go (eqb n 0) ∙ ap (λ (a : Ans Graph). andThen a (λ h′. ok (record { local = l; ours = g; theirs = h′ }))) e ∙ ap (λ (c : Action). acted l c g h) (sym f)
+  where
+    go : (b : Bool) → cond {A = Ans Step} b (ok (record { local = l; ours = g; theirs = k })) (refuse n) ≡ andThen (cond {A = Ans Graph} b (ok k) (refuse n)) (λ h′. ok (record { local = l; ours = g; theirs = h′ }))
+    go true = refl
+    go false = refl
+
+pub idle-step : (m : Meeting) (g h : Graph) → m .idle ≡ true → ok (record { local = localOf (m .local); ours = g; theirs = h }) ≡ stepBy m g h
+idle-step m g h e = ap (λ (b : Bool). cond b (ok (record { local = localOf (m .local); ours = g; theirs = h })) (acted (localOf (m .local)) (m .action) g h)) (sym e)
+
+pub busy-step : (m : Meeting) (g h : Graph) → m .idle ≡ false → acted (localOf (m .local)) (m .action) g h ≡ stepBy m g h
+busy-step m g h e = ap (λ (b : Bool). cond b (ok (record { local = localOf (m .local); ours = g; theirs = h })) (acted (localOf (m .local)) (m .action) g h)) (sym e)
 
 -- ---- all locals
 
@@ -125,20 +150,6 @@ front-next out i x h = sym (append-nil (map localOf (take (i + 1) (set out i x))
 abbrev on : List S.Local → List S.Local → List S.Local → Step → Ans S.Parts
 on pre xs ys s = andThen (joinLocals xs ys (s .ours) (s .theirs)) (after (pre ++ (s .local ∷ [])))
 
--- A turn of the loop, by its action: the locals left are `xs` and `ys`, what was written is `pre`, and all gives `j`. A release
--- answers `told n k`.
-pub record Turn (xs ys : List S.Local) (g h : Graph) (pre : List S.Local) (j : Ans S.Parts) (act : Action) : Type 0 where
-  pub nothing : act ≡ Nothing → andThen (joinLocals xs ys g h) (after pre) ≡ j
-  pub refused : act ≡ Refuse → refuse 15 ≡ j
-  pub ours : (r : RefID) (n : ℕ) (k : Graph) → act ≡ ReleaseOurs r → told n k ≡ release g (r .0) → n ≡ 0 → andThen (joinLocals xs ys k h) (after pre) ≡ j
-  pub oursOff : (r : RefID) (n : ℕ) (k : Graph) → act ≡ ReleaseOurs r → told n k ≡ release g (r .0) → (n ≡ 0 → ⊥) → (p : S.Parts) → told n p ≡ j
-  pub theirs : (r : RefID) (n : ℕ) (k : Graph) → act ≡ ReleaseTheirs r → told n k ≡ release h (r .0) → n ≡ 0 → andThen (joinLocals xs ys g k) (after pre) ≡ j
-  pub theirsOff : (r : RefID) (n : ℕ) (k : Graph) → act ≡ ReleaseTheirs r → told n k ≡ release h (r .0) → (n ≡ 0 → ⊥) → (p : S.Parts) → told n p ≡ j
-
-bind-ok : {A : Type 0} (a : Ans A) (f : A → Step) (k : Step → Ans S.Parts) → andThen a (λ x. k (f x)) ≡ andThen (andThen a (λ x. ok (f x))) k
-bind-ok (ok x) f k = refl
-bind-ok (refuse n) f k = refl
-
 module _ (as′ bs : List S.Local) (a b : S.Local) (xs ys : List S.Local) (g h : Graph) (pre : List S.Local) (j : Ans S.Parts)
     (ex : as′ ≡ a ∷ xs) (ey : bs ≡ b ∷ ys) (inv : andThen (joinLocals as′ bs g h) (after pre) ≡ j) where
   turned : andThen (joinLocal a b g h) (on pre xs ys) ≡ j
@@ -154,25 +165,15 @@ module _ (as′ bs : List S.Local) (a b : S.Local) (xs ys : List S.Local) (g h :
       go (ok s) = inner s (joinLocals xs ys (s .ours) (s .theirs))
       go (refuse n) = refl
 
-  pub turn : (l : S.Local) (act : Action) (pre′ : List S.Local) → acted l act g h ≡ joinLocal a b g h → pre′ ≡ pre ++ (l ∷ []) → Turn xs ys g h pre′ j act
-  turn l act pre′ m ep =
-      let step : Graph → Graph → Step = λ g′ h′. record { local = l; ours = g′; theirs = h′ } in
-      let by : (c : Action) → act ≡ c → andThen (acted l c g h) (on pre xs ys) ≡ j =
-      λ c e. ap (λ (d : Action). andThen (acted l d g h) (on pre xs ys)) (sym e) ∙ ap (λ (z : Ans Step). andThen z (on pre xs ys)) m ∙ turned in
-      let more : (g′ h′ : Graph) → andThen (joinLocals xs ys g′ h′) (after pre′) ≡ on pre xs ys (step g′ h′) =
-      λ g′ h′. ap (λ (zs : List S.Local). andThen (joinLocals xs ys g′ h′) (after zs)) ep in
-      let ours : (r : RefID) → act ≡ ReleaseOurs r → andThen (release g (r .0)) (λ k. on pre xs ys (step k h)) ≡ j =
-      λ r e. bind-ok (release g (r .0)) (λ k. step k h) (on pre xs ys) ∙ by (ReleaseOurs r) e in
-      let theirs : (r : RefID) → act ≡ ReleaseTheirs r → andThen (release h (r .0)) (λ k. on pre xs ys (step g k)) ≡ j =
-      λ r e. bind-ok (release h (r .0)) (λ k. step g k) (on pre xs ys) ∙ by (ReleaseTheirs r) e in
-      record {
-        nothing = λ e. more g h ∙ by Nothing e;
-        refused = λ e. by Refuse e;
-        ours = λ r n k e f z. more k h ∙ told-on n k (release g (r .0)) (λ y. on pre xs ys (step y h)) j f (ours r e) z;
-        oursOff = λ r n k e f z p. told-off n k (release g (r .0)) (λ y. on pre xs ys (step y h)) j f (ours r e) z p;
-        theirs = λ r n k e f z. more g k ∙ told-on n k (release h (r .0)) (λ y. on pre xs ys (step g y)) j f (theirs r e) z;
-        theirsOff = λ r n k e f z p. told-off n k (release h (r .0)) (λ y. on pre xs ys (step g y)) j f (theirs r e) z p;
-      }
+  -- a step that is told: it goes on, or is refused
+  module _ (n : ℕ) (s : Step) (e : told n s ≡ joinLocal a b g h) where
+    pub turn-on : n ≡ 0 → (pre′ : List S.Local) → pre′ ≡ pre ++ (s .local ∷ []) → andThen (joinLocals xs ys (s .ours) (s .theirs)) (after pre′) ≡ j
+    turn-on z pre′ ep =
+        ap (λ (zs : List S.Local). andThen (joinLocals xs ys (s .ours) (s .theirs)) (after zs)) ep
+        ∙ told-on n s (joinLocal a b g h) (on pre xs ys) j e turned z
+
+    pub turn-off : (n ≡ 0 → ⊥) → (p : S.Parts) → told n p ≡ j
+    turn-off z p = told-off n s (joinLocal a b g h) (on pre xs ys) j e turned z p
 
 one-left : (as′ bs : List S.Local) (g h : Graph) → (length as′ ≡ 0) ⊎ (length bs ≡ 0) → (length as′ ≡ length bs → ⊥) → joinLocals as′ bs g h ≡ refuse 9
 unfolding joinLocals

@@ -1,7 +1,7 @@
 -- What the values of the code stand for in the definitions, and what the calls answer.
 use Prim.Native.Nat.{ℕ, suc}
 use mathlib.Core.Path.{_≡_}
-use mathlib.Core.Bool.{Bool, false}
+use mathlib.Core.Bool.{Bool, false, cond}
 use mathlib.Core.List.{List, [], _∷_}
 use Rattle.meaning.specs.Base.{Ans, ok, refuse, andThen}
 use Rattle.meaning.specs.Graph.{Graph, release}
@@ -15,7 +15,7 @@ use Rattle.borrow_graph.specs.Models.{graphOf, told}
 use Rattle.abstract_state.specs.Models.{localOf, localsIn, runningOf, stateOf}
 use Rattle.abstract_state.specs.declared.state.AbstractState.{AbstractState}
 use Rattle.state_join.specs.declared.join.Action.{Action}
-use Rattle.state_join.specs.declared.join.Action.the-variants.{Nothing, ReleaseOurs, ReleaseTheirs, Refuse}
+use Rattle.state_join.specs.declared.join.Action.the-variants.{ReleaseOurs, ReleaseTheirs, Refuse}
 use Rattle.state_join.specs.declared.join.Meeting.{Meeting}
 use Rattle.state_join.specs.declared.join.Parts.{Parts}
 
@@ -56,15 +56,17 @@ renames i (ref n ∷ xs) = record { old = n; new = i } ∷ renames (suc i) xs
 
 -- ---- the join
 
+abbrev pub stepOf : Parts → S.Local → Step
+stepOf p l = record { local = l; ours = graphOf (p .ours); theirs = graphOf (p .theirs) }
+
 -- what is left of two locals, and an action on the graphs
 abbrev pub acted : S.Local → Action → Graph → Graph → Ans Step
-acted l Nothing g h = ok (record { local = l; ours = g; theirs = h })
 acted l (ReleaseOurs n) g h = andThen (release g (n .0)) (λ g′. ok (record { local = l; ours = g′; theirs = h }))
 acted l (ReleaseTheirs n) g h = andThen (release h (n .0)) (λ h′. ok (record { local = l; ours = g; theirs = h′ }))
 acted l Refuse g h = refuse 15
 
 abbrev pub stepBy : Meeting → Graph → Graph → Ans Step
-stepBy m g h = acted (localOf (m .local)) (m .action) g h
+stepBy m g h = cond (m .idle) (ok (record { local = localOf (m .local); ours = g; theirs = h })) (acted (localOf (m .local)) (m .action) g h)
 
 -- the first n locals
 abbrev pub partsOf : Parts → ℕ → S.Parts

@@ -16,19 +16,19 @@ ghost use Rattle.meaning.specs.State.{joinLocal, joinLocals, eqLocal, eqLocals}
 ghost use Rattle.meaning.specs.Running as R;
 ghost use Rattle.borrow_graph.specs.Models.{told, graphOf};
 ghost use Rattle.abstract_state.specs.Models.{operandOf, localOf, localsIn, stateOf};
-ghost use Rattle.state_join.specs.Models.{stepBy, partsOf, Joins, changedBy};
+ghost use Rattle.state_join.specs.Models.{acted, stepBy, stepOf, partsOf, Joins, changedBy};
 
 // What the join of two locals does to the graphs.
 pub(crate) enum Action {
-    Nothing,
     ReleaseOurs(RefID),
     ReleaseTheirs(RefID),
     Refuse,
 }
 
-// What it leaves of the two locals, and what it does.
+// What it leaves of the two locals, and what it does. Where it is idle, the action is free.
 pub(crate) struct Meeting {
     pub local: Local,
+    pub idle: bool,
     pub action: Action,
 }
 
@@ -100,14 +100,10 @@ fn meet(a: Local, b: Local) -> Meeting
     ensures { λ r. ⌜ ((g h : Graph) → stepBy r g h ≡ joinLocal (localOf a) (localOf b) g h) ⌝ }
 {
     if a.present & b.present {
-        if same_local(a, b) {
-            return Meeting {
-                local: a,
-                action: Action::Nothing,
-            };
-        }
+        let same = same_local(a, b);
         return Meeting {
             local: a,
+            idle: same,
             action: Action::Refuse,
         };
     }
@@ -117,93 +113,99 @@ fn meet(a: Local, b: Local) -> Meeting
     match v {
         AbstractValue::Reference(id) => Meeting {
             local: local,
+            idle: false,
             action: Action::ReleaseOurs(id),
         },
         AbstractValue::NonReference => match w {
             AbstractValue::Reference(id) => Meeting {
                 local: local,
+                idle: false,
                 action: Action::ReleaseTheirs(id),
             },
             AbstractValue::NonReference => Meeting {
                 local: local,
-                action: Action::Nothing,
+                idle: true,
+                action: Action::Refuse,
             },
         },
     }
 }
 
-// Local by local, ascending. Document 01 leaves open what states with different numbers of locals give: 9, behind the others.
+impl Parts {
+    fn act(self, action: Action) -> Self
+        ensures { λ r. ⌜ ((l : S.Local) → told (r .refusal) (stepOf r l) ≡ acted l action (graphOf (self .ours)) (graphOf (self .theirs))) × (r .locals ≡ self .locals) ⌝ }
+    {
+        let locals = self.locals;
+        let ours = self.ours;
+        let theirs = self.theirs;
+        match action {
+            Action::ReleaseOurs(id) => {
+                let a = release(ours, id);
+                let g = a.graph;
+                Self {
+                    refusal: a.refusal,
+                    locals: locals,
+                    ours: g,
+                    theirs: theirs,
+                }
+            }
+            Action::ReleaseTheirs(id) => {
+                let a = release(theirs, id);
+                let g = a.graph;
+                Self {
+                    refusal: a.refusal,
+                    locals: locals,
+                    ours: ours,
+                    theirs: g,
+                }
+            }
+            Action::Refuse => Self {
+                refusal: 15,
+                locals: locals,
+                ours: ours,
+                theirs: theirs,
+            },
+        }
+    }
+}
+
+// Local by local, ascending. Document 01 leaves open what different numbers of locals give: 9, behind the others.
 fn join_locals(s: AbstractState, o: AbstractState) -> Parts
     ensures { λ r. ⌜ told (r .refusal) (partsOf r (s .«num_locals»)) ≡ joinLocals (localsIn (s .locals) (s .«num_locals»)) (localsIn (o .locals) (o .«num_locals»)) (graphOf (s .«borrow_graph»)) (graphOf (o .«borrow_graph»)) ⌝ }
 {
     let n = count(s.num_locals);
     let m = count(o.num_locals);
     let k = lesser(n, m);
-    let mut locals = s.locals;
-    let mut ours = s.borrow_graph;
-    let mut theirs = o.borrow_graph;
+    let locals = s.locals;
+    let ours = s.borrow_graph;
+    let theirs = o.borrow_graph;
+    let mut p = Parts {
+        refusal: 0,
+        locals: locals,
+        ours: ours,
+        theirs: theirs,
+    };
     let mut i: usize = 0;
     while i < k {
         let x = meet(s.locals[i], o.locals[i]);
         let l = x.local;
-        let act = x.action;
-        locals[i] = l;
-        match act {
-            Action::Nothing => {
-                i += 1;
+        p.locals[i] = l;
+        if x.idle {
+            i += 1;
+        } else {
+            let action = x.action;
+            p = p.act(action);
+            if p.refusal != 0 {
+                return p;
             }
-            Action::ReleaseOurs(id) => {
-                let a = release(ours, id);
-                if a.refusal != 0 {
-                    return Parts {
-                        refusal: a.refusal,
-                        locals: locals,
-                        ours: ours,
-                        theirs: theirs,
-                    };
-                }
-                let g = a.graph;
-                ours = g;
-                i += 1;
-            }
-            Action::ReleaseTheirs(id) => {
-                let a = release(theirs, id);
-                if a.refusal != 0 {
-                    return Parts {
-                        refusal: a.refusal,
-                        locals: locals,
-                        ours: ours,
-                        theirs: theirs,
-                    };
-                }
-                let g = a.graph;
-                theirs = g;
-                i += 1;
-            }
-            Action::Refuse => {
-                return Parts {
-                    refusal: 15,
-                    locals: locals,
-                    ours: ours,
-                    theirs: theirs,
-                };
-            }
+            i += 1;
         }
     }
     if n == m {
-        return Parts {
-            refusal: 0,
-            locals: locals,
-            ours: ours,
-            theirs: theirs,
-        };
+        return p;
     }
-    Parts {
-        refusal: 9,
-        locals: locals,
-        ours: ours,
-        theirs: theirs,
-    }
+    p.refusal = 9;
+    p
 }
 
 fn join_(s: AbstractState, o: AbstractState) -> Answer

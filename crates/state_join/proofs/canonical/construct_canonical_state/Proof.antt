@@ -1,4 +1,4 @@
-use mathlib.Core.Path.{_≡_, sym, ap, _∙_}
+use mathlib.Core.Path.{sym, ap, _∙_}
 use mathlib.Core.List.{List}
 use Rattle.meaning.specs.Remap.{Change, changed}
 use Rattle.meaning.specs.Rename.{renamed}
@@ -7,7 +7,6 @@ use Rattle.abstract_state.specs.Models.{runningOf, stateOf}
 use Rattle.state_join.specs.Models.{canonicalEnd}
 use Rattle.state_join.specs.LocalLaws.{stopped}
 use Rattle.state_join.specs.CanonicalLaws.{canonical-16, canonical-ok, end-16, end-ok}
-use native.Mathlib.Omega.{arith}
 use borrow.Author.Needs.{needs}
 use Rattle.state_join.proofs.canonical.construct_canonical_state.Statement.{statement}
 use Rattle.state_join.proofs.canonical.construct_canonical_state.Tie as tie

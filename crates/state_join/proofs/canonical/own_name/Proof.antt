@@ -1,7 +1,6 @@
-use mathlib.Core.Path.{_≡_, sym, ap, _∙_}
+use mathlib.Core.Path.{sym, ap, _∙_}
 use Rattle.abstract_state.specs.Models.{operandOf, localOf}
 use Rattle.state_join.specs.CanonicalLaws.{own-held, own-none}
-use native.Mathlib.Omega.{arith}
 use borrow.Author.Needs.{needs}
 use Rattle.state_join.proofs.canonical.own_name.Statement.{statement}
 use Rattle.state_join.proofs.canonical.own_name.Tie as tie

@@ -1,10 +1,9 @@
-use mathlib.Core.Path.{_≡_, refl, sym, ap, _∙_}
-use mathlib.Core.List.{List, _∷_, map}
-use Prim.Native.Nat.{ℕ, _+_, _-_, _≤_, _<_}
+use mathlib.Core.Path.{_≡_, _∙_}
+use mathlib.Core.List.{map}
+use Prim.Native.Nat.{_+_, _-_, _≤_}
 use lib.ListN.{length, take, drop, getD}
 use borrow.Author.Tests.{eq-eqb, ne-eqb}
 use Rattle.meaning.specs.Base.{ok}
-use Rattle.meaning.specs.Graph.{Graph}
 use Rattle.meaning.specs.Listing.{tokenAs}
 use Rattle.meaning.specs.Blocks.{firstNames}
 use Rattle.borrow_graph.specs.Models.{graphOf}

@@ -1,11 +1,11 @@
 use mathlib.Core.Path.{_≡_, refl, sym, ap, _∙_}
-use mathlib.Core.List.{List, _∷_, _++_, map}
-use Prim.Native.Nat.{ℕ, _+_, _-_, _≤_, _<_}
+use mathlib.Core.List.{_∷_, _++_, map}
+use Prim.Native.Nat.{ℕ, _+_, _-_, _≤_}
 use lib.ListN.{length, take, drop, length-set}
 use Rattle.meaning.specs.State as S
 use Rattle.meaning.specs.Listing.{tokenAs}
 use Rattle.meaning.specs.Blocks.{firstLocals}
-use Rattle.abstract_state.specs.Models.{localOf, localsIn}
+use Rattle.abstract_state.specs.Models.{localOf}
 use Rattle.state_join.specs.LocalLaws.{written, all-written}
 use Rattle.state_join.specs.FirstLaws.{local-step, local-end}
 use native.Mathlib.Omega.{arith}

@@ -1,13 +1,12 @@
-use mathlib.Core.Path.{_≡_, ap, _∙_}
+use mathlib.Core.Path.{ap}
 use mathlib.Core.List.{map}
 use Prim.Native.Nat.{min}
 use lib.ListN.{take}
 use Rattle.meaning.specs.Listing.{tokenAs}
-use Rattle.meaning.specs.Running.{Running, Outcome, Answer, nonRef, answer}
+use Rattle.meaning.specs.Running.{Running, nonRef, answer}
 use Rattle.borrow_graph.specs.Models.{graphOf}
 use Rattle.abstract_state.specs.Models.{localsIn}
 use Rattle.state_join.specs.FirstLaws.{first-made}
-use native.Mathlib.Omega.{arith}
 use borrow.Author.Needs.{needs}
 use Rattle.state_join.proofs.first.new.Statement.{statement}
 use Rattle.state_join.proofs.first.new.Tie as tie

@@ -7,7 +7,6 @@ use Rattle.borrow_graph.specs.ModelLaws.{told-yes, told-no}
 use Rattle.abstract_state.specs.Models.{localsIn, stateOf}
 use Rattle.state_join.specs.Models.{Joins, changedBy}
 use Rattle.state_join.specs.JoinLaws.{changed-locals, changed-graph}
-use native.Mathlib.Omega.{arith}
 use borrow.Author.Needs.{needs}
 use Rattle.state_join.proofs.join.join.Statement.{statement}
 use Rattle.state_join.proofs.join.join.Tie as tie

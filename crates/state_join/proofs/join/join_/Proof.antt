@@ -1,12 +1,11 @@
 use mathlib.Core.Path.{_≡_, refl, sym, ap, _∙_}
-use Rattle.meaning.specs.Base.{Ans, ok, refuse}
-use Rattle.meaning.specs.State.{State, join, kept}
+use Rattle.meaning.specs.Base.{ok, refuse}
+use Rattle.meaning.specs.State.{join, kept}
 use Rattle.borrow_graph.specs.Models.{graphOf}
 use Rattle.borrow_graph.specs.ModelLaws.{told-yes, told-no}
 use Rattle.abstract_state.specs.Models.{stateOf}
 use Rattle.state_join.specs.Models.{partsOf}
 use Rattle.state_join.specs.JoinLaws.{join-early, join-late, joins-refused}
-use native.Mathlib.Omega.{arith}
 use borrow.Author.Needs.{needs}
 use Rattle.state_join.proofs.join.join_.Statement.{statement}
 use Rattle.state_join.proofs.join.join_.Tie as tie

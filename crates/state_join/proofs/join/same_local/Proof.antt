@@ -1,7 +1,6 @@
-use mathlib.Core.Path.{_≡_, _∙_}
+use mathlib.Core.Path.{_∙_}
 use Rattle.abstract_state.specs.Models.{operandOf}
 use Rattle.state_join.specs.JoinLaws.{same-present, same-absent}
-use native.Mathlib.Omega.{arith}
 use borrow.Author.Needs.{needs}
 use Rattle.state_join.proofs.join.same_local.Statement.{statement}
 use Rattle.state_join.proofs.join.same_local.Tie as tie

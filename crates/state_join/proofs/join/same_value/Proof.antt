@@ -1,4 +1,3 @@
-use native.Mathlib.Omega.{arith}
 use borrow.Author.Needs.{needs}
 use Rattle.state_join.proofs.join.same_value.Statement.{statement}
 use Rattle.state_join.proofs.join.same_value.Tie as tie

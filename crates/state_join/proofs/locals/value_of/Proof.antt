@@ -1,7 +1,5 @@
 use Rattle.abstract_state.specs.Models.{operandOf}
 use Rattle.state_join.specs.LocalLaws.{held-present, held-absent}
-use native.Mathlib.Omega.{arith}
-use borrow.Author.Needs.{needs}
 use Rattle.state_join.proofs.locals.value_of.Statement.{statement}
 use Rattle.state_join.proofs.locals.value_of.Tie as tie
 
