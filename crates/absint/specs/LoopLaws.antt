@@ -1,2 +1,96 @@
--- Laws of the loop.
-use Prim.Native.Nat.{ℕ}
+-- Blocks and statuses read one by one.
+use Prim.Native.Nat.{ℕ, zero, suc, _+_, _≤_, _<_}
+use native.Mathlib.Omega.{arith}
+use mathlib.Core.Path.{_≡_, refl, sym, ap, _∙_}
+use mathlib.Core.Bool.{Bool, true, false, cond}
+use mathlib.Core.List.{List, [], _∷_, map}
+use lib.Dec.{eqb, ltb}
+use native.Mathlib.Numerals.{add-one}
+use lib.Seq.{drop-cons}
+use lib.ListN.{length, take, drop, getD, set, replicate, length-map, length-take, drop-of-length-le}
+use Rattle.meaning.specs.ArrayLaws.{front-map-step, map-step}
+use Rattle.meaning.specs.Loop as M
+use Rattle.meaning.specs.Loop.{Status, fine, position, Verdict, violation, entryOf, lowestOf}
+use Rattle.meaning.specs.FitLaws.{lowestBy}
+use Rattle.listing.specs.Models.{blockOf, blocksIn}
+use Rattle.listing.specs.declared.Block.{Block}
+use Rattle.absint.specs.Models.{statusOf, statusesOf, lowestVerdict}
+use Rattle.absint.specs.declared.tally.BlockStatus.{BlockStatus}
+use Rattle.absint.specs.declared.tally.Tally.{Tally}
+use Rattle.absint.specs.declared.error.Lowest.{Lowest}
+
+-- what lies past the end of an array
+abbrev pub past-block : Block
+past-block = record { entry = record { 0 = 0 }; exit = record { 0 = 0 }; count = 0; first = record { 0 = 0 }; second = record { 0 = 0 } }
+
+abbrev pub past-status : BlockStatus
+past-status = record { failed = false; code = 0; offset = record { 0 = 0 } }
+
+module _ (xs : List Block) (n : ℕ) (w : length xs ≡ 16) (h : n ≤ 16) where
+  pub blocks-count : length (blocksIn xs n) ≡ n
+  unfolding blocksIn
+  blocks-count = simp (length-map, length-take) (omega (arith, w, h))
+
+  pub blocks-step : (i : ℕ) → i < n → drop i (blocksIn xs n) ≡ blockOf (getD xs i past-block) ∷ drop (i + 1) (blocksIn xs n)
+  unfolding blocksIn
+  blocks-step i k = front-map-step blockOf n xs past-block i (omega (arith, blocks-count, k))
+
+  pub blocks-end : (i : ℕ) → n ≤ i → drop i (blocksIn xs n) ≡ []
+  blocks-end i k = drop-of-length-le (blocksIn xs n) {i = i} (omega (arith, blocks-count, k))
+
+pub position-found : (e i : ℕ) (b : M.Block) (bs : List M.Block) (r : ℕ) → eqb e (b .entry) ≡ true → i + position (b ∷ bs) e ≡ r → i ≡ r
+unfolding position
+position-found e i b bs r q h = let z : i + 0 ≡ r = rw q at h in omega (arith, z)
+
+pub position-passed : (e i : ℕ) (b : M.Block) (bs : List M.Block) (r : ℕ) → eqb e (b .entry) ≡ false → i + position (b ∷ bs) e ≡ r → i + 1 + position bs e ≡ r
+unfolding position
+position-passed e i b bs r q h = let z : i + suc (position bs e) ≡ r = rw q at h in omega (arith, z)
+
+pub position-none : (e i r : ℕ) → i + position [] e ≡ r → i ≡ r
+unfolding position
+position-none e i r h = omega (arith, h)
+
+pub statuses-count : (t : Tally) → length (t .statuses) ≡ 16 → length (statusesOf t) ≡ 16
+unfolding statusesOf
+statuses-count t w = simp length-map w
+
+pub statuses-step : (t : Tally) (i : ℕ) → i < length (t .statuses) → drop i (statusesOf t) ≡ statusOf (getD (t .statuses) i past-status) ∷ drop (i + 1) (statusesOf t)
+unfolding statusesOf
+statuses-step t i h = map-step statusOf (t .statuses) i (getD (t .statuses) i past-status) (rw add-one (drop-cons (t .statuses) i past-status h))
+
+pub statuses-set : (t : Tally) (j : ℕ) (x : BlockStatus) → map statusOf (set (t .statuses) j x) ≡ set (statusesOf t) j (statusOf x)
+unfolding statusesOf
+statuses-set t j x = go (t .statuses) j
+  where
+    go : (l : List BlockStatus) (i : ℕ) → map statusOf (set l i x) ≡ set (map statusOf l) i (statusOf x)
+    go [] i = refl
+    go (y ∷ l) zero = refl
+    go (y ∷ l) (suc i) = ap (λ (r : List Status). statusOf y ∷ r) (go l i)
+
+pub lowest-step : (b : M.Block) (bs : List M.Block) (y : Status) (xs : List Status) (e : ℕ) (v : Verdict) → lowestBy (b ∷ bs) (y ∷ xs) e v ≡ lowestBy bs xs (entryOf (b .entry) y e v) (lowestOf (b .entry) y e v)
+unfolding lowestBy
+lowest-step b bs y xs e v = refl
+
+pub lowest-end : (xs : List Status) (e : ℕ) (v : Verdict) → lowestBy [] xs e v ≡ v
+unfolding lowestBy
+lowest-end xs e v = refl
+
+-- the error of a block against the lowest one so far
+module _ (l : Lowest) (e : ℕ) (x : BlockStatus) (f : x .failed ≡ true) where
+  pub lower-first : l .found ≡ false → (violation (x .code) (x .offset .0) ≡ lowestOf e (statusOf x) (l .entry .0) (lowestVerdict l)) × (e ≡ entryOf e (statusOf x) (l .entry .0) (lowestVerdict l))
+  lower-first g = rw (f, g) (refl, refl)
+
+  pub lower-new : l .found ≡ true → ltb e (l .entry .0) ≡ true → (violation (x .code) (x .offset .0) ≡ lowestOf e (statusOf x) (l .entry .0) (lowestVerdict l)) × (e ≡ entryOf e (statusOf x) (l .entry .0) (lowestVerdict l))
+  lower-new g h = rw (f, g, h) (refl, refl)
+
+  pub lower-old : l .found ≡ true → ltb e (l .entry .0) ≡ false → (lowestVerdict l ≡ lowestOf e (statusOf x) (l .entry .0) (lowestVerdict l)) × (l .entry .0 ≡ entryOf e (statusOf x) (l .entry .0) (lowestVerdict l))
+  lower-old g h = rw (f, g, h) (refl, refl)
+
+pub lower-none : (l : Lowest) (e : ℕ) (x : BlockStatus) → x .failed ≡ false → (lowestVerdict l ≡ lowestOf e (statusOf x) (l .entry .0) (lowestVerdict l)) × (l .entry .0 ≡ entryOf e (statusOf x) (l .entry .0) (lowestVerdict l))
+lower-none l e x f = rw f (refl, refl)
+
+-- no error yet
+pub all-fine : (n : ℕ) (x : Status) (j : ℕ) → x ≡ fine → getD (replicate n x) j fine ≡ fine
+all-fine zero x j e = refl
+all-fine (suc n) x zero e = e
+all-fine (suc n) x (suc j) e = all-fine n x j e

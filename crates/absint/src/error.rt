@@ -24,18 +24,20 @@ impl Lowest {
         ensures { λ r. ⌜ (lowestVerdict r ≡ lowestOf (e .0) (statusOf x) (self .entry .0) (lowestVerdict self)) × (r .entry .0 ≡ entryOf (e .0) (statusOf x) (self .entry .0) (lowestVerdict self)) ⌝ }
     {
         if x.failed {
-            if self.found {
-                if self.entry.0 <= e.0 {
-                    return self;
-                }
-            }
             let offset = x.offset;
-            return Self {
+            let new = Self {
                 found: true,
                 entry: e,
                 code: x.code,
                 offset,
             };
+            if self.found {
+                if self.entry.0 <= e.0 {
+                    return self;
+                }
+                return new;
+            }
+            return new;
         }
         self
     }

@@ -67,6 +67,7 @@ fn hand(
             let mut u = t.clear(j);
             if e.0 <= b.entry.0 {
                 u.next = j;
+                return u;
             }
             return u;
         }

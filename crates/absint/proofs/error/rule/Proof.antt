@@ -1,64 +1,61 @@
+use mathlib.Core.Path.{_≡_, refl, sym, ap, _∙_}
+use Prim.Native.Nat.{_-_, _+_}
+use lib.ListN.{length, drop, getD}
+use Rattle.records.proofs.Lists.{unmapped}
+use Rattle.meaning.specs.ArrayLaws.{length-of-map}
+use Rattle.meaning.specs.Loop as M
+use Rattle.meaning.specs.Loop.{accept, entryOf, lowestOf, Verdict}
+use Rattle.meaning.specs.FitLaws.{lowestBy}
+use Rattle.listing.specs.Models.{blockOf, blocksIn}
+use Rattle.absint.specs.Models.{statusesOf, statusOf, lowestVerdict}
+use Rattle.absint.specs.LoopLaws.{past-block, past-status, blocks-step, blocks-end, statuses-step, lowest-step, lowest-end}
+use native.Mathlib.Omega.{arith}
+use borrow.Author.Needs.{needs}
 use Rattle.absint.proofs.error.rule.Statement.{statement}
 use Rattle.absint.proofs.error.rule.Tie as tie
-use Rattle.absint.proofs.error.rule.Reads as reads
-use Rattle.absint.proofs.error.rule.Lts as lts
-use Rattle.absint.proofs.error.Lowest.lower.Reads as lower-reads
 
 abbrev Inv-loop : tie.InvT-loop
-Inv-loop n blocks t l₀ i₀ l i = ?
+Inv-loop n blocks t l₀ i₀ l i = lowestBy (drop i (blocksIn blocks n)) (drop i (statusesOf t)) (l .entry .0) (lowestVerdict l) ≡ lowestBy (blocksIn blocks n) (statusesOf t) 0 accept
 
 abbrev μ-loop : tie.MeasureT-loop
-μ-loop n blocks t l₀ i₀ l i = ?
+μ-loop n blocks t l₀ i₀ l i = n - i
 
--- src/error.rt:49:42
 cast-t15 : tie.Need-cast-t15 Inv-loop μ-loop
-cast-t15 c = ?
+cast-t15 c = omega arith
 
--- src/error.rt:49:9
 returns : tie.Need-returns Inv-loop μ-loop
-returns c = ?
+returns c = rw ((c .if1) .taken) refl
 
--- src/error.rt:58:5
 loop-holds : tie.Need-loop-holds Inv-loop μ-loop
-loop-holds c = ?
+loop-holds c = refl
 
--- src/error.rt:59:17
 mul-b : tie.Need-mul-b Inv-loop μ-loop
-mul-b c = ?
+mul-b c = omega arith
 
--- src/error.rt:59:17
 array-copy-out-b : tie.Need-array-copy-out-b Inv-loop μ-loop
-array-copy-out-b c = ?
+array-copy-out-b c = omega arith
 
--- src/error.rt:60:17
 mul-x : tie.Need-mul-x Inv-loop μ-loop
-mul-x c = ?
+mul-x c = omega arith
 
--- src/error.rt:60:17
 element-copy-out-x : tie.Need-element-copy-out-x Inv-loop μ-loop
-element-copy-out-x c = ?
+element-copy-out-x c = omega arith
 
--- src/error.rt:62:9
 lower-requires : tie.Need-lower-requires Inv-loop μ-loop
-lower-requires c κs = ?
+lower-requires c κs = search needs
 
--- src/error.rt:63:9
 add-i : tie.Need-add-i Inv-loop μ-loop
-add-i c = ?
+add-i c = omega arith
 
--- src/error.rt:58:5
 loop-less : tie.Need-loop-less Inv-loop μ-loop
-loop-less c = ?
+loop-less c = omega arith
 
--- src/error.rt:58:5
 loop-again : tie.Need-loop-again Inv-loop μ-loop
 loop-again c = ?
 
--- src/error.rt:67:9
 returns-2 : tie.Need-returns-2 Inv-loop μ-loop
 returns-2 c = ?
 
--- src/error.rt:44:1
 returns-3 : tie.Need-returns-3 Inv-loop μ-loop
 returns-3 c = ?
 

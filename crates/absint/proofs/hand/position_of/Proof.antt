@@ -1,45 +1,53 @@
+use mathlib.Core.Path.{_≡_, refl, sym, ap}
+use mathlib.Core.List.{List}
+use Prim.Native.Nat.{_+_, _-_}
+use borrow.Author.Tests.{eq-eqb, ne-eqb}
+use lib.ListN.{length, drop, getD}
+use Rattle.records.proofs.Lists.{unmapped}
+use Rattle.meaning.specs.Loop as M
+use Rattle.meaning.specs.Loop.{position}
+use Rattle.listing.specs.Models.{blockOf, blocksIn}
+use Rattle.absint.specs.LoopLaws.{past-block, blocks-step, blocks-end, position-found, position-passed, position-none}
+use native.Mathlib.Omega.{arith}
+use borrow.Author.Needs.{needs}
 use Rattle.absint.proofs.hand.position_of.Statement.{statement}
 use Rattle.absint.proofs.hand.position_of.Tie as tie
-use Rattle.absint.proofs.hand.position_of.Reads as reads
-use Rattle.absint.proofs.hand.position_of.Lts as lts
 
 abbrev Inv-loop : tie.InvT-loop
-Inv-loop n e blocks i₀ i = ?
+Inv-loop n e blocks i₀ i = i + position (drop i (blocksIn blocks n)) (e .0) ≡ position (blocksIn blocks n) (e .0)
 
 abbrev μ-loop : tie.MeasureT-loop
-μ-loop n e blocks i₀ i = ?
+μ-loop n e blocks i₀ i = n - i
 
--- src/hand.rt:25:5
 loop-holds : tie.Need-loop-holds Inv-loop μ-loop
-loop-holds c = ?
+loop-holds c = omega arith
 
--- src/hand.rt:26:17
 mul-b : tie.Need-mul-b Inv-loop μ-loop
-mul-b c = ?
+mul-b c = omega arith
 
--- src/hand.rt:26:17
 array-copy-out-b : tie.Need-array-copy-out-b Inv-loop μ-loop
-array-copy-out-b c = ?
+array-copy-out-b c = omega arith
 
--- src/hand.rt:28:13
 returns : tie.Need-returns Inv-loop μ-loop
-returns c = ?
+returns c =
+    let full : length ((c .before .before .before .before .before .before .args) .t1) ≡ 16 = search (unmapped) in
+    position-found ((c .before .before .before .before .before .before .args) .e .0) ((c .before .before .before .before .before .loop) .i) (blockOf (getD ((c .before .before .before .before .before .before .args) .t1) ((c .before .before .before .before .before .loop) .i) past-block)) (drop ((c .before .before .before .before .before .loop) .i + 1) (blocksIn ((c .before .before .before .before .before .before .args) .t1) ((c .before .before .before .before .before .before .args) .n))) _ (eq-eqb _ _ ((c .if1) .taken)) (rw (blocks-step ((c .before .before .before .before .before .before .args) .t1) ((c .before .before .before .before .before .before .args) .n) full ((c .before .before .before .before .before .before .pre)) ((c .before .before .before .before .before .loop) .i) ((c .before .before .before .before .loop-test) .taken)) at ((c .before .before .before .before .before .loop) .inv))
 
--- src/hand.rt:30:9
 add-i : tie.Need-add-i Inv-loop μ-loop
-add-i c = ?
+add-i c = omega arith
 
--- src/hand.rt:25:5
 loop-less : tie.Need-loop-less Inv-loop μ-loop
-loop-less c = ?
+loop-less c = omega arith
 
--- src/hand.rt:25:5
 loop-again : tie.Need-loop-again Inv-loop μ-loop
-loop-again c = ?
+loop-again c =
+    let full : length ((c .before .before .before .before .before .before .args) .t1) ≡ 16 = search (unmapped) in
+    position-passed ((c .before .before .before .before .before .before .args) .e .0) ((c .before .before .before .before .before .loop) .i) (blockOf (getD ((c .before .before .before .before .before .before .args) .t1) ((c .before .before .before .before .before .loop) .i) past-block)) (drop ((c .before .before .before .before .before .loop) .i + 1) (blocksIn ((c .before .before .before .before .before .before .args) .t1) ((c .before .before .before .before .before .before .args) .n))) _ (ne-eqb _ _ ((c .if1) .left)) (rw (blocks-step ((c .before .before .before .before .before .before .args) .t1) ((c .before .before .before .before .before .before .args) .n) full ((c .before .before .before .before .before .before .pre)) ((c .before .before .before .before .before .loop) .i) ((c .before .before .before .before .loop-test) .taken)) at ((c .before .before .before .before .before .loop) .inv))
 
--- src/hand.rt:20:1
 returns-2 : tie.Need-returns-2 Inv-loop μ-loop
-returns-2 c = ?
+returns-2 c =
+    let full : length ((c .before .before .args) .t1) ≡ 16 = search (unmapped) in
+    position-none ((c .before .before .args) .e .0) ((c .before .loop) .i) _ (rw (blocks-end ((c .before .before .args) .t1) ((c .before .before .args) .n) full ((c .before .before .pre)) ((c .before .loop) .i) ((c .loop-test) .left)) at ((c .before .loop) .inv))
 
 pub position-of-spec : {M : Type 1} → statement M
 position-of-spec =

@@ -1,11 +1,13 @@
+use mathlib.Core.Path.{refl}
+use Rattle.meaning.specs.Loop.{fine}
+use Rattle.absint.specs.Models.{statusesOf}
+use Rattle.absint.specs.LoopLaws.{all-fine}
 use Rattle.absint.proofs.tally.Tally.start.Statement.{statement}
 use Rattle.absint.proofs.tally.Tally.start.Tie as tie
-use Rattle.absint.proofs.tally.Tally.start.Reads as reads
-use Rattle.absint.proofs.tally.Tally.start.Lts as lts
 
--- src/tally.rt:27:5
 returns : tie.Need-returns
-returns c = ?
+unfolding statusesOf
+returns c = record { next = refl; fines = λ j. ?; visits = refl; turns = refl }
 
 pub start-spec : {M : Type 1} → statement M
 start-spec = tie.close (tie.spec returns)
