@@ -7,11 +7,13 @@ use mathlib.Core.List.{List, [], _∷_, map}
 use lib.ListN.{length, getD}
 use lib.Dec.{eqb}
 use Rattle.meaning.specs.Base.{Ans, ok, refuse}
-use Rattle.meaning.specs.Sets.{Edge, EdgeSet, insert, covers, eqEdge, eqPath, prefix, has, put, ltEdge, ltPath, setOk, ordered, short, isBlur}
+use Rattle.meaning.specs.Sets.{Edge, EdgeSet, emptySet, insert, covers, eqEdge, eqPath, prefix, has, put, ltEdge, ltPath, setOk, ordered, short, isBlur}
 use Rattle.meaning.specs.Graph.{Graph, Name, GEdge, splice, setAt, release, wellFormed, holds, spliced, without, addAll, addEdge, setTo, limit, ascending, inOrder, between, unmatched, sameNames, joinGraphs}
+use Rattle.meaning.specs.Labels.{fieldLabel}
+use Rattle.meaning.specs.Borrow.{borrowStrong}
 use Rattle.meaning.specs.State.{Local, absent, value, ref, State, join, joinLocal, joinLocals, changed, eqLocals, eqSets, eqSet, eqEdges, changes, count1}
 use Rattle.meaning.specs.Loop.{Result, ended, violated, refused, Block, Run, run, visits, verdict, lowest, Verdict, violation, accept, spread, step, steps, startSlots, position}
-use Rattle.meaning.specs.Marked.{name, strong}
+use Rattle.meaning.specs.Marked.{name, strong, weak, single, isSets}
 
 -- L = 2: both locals are references; local 0 borrows the root by field n, local 1 borrows local 0 by field 7
 with-field : ℕ → State
@@ -47,3 +49,8 @@ two = record { entry = 0; exit = 0; successors = 1 ∷ [] } ∷ record { entry =
 loops : visits (run ℕ top (λ a b. not (eqb a b)) (λ i s. ended (suc s)) two 100 0) ≡ 6
 unfolding run steps step spread startSlots position
 loops = refl
+
+-- a strong borrow moves the weak edges below it too
+factors : isSets (borrowStrong (record { names = name 0 ∷ name 1 ∷ name 2 ∷ []; edges = between 0 (weak (1 ∷ 2 ∷ [])) 2 ∷ [] }) 0 (fieldLabel 1 ∷ []) 1) (single 0 1 (strong (1 ∷ [])) ∷ single 1 2 (weak (2 ∷ [])) ∷ record { parent = 0; child = 2; set = emptySet } ∷ []) ≡ true
+unfolding name borrowStrong insert eqEdge eqPath prefix has put ltEdge ltPath setAt wellFormed holds addAll addEdge setTo limit ascending setOk ordered short inOrder isBlur eqSet eqEdges
+factors = refl
