@@ -1,29 +1,28 @@
 -- Laws of shapes, of the tests of a record, and of the records in turn.
 -- Assumes nothing.
 use mathlib.Core.Path.{_≡_, refl, sym, ap, _∙_}
-use mathlib.Core.Bool.{Bool, true, false, not, _&&_, and-assoc, and-true, Bool·beq}
+use mathlib.Core.Bool.{Bool, true, false, not, _&&_, _||_, cond, and-assoc, and-true, Bool·beq}
 use mathlib.Core.List.{List, [], _∷_}
-use Prim.Native.Nat.{ℕ, zero, suc, _+_, _-_, _≤_, _<_}
+use Prim.Native.Nat.{ℕ, zero, suc, _+_, _*_, _-_, _/_, _%_, _≤_, _<_}
 use native.Mathlib.Numerals.{add-one}
 use native.Mathlib.Omega.{arith}
-use lib.ListN.{length, take, drop, getD, set, length-take, length-drop, drop-of-length-le, List·getD-eq-default}
-use lib.Seq.{drop-cons, drop-drop, getD-take, take-suc-set, take-all, length-take-le}
-use lib.Dec.{leb, eqb}
-use borrow.Author.Tests.{lt-leb, lt-ltb, le-ltb, eq-eqb, ne-eqb}
-use Rattle.meaning.specs.Base.{all, leb-le, le-leb, and-i, and-l, and-r, not-true, empty}
+use lib.ListN.{length, take, drop, getD, set, length-drop, List·getD-eq-default}
+use lib.Seq.{drop-drop, take-suc-set, take-all, length-take-le}
+use lib.Dec.{leb, ltb, eqb}
+use borrow.Author.Tests.{lt-leb, lt-ltb, le-ltb, eq-eqb, ne-eqb, ltb-true, ltb-false, not-false}
+use Rattle.meaning.specs.Base.{all, decide, leb-le, le-leb, and-i, and-l, and-r, not-true, empty}
 use Rattle.meaning.specs.Listing as D
 use Rattle.meaning.specs.ListingLaws.{places-step}
-use Rattle.records.specs.declared.shapes.Shape.{Shape}
 use Rattle.records.specs.declared.Cursor.{Cursor}
 use Rattle.records.specs.declared.Found.the-variants.{Record, Short, End}
 use Rattle.records.specs.declared.Test.{Test}
 use Rattle.records.specs.declared.Places.{Places}
-use Rattle.records.specs.Models.{fieldList, fieldOf, fieldsIn, pickRead, readAt, bodyFault, Tested, placesOf}
-use Rattle.records.proofs.Lists.{counted, within-list}
+use Rattle.records.specs.Models.{fieldList, fieldOf, packed, limitOf, pickRead, readAt, bodyFault, Tested, placesOf}
+use Rattle.records.proofs.Lists.{or-none, leb-iff}
 
 -- ---- fields
 
-pub frame-else : (f : ℕ) → 8 ≤ f → fieldOf f ≡ D.Field.frame
+pub frame-else : (f : ℕ) → 9 ≤ f → fieldOf f ≡ D.Field.frame
 frame-else f h = List·getD-eq-default fieldList D.Field.frame {n = f} h
 
 -- a kind of no row
@@ -38,42 +37,56 @@ unused k (r ∷ rs) h =
 
 -- ---- a body field by field: what is left from field k and byte i on gives the answer r
 
-module _ (l : ℕ) (fs : List D.Field) (b : List ℕ) (k i w : ℕ) (f : D.Field) (here : drop k fs ≡ f ∷ drop (k + 1) fs) (wide : w ≡ D.width f (drop i b)) where
-  pub fit-wide : (r : Bool) → D.fitsBody l (drop k fs) (drop i b) ≡ r → length (drop i b) < w → false ≡ r
+module _ (l : ℕ) (fs gs : List D.Field) (b : List ℕ) (i w : ℕ) (f : D.Field) (here : fs ≡ f ∷ gs) (wide : w ≡ D.width f (drop i b)) where
+  pub fit-wide : (r : Bool) → D.fitsBody l fs (drop i b) ≡ r → length (drop i b) < w → false ≡ r
   unfolding D.fitsBody
   fit-wide r e h =
       let n : leb (D.width f (drop i b)) (length (drop i b)) ≡ false = lt-leb _ _ (rw wide at h) in
       rw (here, n) at e
 
-  pub fit-wrong : (r : Bool) → D.fitsBody l (drop k fs) (drop i b) ≡ r → w ≤ length (drop i b) → D.right l f (drop i b) ≡ false → false ≡ r
+  pub fit-wrong : (r : Bool) → D.fitsBody l fs (drop i b) ≡ r → w ≤ length (drop i b) → D.right l f (drop i b) ≡ false → false ≡ r
   unfolding D.fitsBody
   fit-wrong r e h q =
       let n : leb (D.width f (drop i b)) (length (drop i b)) ≡ true = le-leb (rw wide at h) in
       rw (here, n, q) at e
 
-  pub fit-turn : (r : Bool) → D.fitsBody l (drop k fs) (drop i b) ≡ r → w ≤ length (drop i b) → D.right l f (drop i b) ≡ true
-      → D.fitsBody l (drop (k + 1) fs) (drop (i + w) b) ≡ r
+  pub fit-turn : (r : Bool) → D.fitsBody l fs (drop i b) ≡ r → w ≤ length (drop i b) → D.right l f (drop i b) ≡ true
+      → D.fitsBody l gs (drop (i + w) b) ≡ r
   unfolding D.fitsBody
   fit-turn r e h q =
       let n : leb (D.width f (drop i b)) (length (drop i b)) ≡ true = le-leb (rw wide at h) in
-      let g : D.fitsBody l (drop (k + 1) fs) (drop (D.width f (drop i b)) (drop i b)) ≡ r = rw (here, n, q) at e in
+      let g : D.fitsBody l gs (drop (D.width f (drop i b)) (drop i b)) ≡ r = rw (here, n, q) at e in
       rw (← drop-drop w i b, wide) g
 
-  pub within-turn : (x y r : Bool) → (x && D.withinLimits (drop k fs) (drop i b)) ≡ r → y ≡ D.within f (drop i b)
-      → ((x && y) && D.withinLimits (drop (k + 1) fs) (drop (i + w) b)) ≡ r
+  pub within-turn : (x y r : Bool) → (x && D.withinLimits fs (drop i b)) ≡ r → y ≡ D.within f (drop i b)
+      → ((x && y) && D.withinLimits gs (drop (i + w) b)) ≡ r
   unfolding D.withinLimits
   within-turn x y r e q =
-      let g : (x && (D.within f (drop i b) && D.withinLimits (drop (k + 1) fs) (drop (D.width f (drop i b)) (drop i b)))) ≡ r = rw here at e in
+      let g : (x && (D.within f (drop i b) && D.withinLimits gs (drop (D.width f (drop i b)) (drop i b)))) ≡ r = rw here at e in
       rw (← drop-drop w i b, wide, q, and-assoc) g
 
-module _ (l : ℕ) (fs : List D.Field) (b : List ℕ) (k i : ℕ) (past : drop k fs ≡ []) where
-  pub fit-over : (r : Bool) → D.fitsBody l (drop k fs) (drop i b) ≡ r → i < length b → false ≡ r
+  -- the test of the code: the field runs past the end, or is not right
+  module _ (n : ℕ) (q : Bool) (left : n ≡ length (drop i b)) where
+    pub fit-stop : (r : Bool) → D.fitsBody l fs (drop i b) ≡ r → (D.width f (drop i b) ≤ length (drop i b) → q ≡ D.right l f (drop i b))
+        → (ltb n w || not q) ≡ true → false ≡ r
+    fit-stop r e t h =
+        decide (ltb n w)
+        (λ y. fit-wide r e (rw left at (ltb-true n w y)))
+        (λ m. let a : w ≤ length (drop i b) = (rw left at (ltb-false n w m)) in let z : not q ≡ true = rw m at h in fit-wrong r e a (sym (t (rw wide at a)) ∙ not-true z))
+
+    pub fit-go : (ltb n w || not q) ≡ false → (w ≤ length (drop i b)) × (q ≡ true)
+    fit-go h =
+        let v : (ltb n w ≡ false) × (not q ≡ false) = or-none (ltb n w) (not q) h in
+        (rw left at (ltb-false n w (v .0)), not-false q (v .1))
+
+module _ (l : ℕ) (fs : List D.Field) (b : List ℕ) (i : ℕ) (past : fs ≡ []) where
+  pub fit-over : (r : Bool) → D.fitsBody l fs (drop i b) ≡ r → i < length b → false ≡ r
   unfolding D.fitsBody
   fit-over r e h =
       let n : eqb (length (drop i b)) 0 ≡ false = ne-eqb _ 0 (λ (z : length (drop i b) ≡ 0). let d : length (drop i b) ≡ length b - i = length-drop i b in omega arith) in
       rw (past, n) at e
 
-  pub fit-done : (r : Bool) → D.fitsBody l (drop k fs) (drop i b) ≡ r → length b ≤ i → true ≡ r
+  pub fit-done : (r : Bool) → D.fitsBody l fs (drop i b) ≡ r → length b ≤ i → true ≡ r
   unfolding D.fitsBody
   fit-done r e h =
       let d : length (drop i b) ≡ length b - i = length-drop i b in
@@ -81,19 +94,89 @@ module _ (l : ℕ) (fs : List D.Field) (b : List ℕ) (k i : ℕ) (past : drop k
       let n : eqb (length (drop i b)) 0 ≡ true = eq-eqb _ 0 z in
       rw (past, n) at e
 
-  pub within-done : (x r : Bool) → (x && D.withinLimits (drop k fs) (drop i b)) ≡ r → x ≡ r
+  pub within-done : (x r : Bool) → (x && D.withinLimits fs (drop i b)) ≡ r → x ≡ r
   unfolding D.withinLimits
   within-done x r e = sym (and-true x) ∙ (rw past at e)
 
+-- every field takes a byte
+pub some-width : (f : D.Field) (b : List ℕ) → 0 < D.width f b
+some-width (D.Field.byte r m) b = omega arith
+some-width D.Field.word b = omega arith
+some-width D.Field.local b = omega arith
+some-width (D.Field.words r m) b = omega arith
+some-width (D.Field.tokens m) b = omega arith
+some-width D.Field.frame b = omega arith
+
+below : (x n : ℕ) → ltb x (n + 1) ≡ leb x n
+below x n = leb-iff (suc x) (n + 1) x n (λ h. omega arith) (λ h. omega arith)
+
+-- ---- fields of a fixed width: by their numbers, 0 to 5
+
+module _ (l : ℕ) (b : List ℕ) (x : ℕ) (first : x ≡ getD b 0 0) (byte : x < 256) where
+  pub plain-right : (f : ℕ) → f ≤ 5 → ltb x (limitOf l f) ≡ D.right l (fieldOf f) b
+  plain-right zero h = below x 0 ∙ ap (λ (n : ℕ). leb n 0) first
+  plain-right (suc zero) h = below x 1 ∙ ap (λ (n : ℕ). leb n 1) first
+  plain-right (suc (suc zero)) h = below x 2 ∙ ap (λ (n : ℕ). leb n 2) first
+  plain-right (suc (suc (suc zero))) h = below x 255 ∙ ap (λ (n : ℕ). leb n 255) first
+  plain-right (suc (suc (suc (suc zero)))) h = ap (λ (n : ℕ). ltb n l) first
+  plain-right (suc (suc (suc (suc (suc zero))))) h = lt-ltb x 256 byte
+  plain-right (suc (suc (suc (suc (suc (suc f)))))) h = absurd (omega arith)
+
+  pub plain-width : (f : ℕ) → f ≤ 5 → 1 + f / 5 ≡ D.width (fieldOf f) b
+  plain-width zero h = refl
+  plain-width (suc zero) h = refl
+  plain-width (suc (suc zero)) h = refl
+  plain-width (suc (suc (suc zero))) h = refl
+  plain-width (suc (suc (suc (suc zero)))) h = refl
+  plain-width (suc (suc (suc (suc (suc zero))))) h = refl
+  plain-width (suc (suc (suc (suc (suc (suc f)))))) h = absurd (omega arith)
+
+  pub plain-within : (f : ℕ) → f ≤ 5 → D.right l (fieldOf f) b ≡ true → (not (eqb f 3) || leb x 16) ≡ D.within (fieldOf f) b
+  plain-within zero h r = sym r
+  plain-within (suc zero) h r = sym r
+  plain-within (suc (suc zero)) h r = sym r
+  plain-within (suc (suc (suc zero))) h r = ap (λ (n : ℕ). leb n 16) first
+  plain-within (suc (suc (suc (suc zero)))) h r = refl
+  plain-within (suc (suc (suc (suc (suc zero))))) h r = refl
+  plain-within (suc (suc (suc (suc (suc (suc f)))))) h r = absurd (omega arith)
+
+pub limit-low : (l f : ℕ) → f < 3 → f + 1 ≡ limitOf l f
+limit-low l zero h = refl
+limit-low l (suc zero) h = refl
+limit-low l (suc (suc zero)) h = refl
+limit-low l (suc (suc (suc f))) h = absurd (omega arith)
+
+pub limit-high : (l f : ℕ) → (f ≡ 4 → ⊥) → 3 ≤ f → 256 ≡ limitOf l f
+limit-high l zero n h = absurd (omega arith)
+limit-high l (suc zero) n h = absurd (omega arith)
+limit-high l (suc (suc zero)) n h = absurd (omega arith)
+limit-high l (suc (suc (suc zero))) n h = refl
+limit-high l (suc (suc (suc (suc zero)))) n h = absurd (n refl)
+limit-high l (suc (suc (suc (suc (suc f))))) n h = refl
+
 -- ---- shapes
 
-pub fields-here : (r : Shape) (k : ℕ) → length (r .fields) ≡ 4 → r .count ≤ 4 → k < r .count
-    → drop k (fieldsIn r) ≡ fieldOf (getD (r .fields) k 0) ∷ drop (k + 1) (fieldsIn r)
-fields-here r k full few h =
-    let f : r .count ≤ length (r .fields) = omega arith in
-    let l : k < length (fieldsIn r) = rw (counted fieldOf (r .fields) (r .count) f) h in
-    drop-cons (fieldsIn r) k D.Field.frame l
-    ∙ rw (add-one, within-list fieldOf 0 D.Field.frame (take (r .count) (r .fields)) k (simp length-take (omega arith)), getD-take (r .count) (r .fields) k 0 h)
+-- sixteen to the n
+abbrev room : ℕ → ℕ
+room zero = 1
+room (suc n) = 16 * room n
+
+-- a number of n digits has n fields at most
+packed-more : (n x : ℕ) → x < room n → packed n x ≡ packed (suc n) x
+unfolding packed
+packed-more zero x h = let z : eqb x 0 ≡ true = eq-eqb x 0 (omega arith) in rw z
+packed-more (suc n) x h = ap (λ (fs : List D.Field). cond (eqb x 0) [] (fieldOf (x % 16) ∷ fs)) (packed-more n (x / 16) (omega arith))
+
+pub fields-here : (x : ℕ) → x < 65536 → (x ≡ 0 → ⊥) → packed 4 x ≡ fieldOf (x % 16) ∷ packed 4 (x / 16)
+unfolding packed
+fields-here x h z =
+    let n : eqb x 0 ≡ false = ne-eqb x 0 z in
+    let m : packed 3 (x / 16) ≡ packed 4 (x / 16) = packed-more 3 (x / 16) (omega arith) in
+    rw n (ap (λ (fs : List D.Field). fieldOf (x % 16) ∷ fs) m)
+
+pub fields-end : (x : ℕ) → x ≡ 0 → packed 4 x ≡ []
+unfolding packed
+fields-end x z = rw z
 
 -- a kind that is not in use
 pub unused-kind : (k : ℕ) → (k ≡ 1 → ⊥) → (k ≡ 2 → ⊥) → ((j : ℕ) → 10 ≤ j → j ≤ 27 → k ≡ j → ⊥) → (D.known k ≡ false) × (D.fieldsOf k ≡ [])
@@ -113,11 +196,6 @@ unused-kind k a b far = unused k D.shapes tests
         (and-i (no 22 (omega arith) (omega arith)) (and-i (no 23 (omega arith) (omega arith)) (and-i (no 24 (omega arith) (omega arith))
         (and-i (no 25 (omega arith) (omega arith)) (and-i (no 26 (omega arith) (omega arith)) (and-i (no 27 (omega arith) (omega arith))
         refl)))))))))))))))))))
-
-pub fields-end : (r : Shape) (k : ℕ) → length (r .fields) ≡ 4 → r .count ≤ 4 → r .count ≤ k → drop k (fieldsIn r) ≡ []
-fields-end r k full few h =
-    let f : r .count ≤ length (r .fields) = omega arith in
-    drop-of-length-le (fieldsIn r) {i = k} (rw (counted fieldOf (r .fields) (r .count) f) h)
 
 -- ---- the tests of a record
 

@@ -1,12 +1,13 @@
 -- What the structs of the code mean in the definitions.
-use Prim.Native.Nat.{ℕ, _≤_, _<_}
+use Prim.Native.Nat.{ℕ, zero, suc, _/_, _%_, _≤_, _<_}
 use mathlib.Core.Path.{_≡_}
-use mathlib.Core.Bool.{Bool, true, false}
-use mathlib.Core.List.{List, [], _∷_, map}
+use mathlib.Core.Bool.{Bool, true, false, cond}
+use mathlib.Core.List.{List, [], _∷_}
 use lib.ListN.{length, getD, take}
 use lib.Dec.{leb, eqb}
 use Rattle.meaning.specs.Listing as D
 use Rattle.records.specs.declared.shapes.Shape.{Shape}
+use Rattle.records.specs.declared.Field.{Field}
 use Rattle.records.specs.declared.Found.{Found}
 use Rattle.records.specs.declared.Found.the-variants.{Record, Short, End}
 use Rattle.records.specs.declared.Test.{Test}
@@ -14,14 +15,15 @@ use Rattle.records.specs.declared.Places.{Places}
 
 -- ---- shapes
 
--- the fields by their numbers in the code
+-- the fields by their numbers in the code, from 1 on
 abbrev pub fieldList : List D.Field
 fieldList =
-    D.flag
+    D.Field.byte 0 0
+    ∷ D.flag
     ∷ D.token
     ∷ D.Field.byte 255 16
-    ∷ D.Field.word
     ∷ D.Field.local
+    ∷ D.Field.word
     ∷ D.Field.words 2 2
     ∷ D.Field.words 255 16
     ∷ D.Field.tokens 8
@@ -30,8 +32,13 @@ fieldList =
 abbrev pub fieldOf : ℕ → D.Field
 fieldOf f = getD fieldList f D.Field.frame
 
+-- the fields that the digits of a number are, the last one first, at most n of them
+unfoldable pub packed : ℕ → ℕ → List D.Field
+packed zero x = []
+packed (suc n) x = cond (eqb x 0) [] (fieldOf (x % 16) ∷ packed n (x / 16))
+
 abbrev pub fieldsIn : Shape → List D.Field
-fieldsIn r = map fieldOf (take (r .count) (r .fields))
+fieldsIn r = packed 4 (r .fields)
 
 -- the kinds, as the rows of the code's table stand
 abbrev pub kinds : List ℕ
@@ -46,7 +53,16 @@ pub record RowFor (kind r : ℕ) : Type 0 where
 pub record ShapeFor (kind : ℕ) (r : Shape) : Type 0 where
   pub known : r .known ≡ D.known kind
   pub fields : fieldsIn r ≡ D.fieldsOf kind
-  pub few : r .count ≤ 4
+
+-- the least number that a field of a fixed width may not start with
+abbrev pub limitOf : ℕ → ℕ → ℕ
+limitOf l f = getD (1 ∷ 2 ∷ 3 ∷ 256 ∷ l ∷ []) f 256
+
+-- what the tests of a field that starts these bytes say
+pub record FieldFor (l : ℕ) (f : D.Field) (b : List ℕ) (r : Field) : Type 0 where
+  pub width : r .width ≡ D.width f b
+  pub right : D.width f b ≤ length b → r .right ≡ D.right l f b
+  pub within : D.right l f b ≡ true → r .within ≡ D.within f b
 
 -- ---- records
 

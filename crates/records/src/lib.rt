@@ -18,13 +18,13 @@ use shapes::Shape;
 use shapes::TOKEN;
 use shapes::WORD;
 ghost use mathlib.Core.Path.{_≡_};
-ghost use Prim.Native.Nat.{_≤_, _<_};
+ghost use Prim.Native.Nat.{_+_, _≤_, _<_};
 ghost use mathlib.Core.Bool.{not, Bool·beq};
 ghost use lib.Dec.{eqb};
-ghost use lib.ListN.{length, getD};
+ghost use lib.ListN.{length, getD, take, drop};
 ghost use Rattle.meaning.specs.Base.{all};
-ghost use Rattle.meaning.specs.Listing.{u16At, wholeAt, bodyAt, localsOf, isToken, width, right, within, noPlaces, placesFrom, readPlaces};
-ghost use Rattle.records.specs.Models.{readAt, fieldOf, fieldsIn, bodyFault, Tested, placesOf};
+ghost use Rattle.meaning.specs.Listing.{u16At, wholeAt, bodyAt, localsOf, isToken, noPlaces, placesFrom, readPlaces};
+ghost use Rattle.records.specs.Models.{readAt, fieldOf, fieldsIn, limitOf, FieldFor, bodyFault, Tested, placesOf};
 
 pub struct Cursor {
     pub at: usize,
@@ -60,15 +60,25 @@ pub fn place(p: u16) -> usize
     p as usize
 }
 
+// Two bytes that are there, little-endian.
+fn u16_in(s: &[u8], i: usize) -> u16
+    requires { ⌜ i + 2 ≤ length (now s) ⌝ }
+    ensures { λ r. ⌜ r ≡ u16At (now (s .entry)) i ⌝ }
+{
+    wide(s[i]) + 256 * wide(s[i + 1])
+}
+
 // Two bytes, little-endian; 0 for those past the end.
 pub fn u16_at(s: &[u8], i: usize) -> u16
     ensures { λ r. ⌜ r ≡ u16At (now (s .entry)) i ⌝ }
 {
-    if i < s.len() {
-        wide(s[i]) + 256 * wide(byte_at(s, i + 1))
-    } else {
-        0
+    if s.len() <= i {
+        return 0;
     }
+    if s.len() - i == 1 {
+        return wide(s[i]);
+    }
+    u16_in(s, i)
 }
 
 // That no record at this place ends too early.
@@ -79,7 +89,10 @@ fn whole_at(s: &[u8], at: usize) -> bool
         return false;
     }
     let left = s.len() - at;
-    let len = u16_at(s, at) as usize;
+    if left < 4 {
+        return false;
+    }
+    let len = u16_in(s, at) as usize;
     4 + len <= left
 }
 
@@ -91,8 +104,8 @@ pub fn read(s: &[u8], c: Cursor) -> Found
         return Found::End;
     }
     if whole_at(s, at) {
-        let kind = u16_at(s, at + 2);
-        let next = at + 4 + u16_at(s, at) as usize;
+        let kind = u16_in(s, at + 2);
+        let next = at + 4 + u16_in(s, at) as usize;
         Found::Record {
             kind,
             next: Cursor { at: next },
@@ -118,24 +131,6 @@ pub fn body<'a>(s: &'a [u8], c: Cursor) -> &'a [u8]
 
 // ---- the tests of a body
 
-// The bytes that a field takes that starts these bytes.
-fn width_of(b: &[u8], f: u8) -> usize
-    ensures { λ r. ⌜ r ≡ width (fieldOf f) (now (b .entry)) ⌝ }
-{
-    let n = byte_at(b, 0) as usize;
-    match f {
-        FLAG => 1,
-        TOKEN => 1,
-        PARAMETERS => 1,
-        WORD => 2,
-        LOCAL => 1,
-        SUCCESSORS => 1 + 2 * n,
-        ACQUIRED => 1 + 2 * n,
-        RETURNS => 1 + n,
-        _ => 2 + n,
-    }
-}
-
 fn tokens_only(b: &[u8]) -> bool
     ensures { λ r. ⌜ r ≡ all isToken (now (b .entry)) ⌝ }
 {
@@ -149,71 +144,96 @@ fn tokens_only(b: &[u8]) -> bool
     true
 }
 
-// That the field that starts these bytes, and does not run past their end, holds what it may (refusal 3).
-fn is_right(b: &[u8], f: u8, locals: u8) -> bool
-    requires { ⌜ width (fieldOf f) (now b) ≤ length (now b) ⌝ }
-    ensures { λ r. ⌜ r ≡ right locals (fieldOf f) (now (b .entry)) ⌝ }
+// That the n bytes from a place on are there, and are tokens.
+fn tokens_from(b: &[u8], i: usize, n: usize) -> bool
+    requires { ⌜ i + n ≤ 65536 ⌝ }
+    ensures { λ r. ⌜ (i + n ≤ length (now (b .entry)) → r ≡ all isToken (take n (drop i (now (b .entry))))) ⌝ }
 {
-    let first = byte_at(b, 0);
-    match f {
-        FLAG => first <= 1,
-        TOKEN => first <= 2,
-        PARAMETERS => true,
-        WORD => true,
-        LOCAL => first < locals,
-        SUCCESSORS => first <= 2,
-        ACQUIRED => true,
-        RETURNS => {
-            let end = 1 + first as usize;
-            tokens_only(&b[1..end])
-        }
-        _ => {
-            let end = 2 + first as usize;
-            (first <= byte_at(b, 1)) & tokens_only(&b[2..end])
-        }
+    let end = i + n;
+    if b.len() < end {
+        return false;
+    }
+    tokens_only(&b[i..end])
+}
+
+// The least number that a field of a fixed width may not start with.
+fn limit_of(f: u16, locals: u8) -> u16
+    ensures { λ r. ⌜ r ≡ limitOf locals f ⌝ }
+{
+    if f == LOCAL {
+        wide(locals)
+    } else if f < PARAMETERS {
+        f + 1
+    } else {
+        256
     }
 }
 
-// That the field is within the limits (refusal 6).
-fn is_within(b: &[u8], f: u8) -> bool
-    ensures { λ r. ⌜ r ≡ within (fieldOf f) (now (b .entry)) ⌝ }
+// How many bytes a field takes; if it does not run past the end, that it holds what it may (else refusal 3); and if it does hold that,
+// that it is within the limits (else refusal 6).
+struct Field {
+    width: usize,
+    right: bool,
+    within: bool,
+}
+
+// The field that starts these bytes. One of a fixed width is tested without a jump; WORD, of two bytes, is the last of them.
+fn test_field(b: &[u8], f: u16, locals: u8) -> Field
+    requires { ⌜ 0 < length (now b) ⌝ }
+    ensures { λ r. ⌜ FieldFor locals (fieldOf f) (now (b .entry)) r ⌝ }
 {
-    let first = byte_at(b, 0);
+    let first = b[0];
+    if f <= WORD {
+        return Field {
+            width: 1 + (f / WORD) as usize,
+            right: wide(first) < limit_of(f, locals),
+            within: (f != PARAMETERS) | (first <= MAX_PARAMETERS),
+        };
+    }
+    let n = first as usize;
     match f {
-        FLAG => first <= 1,
-        TOKEN => first <= 2,
-        PARAMETERS => first <= MAX_PARAMETERS,
-        WORD => true,
-        LOCAL => true,
-        SUCCESSORS => first <= 2,
-        ACQUIRED => first <= MAX_ACQUIRED,
-        RETURNS => first <= MAX_RETURNS,
-        _ => byte_at(b, 1) <= MAX_LOCALS,
+        SUCCESSORS => Field {
+            width: 1 + 2 * n,
+            right: first <= 2,
+            within: true,
+        },
+        ACQUIRED => Field {
+            width: 1 + 2 * n,
+            right: true,
+            within: first <= MAX_ACQUIRED,
+        },
+        RETURNS => Field {
+            width: 1 + n,
+            right: tokens_from(b, 1, n),
+            within: first <= MAX_RETURNS,
+        },
+        _ => Field {
+            width: 2 + n,
+            right: (first <= byte_at(b, 1)) & tokens_from(b, 2, n),
+            within: byte_at(b, 1) <= MAX_LOCALS,
+        },
     }
 }
 
 // A body against its shape: 3, 6, or 0.
 fn test_body(b: &[u8], shape: Shape, locals: u8) -> u8
-    requires { ⌜ shape .count ≤ 4 ⌝ }
     ensures { λ r. ⌜ r ≡ bodyFault locals (fieldsIn shape) (now (b .entry)) ⌝ }
 {
-    let n = shape.count;
+    let mut fields = shape.fields;
     let mut within = true;
     let mut i = 0;
-    let mut k = 0;
-    while k < n {
-        let f = shape.fields[k];
+    while fields != 0 {
         let rest = &b[i..];
-        let w = width_of(rest, f);
-        if rest.len() < w {
+        if rest.len() == 0 {
             return 3;
         }
-        if !is_right(rest, f, locals) {
+        let t = test_field(rest, fields % 16, locals);
+        if (rest.len() < t.width) | !t.right {
             return 3;
         }
-        within = within & is_within(rest, f);
-        i += w;
-        k += 1;
+        within = within & t.within;
+        i += t.width;
+        fields = fields / 16;
     }
     if i < b.len() {
         return 3;

@@ -1,57 +1,53 @@
 // The shape table: the fields of each kind's body.
 ghost use Rattle.records.specs.Models.{RowFor, ShapeFor};
 
-// The fields. A range that is passed is refusal 3, a limit that is passed is refusal 6.
-pub const FLAG: u8 = 0; // u8: 0 or 1
+// The fields; those of a fixed width first. A range that is passed is refusal 3, a limit that is passed is refusal 6.
+pub const FLAG: u16 = 1; // u8: 0 or 1
 
-pub const TOKEN: u8 = 1; // u8: 0 to 2
+pub const TOKEN: u16 = 2; // u8: 0 to 2
 
-pub const PARAMETERS: u8 = 2; // u8, at most 16
+pub const PARAMETERS: u16 = 3; // u8, at most 16
 
-pub const WORD: u8 = 3; // u16
+pub const LOCAL: u16 = 4; // u8, below L
 
-pub const LOCAL: u8 = 4; // u8, below L
+pub const WORD: u16 = 5; // u16
 
-pub const SUCCESSORS: u8 = 5; // a count u8, 0 to 2, and as many u16
+pub const SUCCESSORS: u16 = 6; // a count u8, 0 to 2, and as many u16
 
-pub const ACQUIRED: u8 = 6; // a count u8, at most 16, and as many u16
+pub const ACQUIRED: u16 = 7; // a count u8, at most 16, and as many u16
 
-pub const RETURNS: u8 = 7; // a count u8, at most 8, and as many tokens
+pub const RETURNS: u16 = 8; // a count u8, at most 8, and as many tokens
 
-pub const FRAME: u8 = 8; // P u8, L u8, P tokens; P at most L, L at most 16
+pub const FRAME: u16 = 9; // P u8, L u8, P tokens; P at most L, L at most 16
 
-// A kind's body, field by field. Fields from `count` on are free.
+// A kind's body, field by field: the first field is the last hexadecimal digit, and so on up to a digit 0.
 pub struct Shape {
     pub known: bool,
-    pub count: usize,
-    pub fields: [u8; 4],
+    pub fields: u16,
 }
 
-// How many fields, and the fields.
-struct Row(u8, u8, u8, u8, u8);
-
-// One row for each kind: 1, 2, and 10 to 27.
-const SHAPES: [Row; 20] = [
-    Row(2, FRAME, RETURNS, 0, 0), // 1
-    Row(3, WORD, WORD, SUCCESSORS, 0), // 2
-    Row(0, 0, 0, 0, 0), // 10
-    Row(1, LOCAL, 0, 0, 0), // 11
-    Row(1, LOCAL, 0, 0, 0), // 12
-    Row(1, LOCAL, 0, 0, 0), // 13
-    Row(0, 0, 0, 0, 0), // 14
-    Row(0, 0, 0, 0, 0), // 15
-    Row(0, 0, 0, 0, 0), // 16
-    Row(0, 0, 0, 0, 0), // 17
-    Row(2, LOCAL, FLAG, 0, 0), // 18
-    Row(2, WORD, FLAG, 0, 0), // 19
-    Row(2, WORD, FLAG, 0, 0), // 20
-    Row(1, WORD, 0, 0, 0), // 21
-    Row(3, PARAMETERS, ACQUIRED, RETURNS, 0), // 22
-    Row(0, 0, 0, 0, 0), // 23
-    Row(3, WORD, WORD, TOKEN, 0), // 24
-    Row(0, 0, 0, 0, 0), // 25
-    Row(4, TOKEN, FLAG, FLAG, TOKEN), // 26
-    Row(1, FLAG, 0, 0, 0), // 27
+// One row for each kind: 1, 2, and 10 to 27. A row is one number, since the table is made anew at each look-up.
+const SHAPES: [u16; 20] = [
+    FRAME + 16 * RETURNS, // 1
+    WORD + 16 * WORD + 256 * SUCCESSORS, // 2
+    0, // 10
+    LOCAL, // 11
+    LOCAL, // 12
+    LOCAL, // 13
+    0, // 14
+    0, // 15
+    0, // 16
+    0, // 17
+    LOCAL + 16 * FLAG, // 18
+    WORD + 16 * FLAG, // 19
+    WORD + 16 * FLAG, // 20
+    WORD, // 21
+    PARAMETERS + 16 * ACQUIRED + 256 * RETURNS, // 22
+    0, // 23
+    WORD + 16 * WORD + 256 * TOKEN, // 24
+    0, // 25
+    TOKEN + 16 * FLAG + 256 * FLAG + 4096 * TOKEN, // 26
+    FLAG, // 27
 ];
 
 // The row of a kind; 20, if no kind in use has this number.
@@ -72,17 +68,14 @@ pub fn shape_of(kind: u16) -> Shape
 {
     let row = row_of(kind);
     if row < 20 {
-        let r = SHAPES[row];
         Shape {
             known: true,
-            count: r.0 as usize,
-            fields: [r.1, r.2, r.3, r.4],
+            fields: SHAPES[row],
         }
     } else {
         Shape {
             known: false,
-            count: 0,
-            fields: [0, 0, 0, 0],
+            fields: 0,
         }
     }
 }

@@ -1,28 +1,24 @@
 -- `records::test_body` meets its contract. Assumes nothing.
 use mathlib.Core.Path.{_≡_, refl, sym, ap, _∙_}
-use borrow.Author.Tests.{not-true, not-false}
-use Prim.Native.Nat.{_-_, _≤_, _<_}
-use mathlib.Core.Bool.{_&&_, true, false}
-use lib.ListN.{length, getD, take, drop, length-drop}
-use Rattle.meaning.specs.Listing.{fitsBody, withinLimits, width, right, within}
-use Rattle.records.specs.Models.{fieldOf, fieldsIn, bodyFault}
-use Rattle.records.proofs.Laws.{tail-part, fields-here, fields-end, fit-wide, fit-wrong, fit-turn, fit-over, fit-done, within-turn, within-done}
-use borrow.Author.Needs.{needs}
+use Prim.Native.Nat.{ℕ, _-_, _%_, _/_, _≤_, _<_}
+use mathlib.Core.Bool.{_&&_}
+use mathlib.Core.List.{List}
+use lib.ListN.{length, take, drop, length-drop}
+use Rattle.meaning.specs.Listing.{fitsBody, withinLimits, width}
+use Rattle.records.specs.Models.{fieldOf, packed, FieldFor, bodyFault}
+use Rattle.records.proofs.Laws.{tail-part, fields-here, fields-end, some-width, fit-wide, fit-stop, fit-go, fit-turn, fit-over, fit-done, within-turn, within-done}
 use native.Mathlib.Omega.{arith}
 use Rattle.records.proofs.test_body.Statement.{statement}
 use Rattle.records.proofs.test_body.Tie as tie
 
 abbrev Inv-loop : tie.InvT-loop
-Inv-loop b locals shape n within₀ i₀ k₀ within i k = (k ≤ n) × (i ≤ length b) × (fitsBody locals (drop k (fieldsIn shape)) (drop i b) ≡ fitsBody locals (fieldsIn shape) b) × ((within && withinLimits (drop k (fieldsIn shape)) (drop i b)) ≡ withinLimits (fieldsIn shape) b)
+Inv-loop b locals fields₀ within₀ i₀ fields within i = (i ≤ length b) × (fields < 65536) × (fitsBody locals (packed 4 fields) (drop i b) ≡ fitsBody locals (packed 4 fields₀) b) × ((within && withinLimits (packed 4 fields) (drop i b)) ≡ withinLimits (packed 4 fields₀) b)
 
 abbrev μ-loop : tie.MeasureT-loop
-μ-loop b locals shape n within₀ i₀ k₀ within i k = n - k
+μ-loop b locals fields₀ within₀ i₀ fields within i = fields
 
 loop-holds : tie.Need-loop-holds Inv-loop μ-loop
 loop-holds c = (omega arith, omega arith, refl, refl)
-
-element-copy-out-f : tie.Need-element-copy-out-f Inv-loop μ-loop
-element-copy-out-f c = omega arith
 
 sub-rest : tie.Need-sub-rest Inv-loop μ-loop
 sub-rest c = omega arith
@@ -33,66 +29,63 @@ part-rest-start c = omega arith
 part-rest-end : tie.Need-part-rest-end Inv-loop μ-loop
 part-rest-end c = omega arith
 
-width-of-requires : tie.Need-width-of-requires Inv-loop μ-loop
-width-of-requires c κs = search needs
-
 returns : tie.Need-returns Inv-loop μ-loop
 unfolding bodyFault
-returns c = let full : length (c .before .before .before .before .before .before .before .args .t2 .fields) ≡ 4 = search needs in
-    let t : take (length (c .before .before .before .before .before .before .before .args .b .now) - c .before .before .before .before .before .loop .i) (drop (c .before .before .before .before .before .loop .i) (c .before .before .before .before .before .before .before .args .b .now)) ≡ drop (c .before .before .before .before .before .loop .i) (c .before .before .before .before .before .before .before .args .b .now) = tail-part (c .before .before .before .before .before .before .before .args .b .now) (c .before .before .before .before .before .loop .i) in
-    let d : length (drop (c .before .before .before .before .before .loop .i) (c .before .before .before .before .before .before .before .args .b .now)) ≡ length (c .before .before .before .before .before .before .before .args .b .now) - c .before .before .before .before .before .loop .i = length-drop (c .before .before .before .before .before .loop .i) (c .before .before .before .before .before .before .before .args .b .now) in
-    let h : length (drop (c .before .before .before .before .before .loop .i) (c .before .before .before .before .before .before .before .args .b .now)) < c .before .width-of .result = omega arith in
-    rw (← fit-wide (c .before .before .before .before .before .before .before .args .locals) (fieldsIn (c .before .before .before .before .before .before .before .args .t2)) (c .before .before .before .before .before .before .before .args .b .now) (c .before .before .before .before .before .loop .k) (c .before .before .before .before .before .loop .i) (c .before .width-of .result) (fieldOf (getD (c .before .before .before .before .before .before .before .args .t2 .fields) (c .before .before .before .before .before .loop .k) 0)) (fields-here (c .before .before .before .before .before .before .before .args .t2) (c .before .before .before .before .before .loop .k) full (c .before .before .before .before .before .before .before .pre) (c .before .before .before .before .loop-test .taken)) (c .before .width-of .ensures ∙ ap (width (fieldOf (getD (c .before .before .before .before .before .before .before .args .t2 .fields) (c .before .before .before .before .before .loop .k) 0))) t) _ (c .before .before .before .before .before .loop .inv .2) h)
+returns c = let d : length (drop ((c .before .before .before .loop) .i) ((c .before .before .before .before .before .args) .b .now)) ≡ length ((c .before .before .before .before .before .args) .b .now) - (c .before .before .before .loop) .i = length-drop ((c .before .before .before .loop) .i) ((c .before .before .before .before .before .args) .b .now) in
+    let p : 0 < width (fieldOf ((c .before .before .before .loop) .fields % 16)) (drop ((c .before .before .before .loop) .i) ((c .before .before .before .before .before .args) .b .now)) = some-width (fieldOf ((c .before .before .before .loop) .fields % 16)) (drop ((c .before .before .before .loop) .i) ((c .before .before .before .before .before .args) .b .now)) in
+    let h : length (drop ((c .before .before .before .loop) .i) ((c .before .before .before .before .before .args) .b .now)) < width (fieldOf ((c .before .before .before .loop) .fields % 16)) (drop ((c .before .before .before .loop) .i) ((c .before .before .before .before .before .args) .b .now)) = omega arith in
+    rw (← fit-wide ((c .before .before .before .before .before .args) .locals) (packed 4 ((c .before .before .before .loop) .fields)) (packed 4 ((c .before .before .before .loop) .fields / 16)) ((c .before .before .before .before .before .args) .b .now) ((c .before .before .before .loop) .i) (width (fieldOf ((c .before .before .before .loop) .fields % 16)) (drop ((c .before .before .before .loop) .i) ((c .before .before .before .before .before .args) .b .now))) (fieldOf ((c .before .before .before .loop) .fields % 16)) (fields-here ((c .before .before .before .loop) .fields) ((c .before .before .before .loop) .inv .1) ((c .before .before .loop-test) .taken)) refl _ ((c .before .before .before .loop) .inv .2) h)
 
-is-right-requires : tie.Need-is-right-requires Inv-loop μ-loop
-is-right-requires c κs = rw (← c .before .width-of .ensures) (c .if1 .left)
+test-field-requires : tie.Need-test-field-requires Inv-loop μ-loop
+test-field-requires c κs = let d : length (drop ((c .before .before .before .loop) .i) ((c .before .before .before .before .before .args) .b .now)) ≡ length ((c .before .before .before .before .before .args) .b .now) - (c .before .before .before .loop) .i = length-drop ((c .before .before .before .loop) .i) ((c .before .before .before .before .before .args) .b .now) in
+    let t : take (length ((c .before .before .before .before .before .args) .b .now) - (c .before .before .before .loop) .i) (drop ((c .before .before .before .loop) .i) ((c .before .before .before .before .before .args) .b .now)) ≡ drop ((c .before .before .before .loop) .i) ((c .before .before .before .before .before .args) .b .now) = tail-part ((c .before .before .before .before .before .args) .b .now) ((c .before .before .before .loop) .i) in
+    rw t (omega arith)
 
 returns-2 : tie.Need-returns-2 Inv-loop μ-loop
 unfolding bodyFault
-returns-2 c = let full : length (c .before .before .before .before .before .before .before .before .before .args .t2 .fields) ≡ 4 = search needs in
-    let t : take (length (c .before .before .before .before .before .before .before .before .before .args .b .now) - c .before .before .before .before .before .before .before .loop .i) (drop (c .before .before .before .before .before .before .before .loop .i) (c .before .before .before .before .before .before .before .before .before .args .b .now)) ≡ drop (c .before .before .before .before .before .before .before .loop .i) (c .before .before .before .before .before .before .before .before .before .args .b .now) = tail-part (c .before .before .before .before .before .before .before .before .before .args .b .now) (c .before .before .before .before .before .before .before .loop .i) in
-    let d : length (drop (c .before .before .before .before .before .before .before .loop .i) (c .before .before .before .before .before .before .before .before .before .args .b .now)) ≡ length (c .before .before .before .before .before .before .before .before .before .args .b .now) - c .before .before .before .before .before .before .before .loop .i = length-drop (c .before .before .before .before .before .before .before .loop .i) (c .before .before .before .before .before .before .before .before .before .args .b .now) in
-    let h : c .before .before .before .width-of .result ≤ length (drop (c .before .before .before .before .before .before .before .loop .i) (c .before .before .before .before .before .before .before .before .before .args .b .now)) = omega arith in
-    rw (← fit-wrong (c .before .before .before .before .before .before .before .before .before .args .locals) (fieldsIn (c .before .before .before .before .before .before .before .before .before .args .t2)) (c .before .before .before .before .before .before .before .before .before .args .b .now) (c .before .before .before .before .before .before .before .loop .k) (c .before .before .before .before .before .before .before .loop .i) (c .before .before .before .width-of .result) (fieldOf (getD (c .before .before .before .before .before .before .before .before .before .args .t2 .fields) (c .before .before .before .before .before .before .before .loop .k) 0)) (fields-here (c .before .before .before .before .before .before .before .before .before .args .t2) (c .before .before .before .before .before .before .before .loop .k) full (c .before .before .before .before .before .before .before .before .before .pre) (c .before .before .before .before .before .before .loop-test .taken)) (c .before .before .before .width-of .ensures ∙ ap (width (fieldOf (getD (c .before .before .before .before .before .before .before .before .before .args .t2 .fields) (c .before .before .before .before .before .before .before .loop .k) 0))) t) _ (c .before .before .before .before .before .before .before .loop .inv .2) h (sym (c .before .is-right .ensures ∙ ap (right (c .before .before .before .before .before .before .before .before .before .args .locals) (fieldOf (getD (c .before .before .before .before .before .before .before .before .before .args .t2 .fields) (c .before .before .before .before .before .before .before .loop .k) 0))) t) ∙ not-true _ (c .if2 .taken)))
-
-is-within-requires : tie.Need-is-within-requires Inv-loop μ-loop
-is-within-requires c κs = search needs
+returns-2 c = let d : length (drop ((c .before .before .before .before .before .before .before .loop) .i) ((c .before .before .before .before .before .before .before .before .before .args) .b .now)) ≡ length ((c .before .before .before .before .before .before .before .before .before .args) .b .now) - (c .before .before .before .before .before .before .before .loop) .i = length-drop ((c .before .before .before .before .before .before .before .loop) .i) ((c .before .before .before .before .before .before .before .before .before .args) .b .now) in
+    let t : take (length ((c .before .before .before .before .before .before .before .before .before .args) .b .now) - (c .before .before .before .before .before .before .before .loop) .i) (drop ((c .before .before .before .before .before .before .before .loop) .i) ((c .before .before .before .before .before .before .before .before .before .args) .b .now)) ≡ drop ((c .before .before .before .before .before .before .before .loop) .i) ((c .before .before .before .before .before .before .before .before .before .args) .b .now) = tail-part ((c .before .before .before .before .before .before .before .before .before .args) .b .now) ((c .before .before .before .before .before .before .before .loop) .i) in
+    let g : FieldFor ((c .before .before .before .before .before .before .before .before .before .args) .locals) (fieldOf ((c .before .before .before .before .before .before .before .loop) .fields % 16)) (drop ((c .before .before .before .before .before .before .before .loop) .i) ((c .before .before .before .before .before .before .before .before .before .args) .b .now)) ((c .before .before .before .test-field) .result) = (rw t at ((c .before .before .before .test-field) .ensures)) in
+    rw (← fit-stop ((c .before .before .before .before .before .before .before .before .before .args) .locals) (packed 4 ((c .before .before .before .before .before .before .before .loop) .fields)) (packed 4 ((c .before .before .before .before .before .before .before .loop) .fields / 16)) ((c .before .before .before .before .before .before .before .before .before .args) .b .now) ((c .before .before .before .before .before .before .before .loop) .i) ((c .before .before .before .test-field) .result .width) (fieldOf ((c .before .before .before .before .before .before .before .loop) .fields % 16)) (fields-here ((c .before .before .before .before .before .before .before .loop) .fields) ((c .before .before .before .before .before .before .before .loop) .inv .1) ((c .before .before .before .before .before .before .loop-test) .taken)) (g .width) (length (take (length ((c .before .before .before .before .before .before .before .before .before .args) .b .now) - (c .before .before .before .before .before .before .before .loop) .i) (drop ((c .before .before .before .before .before .before .before .loop) .i) ((c .before .before .before .before .before .before .before .before .before .args) .b .now)))) ((c .before .before .before .test-field) .result .right) (ap (λ (l : List ℕ). length l) t) _ ((c .before .before .before .before .before .before .before .loop) .inv .2) (g .right) ((c .if2) .taken))
 
 add-i : tie.Need-add-i Inv-loop μ-loop
-add-i c = let d : length (drop (c .before .before .before .before .before .before .before .before .loop .i) (c .before .before .before .before .before .before .before .before .before .before .args .b .now)) ≡ length (c .before .before .before .before .before .before .before .before .before .before .args .b .now) - c .before .before .before .before .before .before .before .before .loop .i = length-drop (c .before .before .before .before .before .before .before .before .loop .i) (c .before .before .before .before .before .before .before .before .before .before .args .b .now) in
-    omega arith
-
-add-k : tie.Need-add-k Inv-loop μ-loop
-add-k c = omega arith
+add-i c = let d : length (drop ((c .before .before .before .before .before .before .before .before .before .loop) .i) ((c .before .before .before .before .before .before .before .before .before .before .before .args) .b .now)) ≡ length ((c .before .before .before .before .before .before .before .before .before .before .before .args) .b .now) - (c .before .before .before .before .before .before .before .before .before .loop) .i = length-drop ((c .before .before .before .before .before .before .before .before .before .loop) .i) ((c .before .before .before .before .before .before .before .before .before .before .before .args) .b .now) in
+    let t : take (length ((c .before .before .before .before .before .before .before .before .before .before .before .args) .b .now) - (c .before .before .before .before .before .before .before .before .before .loop) .i) (drop ((c .before .before .before .before .before .before .before .before .before .loop) .i) ((c .before .before .before .before .before .before .before .before .before .before .before .args) .b .now)) ≡ drop ((c .before .before .before .before .before .before .before .before .before .loop) .i) ((c .before .before .before .before .before .before .before .before .before .before .before .args) .b .now) = tail-part ((c .before .before .before .before .before .before .before .before .before .before .before .args) .b .now) ((c .before .before .before .before .before .before .before .before .before .loop) .i) in
+    let g : FieldFor ((c .before .before .before .before .before .before .before .before .before .before .before .args) .locals) (fieldOf ((c .before .before .before .before .before .before .before .before .before .loop) .fields % 16)) (drop ((c .before .before .before .before .before .before .before .before .before .loop) .i) ((c .before .before .before .before .before .before .before .before .before .before .before .args) .b .now)) ((c .before .before .before .before .before .test-field) .result) = (rw t at ((c .before .before .before .before .before .test-field) .ensures)) in
+    let v = fit-go ((c .before .before .before .before .before .before .before .before .before .before .before .args) .locals) (packed 4 ((c .before .before .before .before .before .before .before .before .before .loop) .fields)) (packed 4 ((c .before .before .before .before .before .before .before .before .before .loop) .fields / 16)) ((c .before .before .before .before .before .before .before .before .before .before .before .args) .b .now) ((c .before .before .before .before .before .before .before .before .before .loop) .i) ((c .before .before .before .before .before .test-field) .result .width) (fieldOf ((c .before .before .before .before .before .before .before .before .before .loop) .fields % 16)) (fields-here ((c .before .before .before .before .before .before .before .before .before .loop) .fields) ((c .before .before .before .before .before .before .before .before .before .loop) .inv .1) ((c .before .before .before .before .before .before .before .before .loop-test) .taken)) (g .width) (length (take (length ((c .before .before .before .before .before .before .before .before .before .before .before .args) .b .now) - (c .before .before .before .before .before .before .before .before .before .loop) .i) (drop ((c .before .before .before .before .before .before .before .before .before .loop) .i) ((c .before .before .before .before .before .before .before .before .before .before .before .args) .b .now)))) ((c .before .before .before .before .before .test-field) .result .right) (ap (λ (l : List ℕ). length l) t) ((c .before .before .if2) .left) in
+    omega (arith, v .0)
 
 loop-less : tie.Need-loop-less Inv-loop μ-loop
 loop-less c = omega arith
 
 loop-again : tie.Need-loop-again Inv-loop μ-loop
-loop-again c = let full : length (c .before .before .before .before .before .before .before .before .before .before .args .t2 .fields) ≡ 4 = search needs in
-    let t : take (length (c .before .before .before .before .before .before .before .before .before .before .args .b .now) - c .before .before .before .before .before .before .before .before .loop .i) (drop (c .before .before .before .before .before .before .before .before .loop .i) (c .before .before .before .before .before .before .before .before .before .before .args .b .now)) ≡ drop (c .before .before .before .before .before .before .before .before .loop .i) (c .before .before .before .before .before .before .before .before .before .before .args .b .now) = tail-part (c .before .before .before .before .before .before .before .before .before .before .args .b .now) (c .before .before .before .before .before .before .before .before .loop .i) in
-    let d : length (drop (c .before .before .before .before .before .before .before .before .loop .i) (c .before .before .before .before .before .before .before .before .before .before .args .b .now)) ≡ length (c .before .before .before .before .before .before .before .before .before .before .args .b .now) - c .before .before .before .before .before .before .before .before .loop .i = length-drop (c .before .before .before .before .before .before .before .before .loop .i) (c .before .before .before .before .before .before .before .before .before .before .args .b .now) in
-    let h : c .before .before .before .before .width-of .result ≤ length (drop (c .before .before .before .before .before .before .before .before .loop .i) (c .before .before .before .before .before .before .before .before .before .before .args .b .now)) = omega arith in
-    (omega arith, omega arith, fit-turn (c .before .before .before .before .before .before .before .before .before .before .args .locals) (fieldsIn (c .before .before .before .before .before .before .before .before .before .before .args .t2)) (c .before .before .before .before .before .before .before .before .before .before .args .b .now) (c .before .before .before .before .before .before .before .before .loop .k) (c .before .before .before .before .before .before .before .before .loop .i) (c .before .before .before .before .width-of .result) (fieldOf (getD (c .before .before .before .before .before .before .before .before .before .before .args .t2 .fields) (c .before .before .before .before .before .before .before .before .loop .k) 0)) (fields-here (c .before .before .before .before .before .before .before .before .before .before .args .t2) (c .before .before .before .before .before .before .before .before .loop .k) full (c .before .before .before .before .before .before .before .before .before .before .pre) (c .before .before .before .before .before .before .before .loop-test .taken)) (c .before .before .before .before .width-of .ensures ∙ ap (width (fieldOf (getD (c .before .before .before .before .before .before .before .before .before .before .args .t2 .fields) (c .before .before .before .before .before .before .before .before .loop .k) 0))) t) _ (c .before .before .before .before .before .before .before .before .loop .inv .2) h (sym (c .before .before .is-right .ensures ∙ ap (right (c .before .before .before .before .before .before .before .before .before .before .args .locals) (fieldOf (getD (c .before .before .before .before .before .before .before .before .before .before .args .t2 .fields) (c .before .before .before .before .before .before .before .before .loop .k) 0))) t) ∙ not-false _ (c .before .if2 .left)), within-turn (c .before .before .before .before .before .before .before .before .before .before .args .locals) (fieldsIn (c .before .before .before .before .before .before .before .before .before .before .args .t2)) (c .before .before .before .before .before .before .before .before .before .before .args .b .now) (c .before .before .before .before .before .before .before .before .loop .k) (c .before .before .before .before .before .before .before .before .loop .i) (c .before .before .before .before .width-of .result) (fieldOf (getD (c .before .before .before .before .before .before .before .before .before .before .args .t2 .fields) (c .before .before .before .before .before .before .before .before .loop .k) 0)) (fields-here (c .before .before .before .before .before .before .before .before .before .before .args .t2) (c .before .before .before .before .before .before .before .before .loop .k) full (c .before .before .before .before .before .before .before .before .before .before .pre) (c .before .before .before .before .before .before .before .loop-test .taken)) (c .before .before .before .before .width-of .ensures ∙ ap (width (fieldOf (getD (c .before .before .before .before .before .before .before .before .before .before .args .t2 .fields) (c .before .before .before .before .before .before .before .before .loop .k) 0))) t) (c .before .before .before .before .before .before .before .before .loop .within) (c .is-within .result) (withinLimits (fieldsIn (c .before .before .before .before .before .before .before .before .before .before .args .t2)) (c .before .before .before .before .before .before .before .before .before .before .args .b .now)) (c .before .before .before .before .before .before .before .before .loop .inv .3) (c .is-within .ensures ∙ ap (within (fieldOf (getD (c .before .before .before .before .before .before .before .before .before .before .args .t2 .fields) (c .before .before .before .before .before .before .before .before .loop .k) 0))) t))
+loop-again c = let d : length (drop ((c .before .before .before .before .before .before .before .before .before .loop) .i) ((c .before .before .before .before .before .before .before .before .before .before .before .args) .b .now)) ≡ length ((c .before .before .before .before .before .before .before .before .before .before .before .args) .b .now) - (c .before .before .before .before .before .before .before .before .before .loop) .i = length-drop ((c .before .before .before .before .before .before .before .before .before .loop) .i) ((c .before .before .before .before .before .before .before .before .before .before .before .args) .b .now) in
+    let t : take (length ((c .before .before .before .before .before .before .before .before .before .before .before .args) .b .now) - (c .before .before .before .before .before .before .before .before .before .loop) .i) (drop ((c .before .before .before .before .before .before .before .before .before .loop) .i) ((c .before .before .before .before .before .before .before .before .before .before .before .args) .b .now)) ≡ drop ((c .before .before .before .before .before .before .before .before .before .loop) .i) ((c .before .before .before .before .before .before .before .before .before .before .before .args) .b .now) = tail-part ((c .before .before .before .before .before .before .before .before .before .before .before .args) .b .now) ((c .before .before .before .before .before .before .before .before .before .loop) .i) in
+    let g : FieldFor ((c .before .before .before .before .before .before .before .before .before .before .before .args) .locals) (fieldOf ((c .before .before .before .before .before .before .before .before .before .loop) .fields % 16)) (drop ((c .before .before .before .before .before .before .before .before .before .loop) .i) ((c .before .before .before .before .before .before .before .before .before .before .before .args) .b .now)) ((c .before .before .before .before .before .test-field) .result) = (rw t at ((c .before .before .before .before .before .test-field) .ensures)) in
+    let k = fields-here ((c .before .before .before .before .before .before .before .before .before .loop) .fields) ((c .before .before .before .before .before .before .before .before .before .loop) .inv .1) ((c .before .before .before .before .before .before .before .before .loop-test) .taken) in
+    let v = fit-go ((c .before .before .before .before .before .before .before .before .before .before .before .args) .locals) (packed 4 ((c .before .before .before .before .before .before .before .before .before .loop) .fields)) (packed 4 ((c .before .before .before .before .before .before .before .before .before .loop) .fields / 16)) ((c .before .before .before .before .before .before .before .before .before .before .before .args) .b .now) ((c .before .before .before .before .before .before .before .before .before .loop) .i) ((c .before .before .before .before .before .test-field) .result .width) (fieldOf ((c .before .before .before .before .before .before .before .before .before .loop) .fields % 16)) k (g .width) (length (take (length ((c .before .before .before .before .before .before .before .before .before .before .before .args) .b .now) - (c .before .before .before .before .before .before .before .before .before .loop) .i) (drop ((c .before .before .before .before .before .before .before .before .before .loop) .i) ((c .before .before .before .before .before .before .before .before .before .before .before .args) .b .now)))) ((c .before .before .before .before .before .test-field) .result .right) (ap (λ (l : List ℕ). length l) t) ((c .before .before .if2) .left) in
+    let q = sym (g .right (rw (g .width) at (v .0))) ∙ v .1 in (
+      omega (arith, v .0),
+      omega arith,
+      fit-turn ((c .before .before .before .before .before .before .before .before .before .before .before .args) .locals) (packed 4 ((c .before .before .before .before .before .before .before .before .before .loop) .fields)) (packed 4 ((c .before .before .before .before .before .before .before .before .before .loop) .fields / 16)) ((c .before .before .before .before .before .before .before .before .before .before .before .args) .b .now) ((c .before .before .before .before .before .before .before .before .before .loop) .i) ((c .before .before .before .before .before .test-field) .result .width) (fieldOf ((c .before .before .before .before .before .before .before .before .before .loop) .fields % 16)) k (g .width) _ ((c .before .before .before .before .before .before .before .before .before .loop) .inv .2) (v .0) q,
+      within-turn ((c .before .before .before .before .before .before .before .before .before .before .before .args) .locals) (packed 4 ((c .before .before .before .before .before .before .before .before .before .loop) .fields)) (packed 4 ((c .before .before .before .before .before .before .before .before .before .loop) .fields / 16)) ((c .before .before .before .before .before .before .before .before .before .before .before .args) .b .now) ((c .before .before .before .before .before .before .before .before .before .loop) .i) ((c .before .before .before .before .before .test-field) .result .width) (fieldOf ((c .before .before .before .before .before .before .before .before .before .loop) .fields % 16)) k (g .width) ((c .before .before .before .before .before .before .before .before .before .loop) .within) ((c .before .before .before .before .before .test-field) .result .within) _ ((c .before .before .before .before .before .before .before .before .before .loop) .inv .3) (g .within q),
+    )
 
 returns-3 : tie.Need-returns-3 Inv-loop μ-loop
 unfolding bodyFault
-returns-3 c = let full : length (c .before .before .before .before .args .t2 .fields) ≡ 4 = search needs in
-    rw (← fit-over (c .before .before .before .before .args .locals) (fieldsIn (c .before .before .before .before .args .t2)) (c .before .before .before .before .args .b .now) (c .before .before .loop .k) (c .before .before .loop .i) (fields-end (c .before .before .before .before .args .t2) (c .before .before .loop .k) full (c .before .before .before .before .pre) (c .before .loop-test .left)) _ (c .before .before .loop .inv .2) (c .if3 .taken))
+returns-3 c = rw (← fit-over ((c .before .before .before .before .args) .locals) (packed 4 ((c .before .before .loop) .fields)) ((c .before .before .before .before .args) .b .now) ((c .before .before .loop) .i) (fields-end ((c .before .before .loop) .fields) ((c .before .loop-test) .left)) _ ((c .before .before .loop) .inv .2) ((c .if3) .taken))
 
 returns-4 : tie.Need-returns-4 Inv-loop μ-loop
 unfolding bodyFault
-returns-4 c = let full : length (c .before .before .before .before .before .args .t2 .fields) ≡ 4 = search needs in
-    let a : fitsBody (c .before .before .before .before .before .args .locals) (fieldsIn (c .before .before .before .before .before .args .t2)) (c .before .before .before .before .before .args .b .now) ≡ true = sym (fit-done (c .before .before .before .before .before .args .locals) (fieldsIn (c .before .before .before .before .before .args .t2)) (c .before .before .before .before .before .args .b .now) (c .before .before .before .loop .k) (c .before .before .before .loop .i) (fields-end (c .before .before .before .before .before .args .t2) (c .before .before .before .loop .k) full (c .before .before .before .before .before .pre) (c .before .before .loop-test .left)) _ (c .before .before .before .loop .inv .2) (c .before .if3 .left)) in
-    let w : withinLimits (fieldsIn (c .before .before .before .before .before .args .t2)) (c .before .before .before .before .before .args .b .now) ≡ true = sym (within-done (c .before .before .before .before .before .args .locals) (fieldsIn (c .before .before .before .before .before .args .t2)) (c .before .before .before .before .before .args .b .now) (c .before .before .before .loop .k) (c .before .before .before .loop .i) (fields-end (c .before .before .before .before .before .args .t2) (c .before .before .before .loop .k) full (c .before .before .before .before .before .pre) (c .before .before .loop-test .left)) _ _ (c .before .before .before .loop .inv .3)) ∙ c .if4 .taken in
-    rw (a, w)
+returns-4 c = let f = fit-done ((c .before .before .before .before .before .args) .locals) (packed 4 ((c .before .before .before .loop) .fields)) ((c .before .before .before .before .before .args) .b .now) ((c .before .before .before .loop) .i) (fields-end ((c .before .before .before .loop) .fields) ((c .before .before .loop-test) .left)) _ ((c .before .before .before .loop) .inv .2) ((c .before .if3) .left) in
+    let v = within-done ((c .before .before .before .before .before .args) .locals) (packed 4 ((c .before .before .before .loop) .fields)) ((c .before .before .before .before .before .args) .b .now) ((c .before .before .before .loop) .i) (fields-end ((c .before .before .before .loop) .fields) ((c .before .before .loop-test) .left)) ((c .before .before .before .loop) .within) _ ((c .before .before .before .loop) .inv .3) in
+    rw (← f, sym v ∙ (c .if4) .taken)
 
 returns-5 : tie.Need-returns-5 Inv-loop μ-loop
 unfolding bodyFault
-returns-5 c = let full : length (c .before .before .before .before .before .args .t2 .fields) ≡ 4 = search needs in
-    let a : fitsBody (c .before .before .before .before .before .args .locals) (fieldsIn (c .before .before .before .before .before .args .t2)) (c .before .before .before .before .before .args .b .now) ≡ true = sym (fit-done (c .before .before .before .before .before .args .locals) (fieldsIn (c .before .before .before .before .before .args .t2)) (c .before .before .before .before .before .args .b .now) (c .before .before .before .loop .k) (c .before .before .before .loop .i) (fields-end (c .before .before .before .before .before .args .t2) (c .before .before .before .loop .k) full (c .before .before .before .before .before .pre) (c .before .before .loop-test .left)) _ (c .before .before .before .loop .inv .2) (c .before .if3 .left)) in
-    let w : withinLimits (fieldsIn (c .before .before .before .before .before .args .t2)) (c .before .before .before .before .before .args .b .now) ≡ false = sym (within-done (c .before .before .before .before .before .args .locals) (fieldsIn (c .before .before .before .before .before .args .t2)) (c .before .before .before .before .before .args .b .now) (c .before .before .before .loop .k) (c .before .before .before .loop .i) (fields-end (c .before .before .before .before .before .args .t2) (c .before .before .before .loop .k) full (c .before .before .before .before .before .pre) (c .before .before .loop-test .left)) _ _ (c .before .before .before .loop .inv .3)) ∙ c .if4 .left in
-    rw (a, w)
+returns-5 c = let f = fit-done ((c .before .before .before .before .before .args) .locals) (packed 4 ((c .before .before .before .loop) .fields)) ((c .before .before .before .before .before .args) .b .now) ((c .before .before .before .loop) .i) (fields-end ((c .before .before .before .loop) .fields) ((c .before .before .loop-test) .left)) _ ((c .before .before .before .loop) .inv .2) ((c .before .if3) .left) in
+    let v = within-done ((c .before .before .before .before .before .args) .locals) (packed 4 ((c .before .before .before .loop) .fields)) ((c .before .before .before .before .before .args) .b .now) ((c .before .before .before .loop) .i) (fields-end ((c .before .before .before .loop) .fields) ((c .before .before .loop-test) .left)) ((c .before .before .before .loop) .within) _ ((c .before .before .before .loop) .inv .3) in
+    rw (← f, sym v ∙ (c .if4) .left)
 
 pub test-body-spec : {M : Type 1} → statement M
 test-body-spec =
@@ -101,17 +94,13 @@ test-body-spec =
     Inv-loop
     μ-loop
     loop-holds
-    element-copy-out-f
     sub-rest
     part-rest-start
     part-rest-end
-    width-of-requires
     returns
-    is-right-requires
+    test-field-requires
     returns-2
-    is-within-requires
     add-i
-    add-k
     loop-less
     loop-again
     returns-3

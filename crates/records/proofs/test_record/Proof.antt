@@ -44,7 +44,7 @@ body-requires : tie.Need-body-requires
 body-requires c κs = search needs
 
 test-body-requires : tie.Need-test-body-requires
-test-body-requires c κs = c .before .before .before .before .before .shape-of .ensures .few
+test-body-requires c κs = search needs
 
 enum-told : tie.Need-enum-told
 enum-told c = search needs
