@@ -30,6 +30,20 @@ pub moved-accepted : verdict (moved .blocks) (run State join changed (exec moved
 unfolding firstState firstLocals firstNames run steps loopStep spread startSlots position verdict lowest exec runBlock runFrom instrsOf step popValues popMany push pushAll pushNew valueFor newRef stLoc borrowLoc moveLoc addLocalBorrow addBorrow borrowed mutablyBorrowed isMutable newName borrowStrong borrowWeak placeName wellFormed holds ascending setAt setTo setOk ordered short inOrder isBlur addAll addEdge insert limit has put prefix eqEdge eqPath ltEdge ltPath canonical crosses renamed renameNames renameEdges placeEdge ownNames newNameOf indexOf call notAcquired handOver returnValues borrowFrom releaseAll releaseName release spliced without splice ascend placeNumber ret
 moved-accepted = refl
 
+-- an exchange of two references, which is 16, with an operand left: 14 comes first
+abbrev left : Routine
+left = record {
+  params = ofRef true ∷ ofRef true ∷ [];
+  locals = 2;
+  returns = 0;
+  blocks = record { entry = 0; exit = 4; successors = 5 ∷ [] } ∷ record { entry = 5; exit = 5; successors = [] } ∷ [];
+  code = Values 0 1 ofValue ∷ MoveLoc 0 ∷ MoveLoc 1 ∷ StLoc 0 ∷ StLoc 1 ∷ Ret ∷ [];
+}
+
+pub left-refused : verdict (left .blocks) (run State join changed (exec left) (left .blocks) 10 (firstState (left .locals) (left .params))) ≡ refusal 14 4
+unfolding firstState firstLocals firstNames run steps loopStep spread startSlots position verdict lowest exec runBlock runFrom instrsOf step popValues popMany push pushAll pushNew valueFor newRef stLoc borrowLoc moveLoc addLocalBorrow addBorrow borrowed mutablyBorrowed isMutable newName borrowStrong borrowWeak placeName wellFormed holds ascending setAt setTo setOk ordered short inOrder isBlur addAll addEdge insert limit has put prefix eqEdge eqPath ltEdge ltPath canonical crosses renamed renameNames renameEdges placeEdge ownNames newNameOf indexOf call notAcquired handOver returnValues borrowFrom releaseAll releaseName release spliced without splice ascend placeNumber ret
+left-refused = refl
+
 -- ---- one block without successors, for each number of document 01
 
 abbrev isVerdict : Verdict → Verdict → Bool
@@ -65,12 +79,15 @@ unfolding whole
 cases =
     whole 1 (ofValue ∷ []) 0 (BorrowLoc 0 true ∷ CopyLoc 0 ∷ []) (violation 101 1)
     ∷ whole 1 (ofValue ∷ []) 0 (BorrowLoc 0 false ∷ CopyLoc 0 ∷ Pop ∷ Pop ∷ []) accept
+    ∷ whole 1 (ofValue ∷ []) 0 (BorrowLoc 0 true ∷ Values 0 15 ofValue ∷ CopyLoc 0 ∷ []) (violation 101 2)
     ∷ whole 1 (ofValue ∷ []) 0 (BorrowLoc 0 false ∷ MoveLoc 0 ∷ []) (violation 102 1)
     ∷ whole 1 (ofValue ∷ []) 0 (BorrowLoc 0 false ∷ load ∷ StLoc 0 ∷ []) (violation 103 2)
+    ∷ whole 2 (ofValue ∷ []) 0 (BorrowLoc 0 false ∷ StLoc 1 ∷ StLoc 0 ∷ []) (refusal 10 2)
     ∷ whole 1 (mut ∷ []) 0 (CopyLoc 0 ∷ MoveLoc 0 ∷ FreezeRef ∷ []) (violation 104 2)
     ∷ whole 1 (mut ∷ []) 0 (MoveLoc 0 ∷ FreezeRef ∷ ReadRef ∷ Pop ∷ []) accept
     ∷ whole 1 (mut ∷ []) 0 (CopyLoc 0 ∷ MoveLoc 0 ∷ ReadRef ∷ []) (violation 105 2)
     ∷ whole 1 (mut ∷ []) 0 (CopyLoc 0 ∷ CopyLoc 0 ∷ Compare ∷ []) (violation 105 2)
+    ∷ whole 2 (mut ∷ []) 0 (CopyLoc 0 ∷ StLoc 1 ∷ MoveLoc 0 ∷ MoveLoc 1 ∷ Compare ∷ []) (violation 105 4)
     ∷ whole 1 (imm ∷ []) 0 (CopyLoc 0 ∷ CopyLoc 0 ∷ Compare ∷ Pop ∷ []) accept
     ∷ whole 2 (mut ∷ []) 0 (CopyLoc 0 ∷ StLoc 1 ∷ load ∷ MoveLoc 0 ∷ WriteRef ∷ []) (violation 106 4)
     ∷ whole 1 (mut ∷ []) 0 (load ∷ MoveLoc 0 ∷ WriteRef ∷ []) accept
@@ -104,9 +121,12 @@ cases =
     ∷ whole 2 (mut ∷ []) 0 (CopyLoc 0 ∷ MoveLoc 0 ∷ WriteRef ∷ []) (refusal 11 2)
     ∷ whole 1 [] 0 (CopyLoc 0 ∷ []) (refusal 12 0)
     ∷ whole 1 (imm ∷ []) 0 (load ∷ MoveLoc 0 ∷ WriteRef ∷ []) (refusal 13 2)
+    ∷ whole 1 (imm ∷ []) 0 (MoveLoc 0 ∷ WriteRef ∷ []) (refusal 10 1)
     ∷ whole 1 (imm ∷ []) 0 (MoveLoc 0 ∷ VectorOp 0 true 0 ofValue ∷ []) (refusal 13 1)
+    ∷ whole 2 (imm ∷ []) 0 (CopyLoc 0 ∷ StLoc 1 ∷ MoveLoc 0 ∷ VectorOp 0 true 0 ofValue ∷ []) (refusal 13 3)
     ∷ whole 0 [] 0 (load ∷ []) (refusal 14 0)
     ∷ whole 0 [] 0 (Values 0 17 ofValue ∷ []) (refusal 20 0)
+    ∷ whole 0 [] 0 (Values 0 16 ofValue ∷ Values 16 16 ofValue ∷ Values 16 0 ofValue ∷ []) accept
     ∷ whole 1 (imm ∷ []) 0 (load ∷ MoveLoc 0 ∷ MoveTo ∷ []) (refusal 11 2)
     ∷ whole 1 (imm ∷ []) 0 (MoveLoc 0 ∷ load ∷ MoveTo ∷ []) accept
     ∷ []

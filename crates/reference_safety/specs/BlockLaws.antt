@@ -1,0 +1,137 @@
+-- Laws of a block's run: one instruction after the other, and its end.
+use Prim.Native.Nat.{ℕ, zero, suc, _+_, _-_, _≤_, _<_, min}
+use mathlib.Core.Path.{_≡_, refl, sym, ap, _∙_}
+use mathlib.Core.Bool.{Bool, true, false, _&&_, cond, true≢false}
+use mathlib.Core.List.{List, [], _∷_, map}
+use native.Mathlib.Numerals.{add-one}
+use native.Mathlib.Omega.{arith}
+use lib.Dec.{eqb}
+use lib.ListN.{length, take, drop, getD, length-drop, length-map, length-take}
+use lib.Seq.{take-nil}
+use Rattle.meaning.specs.Base.{Ans, ok, refuse}
+use Rattle.meaning.specs.State.{State}
+use Rattle.meaning.specs.Rename.{canonical}
+use Rattle.meaning.specs.ArrayLaws.{front-map-step}
+use Rattle.meaning.specs.Running.{Outcome, done, violated, refused, then, lift, Operand, Running}
+use Rattle.meaning.specs.Steps.{Instr, Machine, stepOn, step}
+use Rattle.meaning.specs.Loop.{Result, Block}
+use Rattle.meaning.specs.Blocks.{Routine, instrsOf, start, renamedEnd, finish, settle, runFrom, runBlock}
+use Rattle.abstract_state.specs.Models.{halted}
+use Rattle.abstract_state.specs.ModelLaws.{goes}
+use Rattle.listing.specs.Models.{withParts, decodedOf}
+use Rattle.listing.specs.declared.decode.Instruction.{Instruction}
+use Rattle.listing.specs.declared.decode.Decoded.{Decoded}
+use Rattle.reference_safety.specs.Models.{with, placed}
+use Rattle.reference_safety.specs.MachineLaws.{apart}
+use Rattle.state_join.specs.Models.{canonicalEnd}
+use Rattle.meaning.specs.Listing.{tokenAs}
+
+-- ---- one instruction
+
+module _ (v n : ℕ) (r : Running) (vs : List Operand) (returns : ℕ) (d : Decoded) where
+  pub stepped : {i : Instruction} → d .instruction ≡ i → (o : Outcome Machine)
+      → o ≡ then (halted v n r) (stepOn returns (withParts (take (d .«acquired_count») (d .acquired)) (map tokenAs (take (d .«token_count») (d .tokens))) i) vs)
+      → o ≡ then (halted v n (with vs r)) (step returns (decodedOf d))
+  unfolding decodedOf step
+  stepped e o p =
+      p
+      ∙ sym (ap (λ (i : Instruction). then (halted v n r) (stepOn returns (withParts (take (d .«acquired_count») (d .acquired)) (map tokenAs (take (d .«token_count») (d .tokens))) i) vs)) e)
+      ∙ apart v n r vs (λ ws s. stepOn returns (withParts (take (d .«acquired_count») (d .acquired)) (map tokenAs (take (d .«token_count») (d .tokens))) (d .instruction)) ws s)
+
+-- ---- the instructions in turn
+
+pub going : (v n : ℕ) → v ≡ 0 → n ≡ 0 → (eqb v 0 && eqb n 0) ≡ true
+going v n e f = ap (λ (x : ℕ). eqb x 0 && eqb n 0) e ∙ ap (λ (x : ℕ). eqb 0 0 && eqb x 0) f
+
+module _ {A : Type 0} where
+  take-min : (xs : List A) (m : ℕ) → take (min (length xs) m) xs ≡ take m xs
+  take-min [] m = take-nil (min 0 m) ∙ sym (take-nil m)
+  take-min (x ∷ xs) zero = let e : min (suc (length xs)) 0 ≡ 0 = omega arith in ap (λ (k : ℕ). take k (x ∷ xs)) e
+  take-min (x ∷ xs) (suc m) =
+      let e : min (suc (length xs)) (suc m) ≡ suc (min (length xs) m) = omega arith in
+      ap (λ (k : ℕ). take k (x ∷ xs)) e ∙ ap (λ (l : List A). x ∷ l) (take-min xs m)
+
+-- a block ends behind its exit, or with the code
+pub block-start : (q : Routine) (b : Block) (s : State) (end : ℕ) (r : Running) (vs : List Operand) → r ≡ start (q .locals) s .state → vs ≡ [] → end ≡ min (length (q .code)) (b .entry + suc (b .exit - b .entry))
+    → runFrom (q .returns) b s (b .entry) (take (end - b .entry) (drop (b .entry) (q .code))) (with vs r) ≡ runBlock q b s
+unfolding runBlock instrsOf
+block-start q b s end r vs e f g =
+    let n : end - b .entry ≡ min (length (drop (b .entry) (q .code))) (suc (b .exit - b .entry)) = omega (arith, length-drop (b .entry) (q .code)) in
+    ap (λ (k : ℕ). runFrom (q .returns) b s (b .entry) (take k (drop (b .entry) (q .code))) (with vs r)) n
+    ∙ ap (λ (is : List Instr). runFrom (q .returns) b s (b .entry) is (with vs r)) (take-min (drop (b .entry) (q .code)) (suc (b .exit - b .entry)))
+    ∙ ap (λ (ws : List Operand). runFrom (q .returns) b s (b .entry) (take (suc (b .exit - b .entry)) (drop (b .entry) (q .code))) (with ws r)) f
+    ∙ ap (λ (t : Running). runFrom (q .returns) b s (b .entry) (take (suc (b .exit - b .entry)) (drop (b .entry) (q .code))) (with [] t)) e
+
+-- the instruction at k, and the others up to the end
+pub next-instr : (f : ℕ → Instr) (code : List ℕ) (count end k : ℕ) → k < end → end ≤ length (map f (take count code))
+    → take (end - k) (drop k (map f (take count code))) ≡ f (getD code k 0) ∷ take (end - (k + 1)) (drop (k + 1) (map f (take count code)))
+next-instr f code count end k h g =
+    let n : end - k ≡ suc (end - (k + 1)) = omega arith in
+    ap (λ (j : ℕ). take j (drop k (map f (take count code)))) n ∙ ap (take (suc (end - (k + 1)))) (front-map-step f count code 0 k (omega arith))
+
+pub code-length : (f : ℕ → Instr) (code : List ℕ) (count : ℕ) → length (map f (take count code)) ≡ min count (length code)
+code-length f code count = simp (length-map, length-take)
+
+module _ (returns : ℕ) (b : Block) (s : State) (k : ℕ) (i j : Instr) (is js : List Instr) (l : js ≡ i ∷ is) (v n : ℕ) (m : Machine) (v′ n′ : ℕ) (r : Running) (vs : List Operand) (o : Result State) (e : (eqb v 0 && eqb n 0) ≡ true) (d : j ≡ i) (p : halted v′ n′ (with vs r) ≡ then (halted v n m) (step returns j)) (h : runFrom returns b s k js m ≡ o) where
+  next : settle k (halted v′ n′ (with vs r)) (λ x. runFrom returns b s (suc k) is x) ≡ o
+  unfolding runFrom
+  next =
+      ap (λ (x : Outcome Machine). settle k x (λ y. runFrom returns b s (suc k) is y)) (p ∙ sym (goes v n m (step returns j) e) ∙ ap (λ (x : Instr). step returns x m) d)
+      ∙ ap (λ (xs : List Instr). runFrom returns b s k xs m) (sym l)
+      ∙ h
+
+  pub block-turn : (eqb v′ 0 && eqb n′ 0) ≡ true → runFrom returns b s (k + 1) is (with vs r) ≡ o
+  block-turn z = ap (λ (a : ℕ). runFrom returns b s a is (with vs r)) (add-one k) ∙ go (eqb v′ 0) (eqb n′ 0) z ∙ next
+    where
+      go : (x y : Bool) → (x && y) ≡ true → runFrom returns b s (suc k) is (with vs r) ≡ settle k (cond x (cond y (done (with vs r)) (refused n′)) (violated v′)) (λ w. runFrom returns b s (suc k) is w)
+      go true true z = refl
+      go true false z = absurd (true≢false (sym z))
+      go false y z = absurd (true≢false (sym z))
+
+  pub block-stop : (eqb v′ 0 && eqb n′ 0) ≡ false → placed k (halted v′ n′ r) ≡ o
+  block-stop z = go (eqb v′ 0) (eqb n′ 0) z ∙ next
+    where
+      go : (x y : Bool) → (x && y) ≡ false → placed k (cond x (cond y (done r) (refused n′)) (violated v′)) ≡ settle k (cond x (cond y (done (with vs r)) (refused n′)) (violated v′)) (λ w. runFrom returns b s (suc k) is w)
+      go true true z = absurd (true≢false z)
+      go true false z = refl
+      go false y z = refl
+
+pub block-end : (returns : ℕ) (b : Block) (s : State) (k n : ℕ) (is : List Instr) (m : Machine) (o : Result State) → n ≡ 0 → runFrom returns b s k (take n is) m ≡ o → finish b s (m .state) (m .stack) ≡ o
+unfolding runFrom
+block-end returns b s k n is m o z h = ap (λ (j : ℕ). runFrom returns b s k (take j is) m) (sym z) ∙ h
+
+-- ---- the end
+
+module _ (entry exit n a c : ℕ) (s : State) (r : Running) (vs : List Operand) where
+  abbrev block : Block
+  block = record { entry = entry; exit = exit; successors = take n (a ∷ c ∷ []) }
+
+  pub finish-left : (length vs ≡ 0 → ⊥) → Result.refused 14 exit ≡ finish block s r vs
+  finish-left h = go vs h
+    where
+      go : (ws : List Operand) → (length ws ≡ 0 → ⊥) → Result.refused 14 exit ≡ finish block s r ws
+      go [] h = absurd (h refl)
+      go (w ∷ ws) h = refl
+
+  module _ (z : length vs ≡ 0) where
+    nothing : (f : List Operand → Result State) → f [] ≡ f vs
+    nothing f = go vs z
+      where
+        go : (ws : List Operand) → length ws ≡ 0 → f [] ≡ f ws
+        go [] e = refl
+        go (w ∷ ws) e = absurd (omega arith)
+
+    pub finish-none : n ≡ 0 → Result.ended s ≡ finish block s r vs
+    finish-none e = sym (ap (λ (k : ℕ). finish (record { entry = entry; exit = exit; successors = take k (a ∷ c ∷ []) }) s r []) e) ∙ nothing (finish block s r)
+
+    pub finish-some : (n ≡ 0 → ⊥) → placed exit (canonicalEnd r) ≡ finish block s r vs
+    unfolding canonicalEnd
+    finish-some e = named (canonical (r .root) (record { locals = r .locals; graph = r .graph })) ∙ go n e ∙ nothing (finish block s r)
+      where
+        named : (t : Ans State) → placed exit (then (lift t) (λ x. done (start (r .root) x .state))) ≡ renamedEnd exit t
+        named (ok t) = refl
+        named (refuse k) = refl
+
+        go : (k : ℕ) → (k ≡ 0 → ⊥) → renamedEnd exit (canonical (r .root) (record { locals = r .locals; graph = r .graph })) ≡ finish (record { entry = entry; exit = exit; successors = take k (a ∷ c ∷ []) }) s r []
+        go zero e = absurd (e refl)
+        go (suc k) e = refl

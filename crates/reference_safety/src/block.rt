@@ -1,0 +1,172 @@
+// One instruction, and one block from its kept state to the state that its successors get.
+use crate::machine::Machine;
+use crate::machine::pushed;
+use crate::steps;
+use abstract_state::state::AbstractState;
+use file_format::CodeOffset;
+use listing::Block;
+use listing::Routine;
+use listing::decode::Decoded;
+use listing::decode::Instruction;
+use listing::decode::decode;
+use meaning::MAX_INSTRUCTIONS;
+use operand_stack::depth;
+use operand_stack::empty;
+use state_join::canonical::construct_canonical_state;
+ghost use mathlib.Core.Path.{_≡_};
+ghost use mathlib.Core.Bool.{true, _&&_};
+ghost use Prim.Native.Nat.{suc, _+_, _-_, min};
+ghost use lib.Dec.{eqb};
+ghost use lib.ListN.{length};
+ghost use Rattle.meaning.specs.Running.{then};
+ghost use Rattle.meaning.specs.Steps.{step};
+ghost use Rattle.meaning.specs.Blocks as Q;
+ghost use Rattle.listing.specs.Models.{decodedOf, blockOf, routineOf};
+ghost use Rattle.abstract_state.specs.Models.{runningOf, stateOf};
+ghost use Rattle.operand_stack.specs.Models.{stackOf};
+ghost use Rattle.reference_safety.specs.Models.{machineOf, stateIn, ranOf};
+
+// A block's end: the state that stands for it, or the violation or refusal in that state's numbers, with its place.
+pub struct Ran {
+    pub place: CodeOffset,
+    pub state: AbstractState,
+}
+
+pub fn execute(m: Machine, d: Decoded, returns: u8) -> Machine
+    ensures { λ r. ⌜ machineOf r ≡ then (machineOf m) (step returns (decodedOf d)) ⌝ }
+{
+    let state = m.state;
+    let stack = m.stack;
+    let i = d.instruction;
+    match i {
+        Instruction::Pop => steps::pop_top(state, stack),
+        Instruction::CopyLoc(local) => pushed(state_steps::copy_loc(state, local), stack),
+        Instruction::MoveLoc(local) => pushed(state_steps::move_loc(state, local), stack),
+        Instruction::StLoc(local) => steps::st_loc(state, stack, local),
+        Instruction::FreezeRef => steps::freeze_ref(state, stack),
+        Instruction::Compare => steps::compare(state, stack),
+        Instruction::ReadRef => steps::read_ref(state, stack),
+        Instruction::WriteRef => steps::write_ref(state, stack),
+        Instruction::BorrowLoc(local, mutable) => {
+            pushed(state_steps::borrow_loc(state, mutable, local), stack)
+        }
+        Instruction::BorrowField(n, mutable) => steps::borrow_field(state, stack, n, mutable),
+        Instruction::BorrowGlobal(n, mutable) => steps::borrow_global(state, stack, n, mutable),
+        Instruction::MoveFrom(n) => steps::move_from(state, stack, n),
+        Instruction::Call(n) => {
+            let acquired = d.acquired;
+            let tokens = d.tokens;
+            steps::call(
+                state,
+                stack,
+                n,
+                acquired,
+                d.acquired_count,
+                tokens,
+                d.token_count,
+            )
+        }
+        Instruction::Ret => steps::ret(state, stack, returns),
+        Instruction::Values(n, k, token) => steps::values(state, stack, n, k, token),
+        Instruction::MoveTo => steps::move_to(state, stack),
+        Instruction::VectorOp(n, mutable, k, token) => {
+            steps::vector_op(state, stack, n, mutable, k, token)
+        }
+        Instruction::BorrowElement(mutable) => steps::borrow_element(state, stack, mutable),
+    }
+}
+
+fn lesser(a: usize, b: usize) -> usize
+    ensures { λ r. ⌜ r ≡ min a b ⌝ }
+{
+    if a < b {
+        return a;
+    }
+    b
+}
+
+// How many instructions a routine has.
+fn code_len(routine: Routine) -> usize
+    ensures { λ r. ⌜ (r ≡ min (routine .«code_count») 512) × (length (routine .code) ≡ 512) ⌝ }
+{
+    lesser(routine.code_count, MAX_INSTRUCTIONS)
+}
+
+// The offset behind a block's last instruction. (One whose exit lies before its entry has one instruction.)
+fn past(b: Block) -> usize
+    ensures { λ r. ⌜ r ≡ b .entry .0 + suc (b .exit .0 - b .entry .0) ⌝ }
+{
+    let entry = b.entry.0 as usize;
+    let exit = b.exit.0 as usize;
+    if exit < entry {
+        return entry + 1;
+    }
+    exit + 1
+}
+
+// The state that a block starts with, in a routine of so many locals.
+fn begin(state: AbstractState, locals: u8) -> AbstractState
+    ensures { λ r. ⌜ (r .violation ≡ 0) × (r .refusal ≡ 0) × (runningOf r ≡ Q.start locals (stateIn locals state) .state) ⌝ }
+{
+    let mut s = state;
+    s.violation = 0;
+    s.refusal = 0;
+    s.num_locals = locals;
+    s.next_id = locals as u32 + 1;
+    s
+}
+
+// The end of a block whose instructions are done: 14, then, with successors, 16 or the names changed.
+fn finish(b: Block, first: AbstractState, m: Machine) -> Ran
+    requires { ⌜ (first .violation ≡ 0) × (first .refusal ≡ 0) × ((eqb (m .state .violation) 0 && eqb (m .state .refusal) 0) ≡ true) ⌝ }
+    ensures { λ r. ⌜ ranOf r ≡ Q.finish (blockOf b) (stateOf first) (runningOf (m .state)) (stackOf (m .stack)) ⌝ }
+{
+    let stack = m.stack;
+    let state = m.state;
+    let place = b.exit;
+    if depth(stack) != 0 {
+        return Ran {
+            place,
+            state: state.refuse(14),
+        };
+    }
+    if b.count == 0 {
+        return Ran {
+            place,
+            state: first,
+        };
+    }
+    Ran {
+        place,
+        state: construct_canonical_state(state),
+    }
+}
+
+// A state's locals are read as many as the routine has.
+pub fn run_block(listing: &[u8], routine: Routine, b: Block, state: AbstractState) -> Ran
+    ensures { λ r. ⌜ ranOf r ≡ Q.runBlock (routineOf (now (listing .entry)) routine) (blockOf b) (stateIn (routine .locals) state) ⌝ }
+{
+    let first = begin(state, routine.locals);
+    let n = code_len(routine);
+    let end = lesser(n, past(b));
+    let stack = empty();
+    let mut m = Machine {
+        state: first,
+        stack,
+    };
+    let mut k = b.entry.0 as usize;
+    while k < end {
+        let d = decode(listing, routine.code[k]);
+        m = execute(m, d, routine.returns);
+        if (m.state.violation == 0) & (m.state.refusal == 0) {
+            k += 1;
+        } else {
+            let s = m.state;
+            return Ran {
+                place: CodeOffset(k as u16),
+                state: s,
+            };
+        }
+    }
+    finish(b, first, m)
+}
