@@ -1,2 +1,4 @@
 pub mod Models
 pub mod LoopLaws
+pub mod HandLaws
+pub mod VisitLaws

@@ -22,11 +22,6 @@ use Rattle.absint.specs.declared.error.Lowest.{Lowest}
 use Rattle.absint.specs.declared.Ruling.{Ruling}
 use Rattle.absint.specs.declared.Ruling.the-variants.{Accept, Violation, Refused}
 use Rattle.absint.specs.declared.Verdict as W
-use Rattle.absint.specs.declared.stub.Ran.{Ran}
-use Rattle.meaning.specs.Running.{Outcome, Running, done}
-use Rattle.meaning.specs.Running as R
-use Rattle.abstract_state.specs.Models.{localsIn, outcomeOf}
-use Rattle.borrow_graph.specs.Models.{graphOf}
 
 abbrev pub statusOf : BlockStatus → Status
 statusOf x = cond (x .failed) (failed (x .code) (x .offset .0)) fine
@@ -123,14 +118,3 @@ pub record Left (s : List ℕ) (ws ws′ : List ℕ) : Type 0 where
   pub unread : (n p : ℕ) → readListing s ≡ refused n p → ws′ ≡ ws
   pub short : length ws < 16384 → ws′ ≡ ws
   pub beyond : drop 16384 ws′ ≡ drop 16384 ws
-
-abbrev pub stateIn : ℕ → AbstractState → State
-stateIn l s = record { locals = localsIn (s .locals) l; graph = graphOf (s .«borrow_graph») }
-
-abbrev pub placed : ℕ → Outcome Running → Result State
-placed p (done r) = Result.ended (record { locals = r .locals; graph = r .graph })
-placed p (R.violated c) = Result.violated c p
-placed p (R.refused n) = Result.refused n p
-
-abbrev pub ranOf : Ran → Result State
-ranOf r = placed (r .place .0) (outcomeOf (r .state))

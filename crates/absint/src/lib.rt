@@ -1,7 +1,6 @@
 // The block loop (absint.rs) over the lent work area, and the check of a listing from its bytes to the verdict.
 mod error;
 mod hand;
-pub mod stub;
 mod tally;
 mod visit;
 

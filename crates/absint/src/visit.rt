@@ -1,12 +1,12 @@
 // The run of a routine's blocks.
 use crate::hand::spread;
-use crate::stub::run_block;
 use crate::tally::BlockStatus;
 use crate::tally::Tally;
 use kept_states::clear;
 use kept_states::load;
 use kept_states::store;
 use listing::Routine;
+use reference_safety::block::run_block;
 use state_join::first::new;
 ghost use mathlib.Core.Path.{_≡_};
 ghost use mathlib.Core.Bool.{false};

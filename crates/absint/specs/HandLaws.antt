@@ -1,0 +1,140 @@
+-- An end state handed on: what each way through the code leaves, as the definitions have it.
+use Prim.Native.Nat.{ℕ, zero, suc, _+_, _≤_, _<_}
+use native.Mathlib.Omega.{arith}
+use mathlib.Core.Path.{_≡_, refl, sym, ap, _∙_, subst}
+use mathlib.Core.Logic.{_≢_}
+use mathlib.Core.Bool.{Bool, true, false, _&&_, cond}
+use mathlib.Core.Option.{Option, none, some}
+use mathlib.Core.List.{List, [], _∷_}
+use borrow.Author.Tests.{le-leb, lt-ltb}
+use lib.Dec.{leb, ltb}
+use lib.ListN.{length, take, drop, set}
+use Rattle.meaning.specs.Base.{Ans, ok, refuse}
+use Rattle.meaning.specs.Area.{keptOf, hasBlock, Stored}
+use Rattle.meaning.specs.State.{State, join, changed}
+use Rattle.meaning.specs.Loop as M
+use Rattle.meaning.specs.Loop.{Result, Status, fine, Next, at, stopped, position, toNext}
+use Rattle.meaning.specs.FitLaws as F
+use Rattle.meaning.specs.FitLaws.{Does, spreadTo}
+use Rattle.absint.specs.Models.{statusesOf, nextOf, SameCounts, HandedOn, SpreadOut}
+use Rattle.absint.specs.declared.tally.Tally.{Tally}
+
+pub same : (t : Tally) → SameCounts t t
+same t = record { visits = refl; turns = refl }
+
+pub going : (t : Tally) → t .stopped ≡ false → nextOf t ≡ at (t .next)
+going t e = ap (λ (b : Bool). cond b (stopped (t .number) (t .place .0)) (at (t .next))) e
+
+-- a state stored where the area has the block
+pub stored-here : (l b : ℕ) (s : State) (ws ws′ : List ℕ) → 16384 ≤ length ws → b < 16 → Stored l s b ws ws′ → keptOf l ws′ b ≡ some s
+stored-here l b s ws ws′ h k w =
+    w .kept ∙ ap {B = Option State} (λ (x : Bool). cond x (some s) none) ((λ i. le-leb 16384 (length ws) h i && lt-ltb b 16 k i))
+
+module _ (bs : List M.Block) (l : ℕ) (b : M.Block) (s : State) (e : ℕ) (ws : List ℕ) (t : Tally) where
+  pub handed-stopped : t .stopped ≡ true → HandedOn bs l b s e ws ws t t
+  handed-stopped q =
+      let n : nextOf t ≡ stopped (t .number) (t .place .0) = ap (λ (x : Bool). cond x (stopped (t .number) (t .place .0)) (at (t .next))) q in
+      record {
+        does = λ ex. subst (λ (m : Next). Does State join changed ex bs (toNext State join changed ex bs b s e) (keptOf l ws) (statusesOf t) m (keptOf l ws) (statusesOf t) m) (sym n)
+          (F.hand-stopped State join changed ex bs b s e (keptOf l ws) (statusesOf t) (t .number) (t .place .0));
+        beyond = refl;
+        counts = same t;
+      }
+
+  module _ (q : t .stopped ≡ false) where
+    n : nextOf t ≡ at (t .next)
+    n = going t q
+
+    pub handed-nowhere : length bs ≤ position bs e → HandedOn bs l b s e ws ws t t
+    handed-nowhere h =
+        record {
+          does = λ ex. subst (λ (m : Next). Does State join changed ex bs (toNext State join changed ex bs b s e) (keptOf l ws) (statusesOf t) m (keptOf l ws) (statusesOf t) m) (sym n)
+            (F.hand-nowhere State join changed ex bs b s e (keptOf l ws) (statusesOf t) (t .next) h);
+          beyond = refl;
+          counts = same t;
+        }
+
+    module _ (j : ℕ) (p : j ≡ position bs e) (within : j < length bs) (few : length bs ≤ 16) (area : 16384 ≤ length ws) where
+      in-list : position bs e < length bs
+      in-list = omega (arith, p, within)
+
+      -- stored at j, read at the position
+      here : (m : ℕ) (x : State) (ws′ : List ℕ) → ((us : List ℕ) (i : ℕ) → keptOf m us i ≡ keptOf l us i) → Stored m x j ws ws′ → keptOf l ws′ (position bs e) ≡ some x
+      here m x ws′ r w = subst (λ (i : ℕ). keptOf l ws′ i ≡ some x) p (sym (r ws′ j) ∙ stored-here m j x ws ws′ area (omega (arith, within, few)) w)
+
+      there : (m : ℕ) (x : State) (ws′ : List ℕ) → Stored m x j ws ws′ → (i : ℕ) → i ≢ position bs e → keptOf l ws′ i ≡ keptOf l ws i
+      there m x ws′ w i h = w .others l i (λ z. h (z ∙ p))
+
+      module _ (r : Tally) (sts : length (statusesOf t) ≡ 16) where
+        pub handed-fresh : (m : ℕ) (ws′ : List ℕ) → ((us : List ℕ) (i : ℕ) → keptOf m us i ≡ keptOf l us i) → keptOf l ws j ≡ none → Stored m s j ws ws′
+            → nextOf r ≡ nextOf t → statusesOf r ≡ set (statusesOf t) j fine → SameCounts t r → HandedOn bs l b s e ws ws′ t r
+        handed-fresh m ws′ reads absent w a c k =
+            record {
+              does = λ ex. subst (λ (x : Next). Does State join changed ex bs (toNext State join changed ex bs b s e) (keptOf l ws) (statusesOf t) x (keptOf l ws′) (statusesOf r) (nextOf r)) (sym n)
+                (subst (λ (x : Next). Does State join changed ex bs (toNext State join changed ex bs b s e) (keptOf l ws) (statusesOf t) (at (t .next)) (keptOf l ws′) (statusesOf r) x) (sym (a ∙ n))
+                (subst (λ (x : List Status). Does State join changed ex bs (toNext State join changed ex bs b s e) (keptOf l ws) (statusesOf t) (at (t .next)) (keptOf l ws′) x (at (t .next))) (sym (c ∙ ap (λ (i : ℕ). set (statusesOf t) i fine) p))
+                (F.hand-fresh State join changed ex bs b s e (keptOf l ws) (statusesOf t) (t .next) (keptOf l ws′) in-list (omega (arith, few, sts)) (subst (λ (i : ℕ). keptOf l ws i ≡ none) p absent) (here m s ws′ reads w) (there m s ws′ w))));
+              beyond = w .beyond;
+              counts = k;
+            }
+
+        pub handed-refused : (k : State) (x : ℕ) → keptOf l ws j ≡ some k → join k s ≡ refuse x → nextOf r ≡ stopped x (b .exit) → statusesOf r ≡ statusesOf t → SameCounts t r → HandedOn bs l b s e ws ws t r
+        handed-refused k x old y a c z =
+            record {
+              does = λ ex. subst (λ (m : Next). Does State join changed ex bs (toNext State join changed ex bs b s e) (keptOf l ws) (statusesOf t) m (keptOf l ws) (statusesOf r) (nextOf r)) (sym n)
+                (subst (λ (m : Next). Does State join changed ex bs (toNext State join changed ex bs b s e) (keptOf l ws) (statusesOf t) (at (t .next)) (keptOf l ws) (statusesOf r) m) (sym a)
+                (subst (λ (m : List Status). Does State join changed ex bs (toNext State join changed ex bs b s e) (keptOf l ws) (statusesOf t) (at (t .next)) (keptOf l ws) m (stopped x (b .exit))) (sym c)
+                (F.hand-refused State join changed ex bs b s e (keptOf l ws) (statusesOf t) (t .next) k in-list (subst (λ (i : ℕ). keptOf l ws i ≡ some k) p old) x y)));
+              beyond = refl;
+              counts = z;
+            }
+
+        pub handed-changed : (k x : State) (m : ℕ) (ws′ : List ℕ) (y : ℕ) → ((us : List ℕ) (i : ℕ) → keptOf m us i ≡ keptOf l us i) → keptOf l ws j ≡ some k → join k s ≡ ok x → changed k x ≡ true → Stored m x j ws ws′
+            → cond (leb e (b .entry)) j (t .next) ≡ y → nextOf r ≡ at y → statusesOf r ≡ set (statusesOf t) j fine → SameCounts t r → HandedOn bs l b s e ws ws′ t r
+        handed-changed k x m ws′ y reads old d new w g a c z =
+            record {
+              does = λ ex. subst (λ (u : Next). Does State join changed ex bs (toNext State join changed ex bs b s e) (keptOf l ws) (statusesOf t) u (keptOf l ws′) (statusesOf r) (nextOf r)) (sym n)
+                (subst (λ (u : Next). Does State join changed ex bs (toNext State join changed ex bs b s e) (keptOf l ws) (statusesOf t) (at (t .next)) (keptOf l ws′) (statusesOf r) u) (sym (a ∙ ap at (sym g ∙ ap (λ (i : ℕ). cond (leb e (b .entry)) i (t .next)) p)))
+                (subst (λ (u : List Status). Does State join changed ex bs (toNext State join changed ex bs b s e) (keptOf l ws) (statusesOf t) (at (t .next)) (keptOf l ws′) u (at (cond (leb e (b .entry)) (position bs e) (t .next)))) (sym (c ∙ ap (λ (i : ℕ). set (statusesOf t) i fine) p))
+                (F.hand-changed State join changed ex bs b s e (keptOf l ws) (statusesOf t) (t .next) k in-list (subst (λ (i : ℕ). keptOf l ws i ≡ some k) p old) x (keptOf l ws′) (omega (arith, few, sts)) d new (here m x ws′ reads w) (there m x ws′ w))));
+              beyond = w .beyond;
+              counts = z;
+            }
+
+      pub handed-same : (k x : State) → keptOf l ws j ≡ some k → join k s ≡ ok x → changed k x ≡ false → HandedOn bs l b s e ws ws t t
+      handed-same k x old d no =
+          record {
+            does = λ ex. subst (λ (m : Next). Does State join changed ex bs (toNext State join changed ex bs b s e) (keptOf l ws) (statusesOf t) m (keptOf l ws) (statusesOf t) m) (sym n)
+              (F.hand-same State join changed ex bs b s e (keptOf l ws) (statusesOf t) (t .next) k in-list (subst (λ (i : ℕ). keptOf l ws i ≡ some k) p old) x d no);
+            beyond = refl;
+            counts = same t;
+          }
+
+-- ---- to the successors as listed
+
+module _ (bs : List M.Block) (l : ℕ) (b : M.Block) (s : State) (ws : List ℕ) (t : Tally) where
+  pub spread-none : b .successors ≡ [] → SpreadOut bs l b s ws ws t t
+  spread-none z =
+      record {
+        does = λ ex. subst (λ (es : List ℕ). Does State join changed ex bs (spreadTo State join changed ex bs b s es) (keptOf l ws) (statusesOf t) (nextOf t) (keptOf l ws) (statusesOf t) (nextOf t)) (sym z) (F.spread-none State join changed ex bs b s (keptOf l ws) (statusesOf t) (nextOf t));
+        beyond = refl;
+        counts = same t;
+      }
+
+  pub spread-one : (e : ℕ) (ws′ : List ℕ) (r : Tally) → b .successors ≡ e ∷ [] → HandedOn bs l b s e ws ws′ t r → SpreadOut bs l b s ws ws′ t r
+  spread-one e ws′ r z h =
+      record {
+        does = λ ex. subst (λ (es : List ℕ). Does State join changed ex bs (spreadTo State join changed ex bs b s es) (keptOf l ws) (statusesOf t) (nextOf t) (keptOf l ws′) (statusesOf r) (nextOf r)) (sym z)
+          (F.spread-one State join changed ex bs b s e (keptOf l ws) (keptOf l ws′) (statusesOf t) (statusesOf r) (nextOf t) (nextOf r) (h .does ex));
+        beyond = h .beyond;
+        counts = h .counts;
+      }
+
+  pub spread-two : (e d : ℕ) (ws′ ws″ : List ℕ) (u r : Tally) → b .successors ≡ e ∷ d ∷ [] → HandedOn bs l b s e ws ws′ t u → HandedOn bs l b s d ws′ ws″ u r → SpreadOut bs l b s ws ws″ t r
+  spread-two e d ws′ ws″ u r z h k =
+      record {
+        does = λ ex. subst (λ (es : List ℕ). Does State join changed ex bs (spreadTo State join changed ex bs b s es) (keptOf l ws) (statusesOf t) (nextOf t) (keptOf l ws″) (statusesOf r) (nextOf r)) (sym z)
+          (F.spread-two State join changed ex bs b s e d (keptOf l ws) (keptOf l ws′) (keptOf l ws″) (statusesOf t) (statusesOf u) (statusesOf r) (nextOf t) (nextOf u) (nextOf r) (h .does ex) (k .does ex));
+        beyond = k .beyond ∙ h .beyond;
+        counts = record { visits = k .counts .visits ∙ h .counts .visits; turns = k .counts .turns ∙ h .counts .turns };
+      }
