@@ -36,7 +36,7 @@ module _ (bs : List M.Block) (l : ℕ) (b : M.Block) (s : State) (e : ℕ) (ws :
       let n : nextOf t ≡ stopped (t .number) (t .place .0) = ap (λ (x : Bool). cond x (stopped (t .number) (t .place .0)) (at (t .next))) q in
       record {
         does = λ ex. subst (λ (m : Next). Does State join changed ex bs (toNext State join changed ex bs b s e) (keptOf l ws) (statusesOf t) m (keptOf l ws) (statusesOf t) m) (sym n)
-          (F.hand-stopped State join changed ex bs b s e (keptOf l ws) (statusesOf t) (t .number) (t .place .0));
+            (F.hand-stopped State join changed ex bs b s e (keptOf l ws) (statusesOf t) (t .number) (t .place .0));
         beyond = refl;
         counts = same t;
       }
@@ -49,7 +49,7 @@ module _ (bs : List M.Block) (l : ℕ) (b : M.Block) (s : State) (e : ℕ) (ws :
     handed-nowhere h =
         record {
           does = λ ex. subst (λ (m : Next). Does State join changed ex bs (toNext State join changed ex bs b s e) (keptOf l ws) (statusesOf t) m (keptOf l ws) (statusesOf t) m) (sym n)
-            (F.hand-nowhere State join changed ex bs b s e (keptOf l ws) (statusesOf t) (t .next) h);
+              (F.hand-nowhere State join changed ex bs b s e (keptOf l ws) (statusesOf t) (t .next) h);
           beyond = refl;
           counts = same t;
         }
@@ -71,9 +71,9 @@ module _ (bs : List M.Block) (l : ℕ) (b : M.Block) (s : State) (e : ℕ) (ws :
         handed-fresh m ws′ reads absent w a c k =
             record {
               does = λ ex. subst (λ (x : Next). Does State join changed ex bs (toNext State join changed ex bs b s e) (keptOf l ws) (statusesOf t) x (keptOf l ws′) (statusesOf r) (nextOf r)) (sym n)
-                (subst (λ (x : Next). Does State join changed ex bs (toNext State join changed ex bs b s e) (keptOf l ws) (statusesOf t) (at (t .next)) (keptOf l ws′) (statusesOf r) x) (sym (a ∙ n))
-                (subst (λ (x : List Status). Does State join changed ex bs (toNext State join changed ex bs b s e) (keptOf l ws) (statusesOf t) (at (t .next)) (keptOf l ws′) x (at (t .next))) (sym (c ∙ ap (λ (i : ℕ). set (statusesOf t) i fine) p))
-                (F.hand-fresh State join changed ex bs b s e (keptOf l ws) (statusesOf t) (t .next) (keptOf l ws′) in-list (omega (arith, few, sts)) (subst (λ (i : ℕ). keptOf l ws i ≡ none) p absent) (here m s ws′ reads w) (there m s ws′ w))));
+                  (subst (λ (x : Next). Does State join changed ex bs (toNext State join changed ex bs b s e) (keptOf l ws) (statusesOf t) (at (t .next)) (keptOf l ws′) (statusesOf r) x) (sym (a ∙ n))
+                  (subst (λ (x : List Status). Does State join changed ex bs (toNext State join changed ex bs b s e) (keptOf l ws) (statusesOf t) (at (t .next)) (keptOf l ws′) x (at (t .next))) (sym (c ∙ ap (λ (i : ℕ). set (statusesOf t) i fine) p))
+                  (F.hand-fresh State join changed ex bs b s e (keptOf l ws) (statusesOf t) (t .next) (keptOf l ws′) in-list (omega (arith, few, sts)) (subst (λ (i : ℕ). keptOf l ws i ≡ none) p absent) (here m s ws′ reads w) (there m s ws′ w))));
               beyond = w .beyond;
               counts = k;
             }
@@ -82,9 +82,9 @@ module _ (bs : List M.Block) (l : ℕ) (b : M.Block) (s : State) (e : ℕ) (ws :
         handed-refused k x old y a c z =
             record {
               does = λ ex. subst (λ (m : Next). Does State join changed ex bs (toNext State join changed ex bs b s e) (keptOf l ws) (statusesOf t) m (keptOf l ws) (statusesOf r) (nextOf r)) (sym n)
-                (subst (λ (m : Next). Does State join changed ex bs (toNext State join changed ex bs b s e) (keptOf l ws) (statusesOf t) (at (t .next)) (keptOf l ws) (statusesOf r) m) (sym a)
-                (subst (λ (m : List Status). Does State join changed ex bs (toNext State join changed ex bs b s e) (keptOf l ws) (statusesOf t) (at (t .next)) (keptOf l ws) m (stopped x (b .exit))) (sym c)
-                (F.hand-refused State join changed ex bs b s e (keptOf l ws) (statusesOf t) (t .next) k in-list (subst (λ (i : ℕ). keptOf l ws i ≡ some k) p old) x y)));
+                  (subst (λ (m : Next). Does State join changed ex bs (toNext State join changed ex bs b s e) (keptOf l ws) (statusesOf t) (at (t .next)) (keptOf l ws) (statusesOf r) m) (sym a)
+                  (subst (λ (m : List Status). Does State join changed ex bs (toNext State join changed ex bs b s e) (keptOf l ws) (statusesOf t) (at (t .next)) (keptOf l ws) m (stopped x (b .exit))) (sym c)
+                  (F.hand-refused State join changed ex bs b s e (keptOf l ws) (statusesOf t) (t .next) k in-list (subst (λ (i : ℕ). keptOf l ws i ≡ some k) p old) x y)));
               beyond = refl;
               counts = z;
             }
@@ -94,18 +94,18 @@ module _ (bs : List M.Block) (l : ℕ) (b : M.Block) (s : State) (e : ℕ) (ws :
         handed-changed k x m ws′ y reads old d new w g a c z =
             record {
               does = λ ex. subst (λ (u : Next). Does State join changed ex bs (toNext State join changed ex bs b s e) (keptOf l ws) (statusesOf t) u (keptOf l ws′) (statusesOf r) (nextOf r)) (sym n)
-                (subst (λ (u : Next). Does State join changed ex bs (toNext State join changed ex bs b s e) (keptOf l ws) (statusesOf t) (at (t .next)) (keptOf l ws′) (statusesOf r) u) (sym (a ∙ ap at (sym g ∙ ap (λ (i : ℕ). cond (leb e (b .entry)) i (t .next)) p)))
-                (subst (λ (u : List Status). Does State join changed ex bs (toNext State join changed ex bs b s e) (keptOf l ws) (statusesOf t) (at (t .next)) (keptOf l ws′) u (at (cond (leb e (b .entry)) (position bs e) (t .next)))) (sym (c ∙ ap (λ (i : ℕ). set (statusesOf t) i fine) p))
-                (F.hand-changed State join changed ex bs b s e (keptOf l ws) (statusesOf t) (t .next) k in-list (subst (λ (i : ℕ). keptOf l ws i ≡ some k) p old) x (keptOf l ws′) (omega (arith, few, sts)) d new (here m x ws′ reads w) (there m x ws′ w))));
+                  (subst (λ (u : Next). Does State join changed ex bs (toNext State join changed ex bs b s e) (keptOf l ws) (statusesOf t) (at (t .next)) (keptOf l ws′) (statusesOf r) u) (sym (a ∙ ap at (sym g ∙ ap (λ (i : ℕ). cond (leb e (b .entry)) i (t .next)) p)))
+                  (subst (λ (u : List Status). Does State join changed ex bs (toNext State join changed ex bs b s e) (keptOf l ws) (statusesOf t) (at (t .next)) (keptOf l ws′) u (at (cond (leb e (b .entry)) (position bs e) (t .next)))) (sym (c ∙ ap (λ (i : ℕ). set (statusesOf t) i fine) p))
+                  (F.hand-changed State join changed ex bs b s e (keptOf l ws) (statusesOf t) (t .next) k in-list (subst (λ (i : ℕ). keptOf l ws i ≡ some k) p old) x (keptOf l ws′) (omega (arith, few, sts)) d new (here m x ws′ reads w) (there m x ws′ w))));
               beyond = w .beyond;
               counts = z;
             }
 
       pub handed-same : (k x : State) → keptOf l ws j ≡ some k → join k s ≡ ok x → changed k x ≡ false → HandedOn bs l b s e ws ws t t
-      handed-same k x old d no =
+      handed-same k x old d z =
           record {
             does = λ ex. subst (λ (m : Next). Does State join changed ex bs (toNext State join changed ex bs b s e) (keptOf l ws) (statusesOf t) m (keptOf l ws) (statusesOf t) m) (sym n)
-              (F.hand-same State join changed ex bs b s e (keptOf l ws) (statusesOf t) (t .next) k in-list (subst (λ (i : ℕ). keptOf l ws i ≡ some k) p old) x d no);
+                (F.hand-same State join changed ex bs b s e (keptOf l ws) (statusesOf t) (t .next) k in-list (subst (λ (i : ℕ). keptOf l ws i ≡ some k) p old) x d z);
             beyond = refl;
             counts = same t;
           }
@@ -125,7 +125,7 @@ module _ (bs : List M.Block) (l : ℕ) (b : M.Block) (s : State) (ws : List ℕ)
   spread-one e ws′ r z h =
       record {
         does = λ ex. subst (λ (es : List ℕ). Does State join changed ex bs (spreadTo State join changed ex bs b s es) (keptOf l ws) (statusesOf t) (nextOf t) (keptOf l ws′) (statusesOf r) (nextOf r)) (sym z)
-          (F.spread-one State join changed ex bs b s e (keptOf l ws) (keptOf l ws′) (statusesOf t) (statusesOf r) (nextOf t) (nextOf r) (h .does ex));
+            (F.spread-one State join changed ex bs b s e (keptOf l ws) (keptOf l ws′) (statusesOf t) (statusesOf r) (nextOf t) (nextOf r) (h .does ex));
         beyond = h .beyond;
         counts = h .counts;
       }
@@ -134,7 +134,26 @@ module _ (bs : List M.Block) (l : ℕ) (b : M.Block) (s : State) (ws : List ℕ)
   spread-two e d ws′ ws″ u r z h k =
       record {
         does = λ ex. subst (λ (es : List ℕ). Does State join changed ex bs (spreadTo State join changed ex bs b s es) (keptOf l ws) (statusesOf t) (nextOf t) (keptOf l ws″) (statusesOf r) (nextOf r)) (sym z)
-          (F.spread-two State join changed ex bs b s e d (keptOf l ws) (keptOf l ws′) (keptOf l ws″) (statusesOf t) (statusesOf u) (statusesOf r) (nextOf t) (nextOf u) (nextOf r) (h .does ex) (k .does ex));
+            (F.spread-two State join changed ex bs b s e d (keptOf l ws) (keptOf l ws′) (keptOf l ws″) (statusesOf t) (statusesOf u) (statusesOf r) (nextOf t) (nextOf u) (nextOf r) (h .does ex) (k .does ex));
         beyond = k .beyond ∙ h .beyond;
         counts = record { visits = k .counts .visits ∙ h .counts .visits; turns = k .counts .turns ∙ h .counts .turns };
       }
+
+-- a block has the successors that its count says, two at most
+pub take-two : (n a b : ℕ) → (n ≡ 0 → ⊥) → (n ≡ 1 → ⊥) → take n (a ∷ b ∷ []) ≡ a ∷ b ∷ []
+take-two zero a b p q = absurd (p refl)
+take-two (suc zero) a b p q = absurd (q refl)
+take-two (suc (suc zero)) a b p q = refl
+take-two (suc (suc (suc n))) a b p q = refl
+
+-- where a block is next, nothing has stopped the run
+pub not-stopped : (r : Tally) (n : ℕ) → nextOf r ≡ at n → r .stopped ≡ false
+not-stopped r n e = go (r .stopped) e
+  where
+    gone : Next → Bool
+    gone (at m) = false
+    gone (stopped m p) = true
+
+    go : (b : Bool) → cond b (stopped (r .number) (r .place .0)) (at (r .next)) ≡ at n → b ≡ false
+    go true e = ap gone e
+    go false e = refl

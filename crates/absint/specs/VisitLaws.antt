@@ -93,10 +93,10 @@ block-at xs n i w h k = go xs n i (omega (arith, w, h)) k
 -- ---- one turn
 
 module _ (s : List ℕ) (d : D.Routine) (w : length (d .blocks) ≡ 16) (ws : List ℕ) (t : Tally) (p : Ready s d ws t) where
-  q : Routine
+  abbrev q : Routine
   q = routineOf s d
 
-  i : ℕ
+  abbrev i : ℕ
   i = t .next
 
   count : length (q .blocks) ≡ d .«block_count»
@@ -153,10 +153,10 @@ module _ (s : List ℕ) (d : D.Routine) (w : length (d .blocks) ≡ 16) (ws : Li
     turned-ended e b ws′ u r ran same a c v m h =
         record {
           step = λ x y. moved (step State join changed (exec q) (q .blocks) x) ws′ r (statusesOf r) (nextOf r) (suc (t .visits)) refl refl (h .counts .visits ∙ v)
-            (F.step-ended State join changed (exec q) (q .blocks) x (keptOf (d .locals) ws) (statusesOf t) i (t .visits) (at-next x y) inside k old e (keptOf (d .locals) ws′) (statusesOf r) (nextOf r) room ran
-            (subst (λ (f : M.Block). F.Does State join changed (exec q) (q .blocks) (F.spreadTo State join changed (exec q) (q .blocks) f e (f .successors)) (keptOf (d .locals) ws) (set (statusesOf t) i fine) (at (suc i)) (keptOf (d .locals) ws′) (statusesOf r) (nextOf r)) same
-            (subst (λ (n : Next). F.Does State join changed (exec q) (q .blocks) (F.spreadTo State join changed (exec q) (q .blocks) b e (b .successors)) (keptOf (d .locals) ws) (set (statusesOf t) i fine) n (keptOf (d .locals) ws′) (statusesOf r) (nextOf r)) c
-            (subst (λ (xs : List Status). F.Does State join changed (exec q) (q .blocks) (F.spreadTo State join changed (exec q) (q .blocks) b e (b .successors)) (keptOf (d .locals) ws) xs (nextOf u) (keptOf (d .locals) ws′) (statusesOf r) (nextOf r)) a (h .does (exec q))))));
+              (F.step-ended State join changed (exec q) (q .blocks) x (keptOf (d .locals) ws) (statusesOf t) i (t .visits) (at-next x y) inside k old e (keptOf (d .locals) ws′) (statusesOf r) (nextOf r) room ran
+              (subst (λ (f : M.Block). F.Does State join changed (exec q) (q .blocks) (F.spreadTo State join changed (exec q) (q .blocks) f e (f .successors)) (keptOf (d .locals) ws) (set (statusesOf t) i fine) (at (suc i)) (keptOf (d .locals) ws′) (statusesOf r) (nextOf r)) same
+              (subst (λ (n : Next). F.Does State join changed (exec q) (q .blocks) (F.spreadTo State join changed (exec q) (q .blocks) b e (b .successors)) (keptOf (d .locals) ws) (set (statusesOf t) i fine) n (keptOf (d .locals) ws′) (statusesOf r) (nextOf r)) c
+              (subst (λ (xs : List Status). F.Does State join changed (exec q) (q .blocks) (F.spreadTo State join changed (exec q) (q .blocks) b e (b .successors)) (keptOf (d .locals) ws) xs (nextOf u) (keptOf (d .locals) ws′) (statusesOf r) (nextOf r)) a (h .does (exec q))))));
           turns = h .counts .turns ∙ m;
           fewer = let z : t .visits ≤ t .turns = p .fewer in let y : r .visits ≡ suc (t .visits) = h .counts .visits ∙ v in let x : r .turns ≡ t .turns + 1 = h .counts .turns ∙ m in omega (arith, y, x, z);
           beyond = h .beyond;

@@ -19,7 +19,7 @@ ghost use Rattle.absint.specs.Models.{Reads, HandedOn, SpreadOut};
 // Where the block with this entry is listed; n, if there is none.
 fn position_of(blocks: [Block; 16], n: usize, e: CodeOffset) -> usize
     requires { ⌜ n ≤ 16 ⌝ }
-    ensures { λ r. ⌜ r ≡ position (blocksIn blocks n) (e .0) ⌝ }
+    ensures { λ r. ⌜ (r ≡ position (blocksIn blocks n) (e .0)) × (length (blocksIn blocks n) ≡ n) ⌝ }
 {
     let mut i: usize = 0;
     while i < n {

@@ -44,7 +44,7 @@ impl Tally {
     }
 
     pub(crate) fn stop(self, number: u8, place: CodeOffset) -> Self
-        ensures { λ r. ⌜ (nextOf r ≡ stopped number (place .0)) × (statusesOf r ≡ statusesOf self) × SameCounts self r ⌝ }
+        ensures { λ r. ⌜ (nextOf r ≡ stopped number (place .0)) × (statusesOf r ≡ statusesOf self) × SameCounts self r × (length (statusesOf self) ≡ 16) ⌝ }
     {
         let mut t = self;
         t.stopped = true;

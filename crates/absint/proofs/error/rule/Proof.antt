@@ -1,10 +1,10 @@
 use mathlib.Core.Path.{_≡_, refl, sym, ap, _∙_}
-use Prim.Native.Nat.{_-_, _+_}
+use mathlib.Core.Bool.{Bool, cond}
+use mathlib.Core.List.{[]}
+use Prim.Native.Nat.{_-_, _+_, _<_}
 use lib.ListN.{length, drop, getD}
-use Rattle.records.proofs.Lists.{unmapped}
 use Rattle.meaning.specs.ArrayLaws.{length-of-map}
-use Rattle.meaning.specs.Loop as M
-use Rattle.meaning.specs.Loop.{accept, entryOf, lowestOf, Verdict}
+use Rattle.meaning.specs.Loop.{accept, violation, refusal, Verdict}
 use Rattle.meaning.specs.FitLaws.{lowestBy}
 use Rattle.listing.specs.Models.{blockOf, blocksIn}
 use Rattle.absint.specs.Models.{statusesOf, statusOf, lowestVerdict}
@@ -51,13 +51,37 @@ loop-less : tie.Need-loop-less Inv-loop μ-loop
 loop-less c = omega arith
 
 loop-again : tie.Need-loop-again Inv-loop μ-loop
-loop-again c = ?
+loop-again c =
+    let full : length ((c .before .before .before .before .before .before .before .args) .t1) ≡ 16 = search length-of-map in
+    let rows : length ((c .before .before .before .before .before .before .before .args) .t3 .statuses) ≡ 16 = search length-of-map in
+    let i = (c .before .before .before .before .before .loop) .i in
+    let l = (c .before .before .before .before .before .loop) .l in
+    let few = (c .before .before .before .before .before .before .before .pre) in
+    let h : i < ((c .before .before .before .before .before .before .before .args) .n) = (c .before .before .before .before .loop-test) .taken in
+    (λ k. lowestBy (drop (i + 1) (blocksIn ((c .before .before .before .before .before .before .before .args) .t1) ((c .before .before .before .before .before .before .before .args) .n))) (drop (i + 1) (statusesOf ((c .before .before .before .before .before .before .before .args) .t3))) ((c .lower) .ensures .1 k) ((c .lower) .ensures .0 k))
+    ∙ sym (lowest-step (blockOf (getD ((c .before .before .before .before .before .before .before .args) .t1) i past-block)) (drop (i + 1) (blocksIn ((c .before .before .before .before .before .before .before .args) .t1) ((c .before .before .before .before .before .before .before .args) .n))) (statusOf (getD ((c .before .before .before .before .before .before .before .args) .t3 .statuses) i past-status)) (drop (i + 1) (statusesOf ((c .before .before .before .before .before .before .before .args) .t3))) (l .entry .0) (lowestVerdict l))
+    ∙ (λ k. lowestBy (sym (blocks-step ((c .before .before .before .before .before .before .before .args) .t1) ((c .before .before .before .before .before .before .before .args) .n) full few i h) k) (sym (statuses-step ((c .before .before .before .before .before .before .before .args) .t3) i (omega (arith, rows, h, few))) k) (l .entry .0) (lowestVerdict l))
+    ∙ (c .before .before .before .before .before .loop) .inv
 
 returns-2 : tie.Need-returns-2 Inv-loop μ-loop
-returns-2 c = ?
+returns-2 c =
+    let full : length ((c .before .before .before .before .before .args) .t1) ≡ 16 = search length-of-map in
+    let l = (c .before .before .before .loop) .l in
+    sym (ap (λ (b : Bool). cond b (violation (l .code) (l .offset .0)) accept) ((c .before .if2) .taken))
+    ∙ sym (lowest-end (drop ((c .before .before .before .loop) .i) (statusesOf ((c .before .before .before .before .before .args) .t3))) (l .entry .0) (lowestVerdict l))
+    ∙ (λ k. lowestBy (sym (blocks-end ((c .before .before .before .before .before .args) .t1) ((c .before .before .before .before .before .args) .n) full ((c .before .before .before .before .before .pre)) ((c .before .before .before .loop) .i) ((c .before .before .loop-test) .left)) k) (drop ((c .before .before .before .loop) .i) (statusesOf ((c .before .before .before .before .before .args) .t3))) (l .entry .0) (lowestVerdict l))
+    ∙ (c .before .before .before .loop) .inv
+    ∙ sym (ap (λ (b : Bool). cond b (refusal ((c .before .before .before .before .before .args) .t3 .number) ((c .before .before .before .before .before .args) .t3 .place .0)) (lowestBy (blocksIn ((c .before .before .before .before .before .args) .t1) ((c .before .before .before .before .before .args) .n)) (statusesOf ((c .before .before .before .before .before .args) .t3)) 0 accept)) ((c .before .before .before .before .if1) .left))
 
 returns-3 : tie.Need-returns-3 Inv-loop μ-loop
-returns-3 c = ?
+returns-3 c =
+    let full : length ((c .before .before .before .before .args) .t1) ≡ 16 = search length-of-map in
+    let l = (c .before .before .loop) .l in
+    sym (ap (λ (b : Bool). cond b (violation (l .code) (l .offset .0)) accept) ((c .if2) .left))
+    ∙ sym (lowest-end (drop ((c .before .before .loop) .i) (statusesOf ((c .before .before .before .before .args) .t3))) (l .entry .0) (lowestVerdict l))
+    ∙ (λ k. lowestBy (sym (blocks-end ((c .before .before .before .before .args) .t1) ((c .before .before .before .before .args) .n) full ((c .before .before .before .before .pre)) ((c .before .before .loop) .i) ((c .before .loop-test) .left)) k) (drop ((c .before .before .loop) .i) (statusesOf ((c .before .before .before .before .args) .t3))) (l .entry .0) (lowestVerdict l))
+    ∙ (c .before .before .loop) .inv
+    ∙ sym (ap (λ (b : Bool). cond b (refusal ((c .before .before .before .before .args) .t3 .number) ((c .before .before .before .before .args) .t3 .place .0)) (lowestBy (blocksIn ((c .before .before .before .before .args) .t1) ((c .before .before .before .before .args) .n)) (statusesOf ((c .before .before .before .before .args) .t3)) 0 accept)) ((c .before .before .before .if1) .left))
 
 pub rule-spec : {M : Type 1} → statement M
 rule-spec =

@@ -3,11 +3,11 @@ use mathlib.Core.List.{List}
 use Prim.Native.Nat.{_+_, _-_}
 use borrow.Author.Tests.{eq-eqb, ne-eqb}
 use lib.ListN.{length, drop, getD}
-use Rattle.records.proofs.Lists.{unmapped}
+use Rattle.meaning.specs.ArrayLaws.{length-of-map}
 use Rattle.meaning.specs.Loop as M
 use Rattle.meaning.specs.Loop.{position}
 use Rattle.listing.specs.Models.{blockOf, blocksIn}
-use Rattle.absint.specs.LoopLaws.{past-block, blocks-step, blocks-end, position-found, position-passed, position-none}
+use Rattle.absint.specs.LoopLaws.{past-block, blocks-count, blocks-step, blocks-end, position-found, position-passed, position-none}
 use native.Mathlib.Omega.{arith}
 use borrow.Author.Needs.{needs}
 use Rattle.absint.proofs.hand.position_of.Statement.{statement}
@@ -30,8 +30,8 @@ array-copy-out-b c = omega arith
 
 returns : tie.Need-returns Inv-loop μ-loop
 returns c =
-    let full : length ((c .before .before .before .before .before .before .args) .t1) ≡ 16 = search (unmapped) in
-    position-found ((c .before .before .before .before .before .before .args) .e .0) ((c .before .before .before .before .before .loop) .i) (blockOf (getD ((c .before .before .before .before .before .before .args) .t1) ((c .before .before .before .before .before .loop) .i) past-block)) (drop ((c .before .before .before .before .before .loop) .i + 1) (blocksIn ((c .before .before .before .before .before .before .args) .t1) ((c .before .before .before .before .before .before .args) .n))) _ (eq-eqb _ _ ((c .if1) .taken)) (rw (blocks-step ((c .before .before .before .before .before .before .args) .t1) ((c .before .before .before .before .before .before .args) .n) full ((c .before .before .before .before .before .before .pre)) ((c .before .before .before .before .before .loop) .i) ((c .before .before .before .before .loop-test) .taken)) at ((c .before .before .before .before .before .loop) .inv))
+    let full : length ((c .before .before .before .before .before .before .args) .t1) ≡ 16 = search length-of-map in
+    (position-found ((c .before .before .before .before .before .before .args) .e .0) ((c .before .before .before .before .before .loop) .i) (blockOf (getD ((c .before .before .before .before .before .before .args) .t1) ((c .before .before .before .before .before .loop) .i) past-block)) (drop ((c .before .before .before .before .before .loop) .i + 1) (blocksIn ((c .before .before .before .before .before .before .args) .t1) ((c .before .before .before .before .before .before .args) .n))) _ (eq-eqb _ _ ((c .if1) .taken)) (rw (blocks-step ((c .before .before .before .before .before .before .args) .t1) ((c .before .before .before .before .before .before .args) .n) full ((c .before .before .before .before .before .before .pre)) ((c .before .before .before .before .before .loop) .i) ((c .before .before .before .before .loop-test) .taken)) at ((c .before .before .before .before .before .loop) .inv)), blocks-count ((c .before .before .before .before .before .before .args) .t1) ((c .before .before .before .before .before .before .args) .n) full ((c .before .before .before .before .before .before .pre)))
 
 add-i : tie.Need-add-i Inv-loop μ-loop
 add-i c = omega arith
@@ -41,13 +41,13 @@ loop-less c = omega arith
 
 loop-again : tie.Need-loop-again Inv-loop μ-loop
 loop-again c =
-    let full : length ((c .before .before .before .before .before .before .args) .t1) ≡ 16 = search (unmapped) in
+    let full : length ((c .before .before .before .before .before .before .args) .t1) ≡ 16 = search length-of-map in
     position-passed ((c .before .before .before .before .before .before .args) .e .0) ((c .before .before .before .before .before .loop) .i) (blockOf (getD ((c .before .before .before .before .before .before .args) .t1) ((c .before .before .before .before .before .loop) .i) past-block)) (drop ((c .before .before .before .before .before .loop) .i + 1) (blocksIn ((c .before .before .before .before .before .before .args) .t1) ((c .before .before .before .before .before .before .args) .n))) _ (ne-eqb _ _ ((c .if1) .left)) (rw (blocks-step ((c .before .before .before .before .before .before .args) .t1) ((c .before .before .before .before .before .before .args) .n) full ((c .before .before .before .before .before .before .pre)) ((c .before .before .before .before .before .loop) .i) ((c .before .before .before .before .loop-test) .taken)) at ((c .before .before .before .before .before .loop) .inv))
 
 returns-2 : tie.Need-returns-2 Inv-loop μ-loop
 returns-2 c =
-    let full : length ((c .before .before .args) .t1) ≡ 16 = search (unmapped) in
-    position-none ((c .before .before .args) .e .0) ((c .before .loop) .i) _ (rw (blocks-end ((c .before .before .args) .t1) ((c .before .before .args) .n) full ((c .before .before .pre)) ((c .before .loop) .i) ((c .loop-test) .left)) at ((c .before .loop) .inv))
+    let full : length ((c .before .before .args) .t1) ≡ 16 = search length-of-map in
+    (position-none ((c .before .before .args) .e .0) ((c .before .loop) .i) _ (rw (blocks-end ((c .before .before .args) .t1) ((c .before .before .args) .n) full ((c .before .before .pre)) ((c .before .loop) .i) ((c .loop-test) .left)) at ((c .before .loop) .inv)), blocks-count ((c .before .before .args) .t1) ((c .before .before .args) .n) full ((c .before .before .pre)))
 
 pub position-of-spec : {M : Type 1} → statement M
 position-of-spec =

@@ -4,11 +4,11 @@ use Rattle.absint.proofs.visit.visit.Tie as tie
 use Rattle.absint.proofs.visit.visit.Reads as reads
 use Rattle.absint.proofs.visit.visit.Lts as lts
 use Rattle.absint.proofs.hand.spread.Reads as spread-reads
-use Rattle.absint.proofs.stub.run_block.Reads as run-block-reads
 use Rattle.absint.proofs.tally.Tally.clear.Reads as clear-reads
 use Rattle.absint.proofs.tally.Tally.mark.Reads as mark-reads
 use Rattle.absint.proofs.tally.Tally.stop.Reads as stop-reads
 use Rattle.kept_states.proofs.load.Reads as load-reads
+use Rattle.reference_safety.proofs.block.run_block.Reads as run-block-reads
 
 -- src/visit.rt:24:14
 add-u : tie.Need-add-u

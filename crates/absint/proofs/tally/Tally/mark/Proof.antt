@@ -1,6 +1,6 @@
 use mathlib.Core.Path.{_≡_, refl}
 use lib.ListN.{length}
-use Rattle.records.proofs.Lists.{unmapped}
+use Rattle.meaning.specs.ArrayLaws.{length-of-map}
 use Rattle.absint.specs.LoopLaws.{statuses-set, statuses-count}
 use Rattle.absint.specs.Models.{statusesOf}
 use borrow.Author.Needs.{needs}
@@ -16,7 +16,7 @@ element-set-from-x c = search needs
 returns : tie.Need-returns
 unfolding statusesOf
 returns c =
-    let full : length ((c .args) .self .statuses) ≡ 16 = search (unmapped) in
+    let full : length ((c .args) .self .statuses) ≡ 16 = search length-of-map in
     (refl, statuses-set ((c .args) .self) ((c .args) .j) ((c .args) .x), record { visits = refl; turns = refl }, statuses-count ((c .args) .self) full)
 
 pub mark-spec : {M : Type 1} → statement M
