@@ -88,8 +88,7 @@ module _ (s : List ℕ) (d : D.Routine) where
   pub record Readable : Type 0 where
     pub promise : promised theRoutine ≡ true
     pub blocks : d .«block_count» ≤ 16
-    pub some : 1 ≤ d .«block_count»
-    pub params : d .«param_count» ≤ 16
+    pub count : length (theRoutine .blocks) ≡ d .«block_count»
 
   -- a block is next
   pub record Ready (ws : List ℕ) (t : Tally) : Type 0 where

@@ -1,22 +1,24 @@
 -- One turn of the loop, its start and its end, as the definitions have them.
 use Prim.Native.Nat.{ℕ, zero, suc, _+_, _*_, _≤_, _<_, min}
-use native.Mathlib.Nat.{not-suc-le-zero, le-of-suc-le-suc}
+use native.Mathlib.Nat.{not-suc-le-zero, le-of-suc-le-suc, mul-le-mul}
 use native.Mathlib.Numerals.{add-one}
 use native.Mathlib.Omega.{arith}
 use mathlib.Core.Path.{_≡_, refl, sym, ap, _∙_, subst}
-use mathlib.Core.Logic.{_≢_}
+use mathlib.Core.Logic.{_≢_, _⊎_, inl, inr}
 use mathlib.Core.Bool.{Bool, true, false, not, _&&_, cond, true≢false}
 use mathlib.Core.Option.{Option, none, some}
 use mathlib.Core.List.{List, [], _∷_, map}
-use borrow.Author.Tests.{ne-eqb, eq-eqb, lt-ltb, le-ltb, le-leb}
+use borrow.Author.Tests.{ne-eqb, eq-eqb, lt-ltb, le-ltb, le-leb, ltb-false}
 use lib.Dec.{eqb, leb, ltb}
 use lib.ListN.{length, take, drop, getD, set, length-map, length-take}
-use Rattle.meaning.specs.Area.{keptOf, decode, Stored, cleared}
+use Rattle.meaning.specs.ArrayLaws.{front-all}
+use Rattle.meaning.specs.Area.{keptOf, Stored, cleared}
 use Rattle.meaning.specs.AreaLaws.{cleared-kept, cleared-beyond}
 use Rattle.meaning.specs.State.{State, join, changed}
 use Rattle.meaning.specs.Running as R
 use Rattle.meaning.specs.Running.{Outcome, done, Running}
-use Rattle.meaning.specs.Blocks.{Routine, exec, runBlock, firstState, Strong, promised}
+use Rattle.meaning.specs.Base.{and-l, leb-le, all}
+use Rattle.meaning.specs.Blocks.{Routine, exec, runBlock, firstState, Strong, promised, fits, instrsOf, placed as placed-rets}
 use Rattle.meaning.specs.BlockLaws.{exec-keeps}
 use Rattle.meaning.specs.Loop as M
 use Rattle.meaning.specs.Loop.{Result, Status, fine, failed, Next, at, stopped, Run, Spread, noBlock, blank, step, steps, run, hasEnded, visits, accept, refusal, lowest, verdict, Verdict}
@@ -27,11 +29,12 @@ use Rattle.meaning.specs.Verify.{mostVisits, runOf}
 use Rattle.listing.specs.Models.{blockOf, blocksIn, routineOf}
 use Rattle.listing.specs.declared.Block.{Block}
 use Rattle.listing.specs.declared.Routine as D
-use Rattle.abstract_state.specs.Models.{halted, localOf, localsIn, runningOf, outcomeOf, stateOf}
+use Rattle.abstract_state.specs.Models.{halted, localOf, localsIn, runningOf, outcomeOf, answerOf, operandOf, stateOf}
 use Rattle.abstract_state.specs.declared.state.Local.{Local}
 use Rattle.abstract_state.specs.declared.state.AbstractState.{AbstractState}
+use Rattle.state_join.specs.Models.{firstRunning}
 use Rattle.reference_safety.specs.Models.{placed}
-use Rattle.absint.specs.Models.{statusOf, statusesOf, nextOf, SameCounts, SpreadOut, At, Ready, Turned, Started, Analyzed, verdictIn}
+use Rattle.absint.specs.Models.{statusOf, statusesOf, nextOf, SameCounts, SpreadOut, At, Readable, Ready, Turned, Started, Analyzed, verdictIn}
 use Rattle.absint.specs.LoopLaws.{past-block, blocks-count}
 use Rattle.absint.specs.HandLaws.{going, stored-here}
 use Rattle.absint.specs.declared.tally.Tally.{Tally}
@@ -70,13 +73,16 @@ loaded-root s r e = ap (λ (x : Running). x .root) (done-inv (s .violation) (s .
 pub kept-root : (m l : ℕ) → m ≡ l → (ws : List ℕ) (j : ℕ) → keptOf m ws j ≡ keptOf l ws j
 kept-root m l e ws j = ap (λ (n : ℕ). keptOf n ws j) e
 
-pub kept-min : (m l : ℕ) → min m 16 ≡ min l 16 → (ws : List ℕ) (j : ℕ) → keptOf m ws j ≡ keptOf l ws j
-unfolding keptOf decode
-kept-min m l e ws j = rw e refl
-
-pub locals-min : (xs : List Local) (m l : ℕ) → length xs ≡ 16 → l ≤ 16 → length (localsIn xs m) ≡ l → min m 16 ≡ min l 16
+-- a state that has l locals, with that number
+pub locals-same : (xs : List Local) (m l : ℕ) → length (localsIn xs m) ≡ l → localsIn xs l ≡ localsIn xs m
 unfolding localsIn
-locals-min xs m l w h e = let z : length (map localOf (take m xs)) ≡ l = e in let y : min m (length xs) ≡ l = (simp (length-map, length-take) at z) in omega (arith, w, h, y)
+locals-same xs m l e =
+    ap (map localOf) (ap (λ (k : ℕ). take k xs) (sym (sym (length-map (take m xs) localOf) ∙ e)) ∙ front-all m xs)
+
+-- a block that was run
+pub ran : (q : Routine) (i : ℕ) (b : M.Block) (s s′ : State) (o : Result State) → b ≡ getD (q .blocks) i noBlock → s′ ≡ s → o ≡ runBlock q b s′ → exec q i s ≡ o
+unfolding exec
+ran q i b s s′ o x y e = (λ k. runBlock q (sym x k) (sym y k)) ∙ sym e
 
 -- the block at a position
 pub block-at : (xs : List Block) (n i : ℕ) → length xs ≡ 16 → n ≤ 16 → i < n → blockOf (getD xs i past-block) ≡ getD (blocksIn xs n) i noBlock
@@ -92,15 +98,12 @@ block-at xs n i w h k = go xs n i (omega (arith, w, h)) k
 
 -- ---- one turn
 
-module _ (s : List ℕ) (d : D.Routine) (w : length (d .blocks) ≡ 16) (ws : List ℕ) (t : Tally) (p : Ready s d ws t) where
+module _ (s : List ℕ) (d : D.Routine) (count : length (routineOf s d .blocks) ≡ d .«block_count») (ws : List ℕ) (t : Tally) (p : Ready s d ws t) where
   abbrev q : Routine
   q = routineOf s d
 
   abbrev i : ℕ
   i = t .next
-
-  count : length (q .blocks) ≡ d .«block_count»
-  count = blocks-count (d .blocks) (d .«block_count») w (p .blocks)
 
   inside : i < length (q .blocks)
   inside = omega (arith, count, p .within)
@@ -163,5 +166,147 @@ module _ (s : List ℕ) (d : D.Routine) (w : length (d .blocks) ≡ 16) (ws : Li
         }
 
     -- the end state has L locals too
-    pub ended-reads : (e : AbstractState) → length (e .locals) ≡ 16 → d .locals ≤ 16 → exec q i k ≡ Result.ended (stateOf e) → (us : List ℕ) (j : ℕ) → keptOf (e .«num_locals») us j ≡ keptOf (d .locals) us j
-    ended-reads e full small ran = kept-min (e .«num_locals») (d .locals) (locals-min (e .locals) (e .«num_locals») (d .locals) full small (exec-keeps q (p .promise) i k (stateOf e) ran (p .strong k old) .form .count))
+    pub ended-count : (e : State) → exec q i k ≡ Result.ended e → length (e .locals) ≡ d .locals
+    ended-count e ran = exec-keeps q (p .promise) i k e ran (p .strong k old) .form .count
+
+-- ---- the whole run
+
+-- the bound on visits within the limits: 16 blocks of 16 locals
+pub most-few : (b l n : ℕ) → b ≤ 16 → l ≤ 16 → n < b * (1 + b * (11 * l * l + l)) → n < 1048576
+most-few b l n h k m =
+    let x : l * l ≤ 16 * 16 = mul-le-mul k k in
+    let y : 11 * l * l + l ≤ 2832 = omega (arith, x, k) in
+    let z : b * (11 * l * l + l) ≤ 16 * 2832 = mul-le-mul h y in
+    let v : 1 + b * (11 * l * l + l) ≤ 45313 = omega (arith, z) in
+    let w : b * (1 + b * (11 * l * l + l)) ≤ 16 * 45313 = mul-le-mul h v in
+    omega (arith, w, m)
+
+module _ (s : List ℕ) (d : D.Routine) (promise : promised (routineOf s d) ≡ true) (count : length (routineOf s d .blocks) ≡ d .«block_count») where
+  abbrev pub whole : ℕ → Run State
+  whole k = RunLaws.theRun (routineOf s d) promise k
+
+  -- the run after as many steps as the program has made turns
+  pub record Going (ws₀ ws : List ℕ) (t : Tally) : Type 0 where
+    pub here : At s d (whole (t .turns)) ws t
+    pub fewer : t .visits ≤ t .turns
+    pub beyond : drop 16384 ws ≡ drop 16384 ws₀
+
+  abbrev r : Routine
+  r = routineOf s d
+
+  begun : (k : ℕ) → whole k ≡ steps State join changed (exec r) (r .blocks) k (F.first State join changed (exec r) (r .blocks) (firstState (r .locals) (r .params)))
+  unfolding run
+  begun k = refl
+
+  more : (k : ℕ) → whole (suc k) ≡ step State join changed (exec r) (r .blocks) (whole k)
+  unfolding run
+  more k = F.steps-more State join changed (exec r) (r .blocks) k (F.first State join changed (exec r) (r .blocks) (firstState (r .locals) (r .params)))
+
+  -- the first block has the first state, no other one has any
+  pub goes : (ws₀ ws₁ ws : List ℕ) (t : Tally) → 16384 ≤ length ws₀ → ws₁ ≡ cleared ws₀ → length ws₁ ≡ length ws₀ → Stored (d .locals) (firstState (r .locals) (r .params)) 0 ws₁ ws → Started t → Going ws₀ ws t
+  unfolding steps
+  goes ws₀ ws₁ ws t area clean same w p =
+      record {
+        here = subst (λ (n : ℕ). At s d (whole n) ws t) (sym (p .turns))
+            (subst (λ (x : Run State). At s d x ws t) (sym (begun 0))
+            (subst (λ (n : Next). Reached State join changed (exec r) (r .blocks) (F.first State join changed (exec r) (r .blocks) (firstState (r .locals) (r .params))) (keptOf (d .locals) ws) (statusesOf t) n (t .visits)) (sym (p .next))
+            (subst (λ (n : ℕ). Reached State join changed (exec r) (r .blocks) (F.first State join changed (exec r) (r .blocks) (firstState (r .locals) (r .params))) (keptOf (d .locals) ws) (statusesOf t) (at 0) n) (sym (p .visits))
+            (F.starts State join changed (exec r) (r .blocks) (firstState (r .locals) (r .params)) (keptOf (d .locals) ws) (statusesOf t)
+            (λ z. stored-here (d .locals) 0 (firstState (r .locals) (r .params)) ws₁ ws (omega (arith, area, same)) (omega arith) w)
+            (λ j z. w .others (d .locals) j z ∙ ap (λ (us : List ℕ). keptOf (d .locals) us j) clean ∙ cleared-kept (d .locals) ws₀ j area)
+            (p .fines)))));
+        fewer = let a = p .visits in let b = p .turns in omega (arith, a, b);
+        beyond = w .beyond ∙ ap (drop 16384) clean ∙ cleared-beyond ws₀ area;
+      }
+
+  module _ (ws₀ ws : List ℕ) (t : Tally) (g : Going ws₀ ws t) where
+    -- a block is next: the run has not ended
+    module _ (on : t .stopped ≡ false) (m : t .next < d .«block_count») where
+      unended : hasEnded State join changed (exec r) (r .blocks) (whole (t .turns)) ≡ false
+      unended =
+          ap (M.endedAt State join changed (exec r) (r .blocks)) (sym (g .here .next) ∙ going t on)
+          ∙ ap not (lt-ltb (t .next) (length (r .blocks)) (omega (arith, count, m)))
+
+      pub bound : t .turns < mostVisits r
+      bound = RunLaws.unsettled r promise (t .turns) unended
+
+      pub ready : d .«block_count» ≤ 16 → d .locals ≤ 16 → 16384 ≤ length ws → Ready s d ws t
+      ready few small area =
+          record {
+            promise = promise;
+            blocks = few;
+            area = area;
+            going = on;
+            within = m;
+            strong = λ k e. RunLaws.kept-strong r promise (t .turns) (t .next) k (sym (g .here .fits .kept (t .next) (let z = g .here .same-length in omega (arith, count, m, z))) ∙ e);
+            few = most-few (d .«block_count») (d .locals) (t .turns) few small (subst (λ (n : ℕ). t .turns < n * (1 + n * (11 * d .locals * d .locals + d .locals))) count bound);
+            fewer = g .fewer;
+          }
+
+      pub goes-on : (ws′ : List ℕ) (u : Tally) → Turned s d ws ws′ t u → Going ws₀ ws′ u
+      goes-on ws′ u h =
+          record {
+            here = subst (λ (n : ℕ). At s d (whole n) ws′ u) (sym (h .turns ∙ add-one (t .turns)))
+                (subst (λ (x : Run State). At s d x ws′ u) (sym (more (t .turns)))
+                (h .step (whole (t .turns)) (g .here)));
+            fewer = h .fewer;
+            beyond = h .beyond ∙ g .beyond;
+          }
+
+    -- no block is next, or the run was stopped: it is the whole run
+    pub ends : (t .stopped ≡ true) ⊎ (d .«block_count» ≤ t .next) → Analyzed s d ws₀ ws t
+    unfolding runOf
+    ends o =
+        record {
+          end = subst (λ (x : Run State). At s d x ws t) (RunLaws.settled r promise (t .turns) (ap (M.endedAt State join changed (exec r) (r .blocks)) (sym (g .here .next)) ∙ over o)) (g .here);
+          beyond = g .beyond;
+        }
+      where
+        past : (b : Bool) → d .«block_count» ≤ t .next → M.endedAt State join changed (exec r) (r .blocks) (cond b (stopped (t .number) (t .place .0)) (at (t .next))) ≡ true
+        past true h = refl
+        past false h = ap not (le-ltb (t .next) (length (r .blocks)) (omega (arith, count, h)))
+
+        over : (t .stopped ≡ true) ⊎ (d .«block_count» ≤ t .next) → M.endedAt State join changed (exec r) (r .blocks) (nextOf t) ≡ true
+        over (inl h) = ap (λ (b : Bool). M.endedAt State join changed (exec r) (r .blocks) (cond b (stopped (t .number) (t .place .0)) (at (t .next)))) h
+        over (inr h) = past (t .stopped) h
+
+-- ---- the loop's invariant
+
+pub record Loops (s : List ℕ) (d : D.Routine) (ws₀ ws : List ℕ) (t : Tally) : Type 0 where
+  pub read : Readable s d
+  pub long : length ws ≡ length ws₀
+  pub going : Going s d (read .promise) (read .count) ws₀ ws t
+
+pub promised-small : (q : Routine) → promised q ≡ true → q .locals ≤ 16
+unfolding promised
+promised-small q e = leb-le (and-l (leb (q .locals) 16) (leb (length (q .code)) 512) (and-l (leb (q .locals) 16 && leb (length (q .code)) 512) (all (fits (q .locals)) (q .code) && all (λ b. placed-rets (b .successors) (instrsOf b (q .code))) (q .blocks)) e))
+
+-- the loop's test
+pub test-on : (a b : Bool) → (not a && b) ≡ true → (a ≡ false) × (b ≡ true)
+test-on true b e = absurd (true≢false (sym e))
+test-on false b e = (refl, e)
+
+pub test-off : (a : Bool) (i n : ℕ) → (not a && ltb i n) ≡ false → (a ≡ true) ⊎ (n ≤ i)
+test-off true i n e = inl refl
+test-off false i n e = inr (ltb-false i n e)
+
+-- the first state, as the code makes it
+pub first-made : (a : AbstractState) (l : ℕ) (ts : List R.Token) → l ≤ 16 → answerOf a ≡ R.answer (firstRunning (min l 16) ts) R.Operand.nonRef → (a .«num_locals» ≡ l) × (stateOf a ≡ firstState l ts)
+unfolding firstRunning
+first-made a l ts h e =
+    let z : min l 16 ≡ l = omega (arith, h) in
+    let x : runningOf a ≡ firstRunning (min l 16) ts = ap (λ (y : R.Answer). y .state) (done-inv (a .violation) (a .refusal) (record { state = runningOf a; operand = operandOf (a .value) }) (record { state = firstRunning (min l 16) ts; operand = R.Operand.nonRef }) e) in
+    (ap (λ (y : Running). y .root) x ∙ z, (λ k. record { locals = x k .locals; graph = x k .graph }) ∙ ap (λ (n : ℕ). firstState n ts) z)
+
+pub stored-as : (m l : ℕ) (a b : State) (ws ws′ : List ℕ) → m ≡ l → a ≡ b → Stored m a 0 ws ws′ → Stored l b 0 ws ws′
+stored-as m l a b ws ws′ e f w = subst (λ (n : ℕ). Stored n b 0 ws ws′) e (subst (λ (x : State). Stored m x 0 ws ws′) f w)
+
+-- the loop starts from the area with the first state in it
+pub goes-again : (s : List ℕ) (d : D.Routine) (promise : promised (routineOf s d) ≡ true) (count : length (routineOf s d .blocks) ≡ d .«block_count») (ws₀ ws₁ ws : List ℕ) (t : Tally)
+    → 16384 ≤ length ws₀ → ws₁ ≡ cleared ws₀ → length ws₁ ≡ length ws₀ → Stored (d .locals) (firstState (routineOf s d .locals) (routineOf s d .params)) 0 ws₁ ws → Started t → Going s d promise count ws ws t
+goes-again s d promise count ws₀ ws₁ ws t area clean same w p =
+    let g = goes s d promise count ws₀ ws₁ ws t area clean same w p in
+    record { here = g .here; fewer = g .fewer; beyond = refl }
+
+pub from : (s : List ℕ) (d : D.Routine) (ws₀ ws₁ ws : List ℕ) (t : Tally) → drop 16384 ws₁ ≡ drop 16384 ws₀ → Analyzed s d ws₁ ws t → Analyzed s d ws₀ ws t
+from s d ws₀ ws₁ ws t e a = record { end = a .end; beyond = a .beyond ∙ e }

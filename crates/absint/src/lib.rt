@@ -8,11 +8,15 @@ use crate::error::rule;
 use crate::visit::visit_all;
 use file_format::CodeOffset;
 use kept_states::clear;
+use listing::Routine;
 use listing::read_listing;
 ghost use mathlib.Core.Path.{_≡_};
-ghost use lib.ListN.{length, drop};
+ghost use Prim.Native.Nat.{ℕ, _≤_};
+ghost use mathlib.Core.List.{List};
+ghost use lib.ListN.{length};
 ghost use Rattle.meaning.specs.Area.{cleared};
 ghost use Rattle.meaning.specs.Loop.{refusal};
+ghost use Rattle.listing.specs.Models.{blocksIn, routineOf};
 ghost use Rattle.meaning.specs.Verify as Whole;
 ghost use Rattle.absint.specs.Models.{verdictOf, Left};
 
@@ -40,7 +44,8 @@ pub fn analyze(listing: &[u8], area: &mut [u32]) -> Verdict
     if l.number != 0 {
         return refused(l.number, l.place);
     }
-    let q = l.routine;
+    let all = l.routine;
+    let q = clip(all);
     let t = visit_all(listing, q, area);
     let blocks = q.blocks;
     Verdict {
@@ -56,6 +61,18 @@ pub fn verify(listing: &[u8], area: &mut [u32]) -> Verdict
     let v = analyze(listing, area);
     clear(area);
     v
+}
+
+// The same routine, its blocks counted as they are read: 16 at most.
+fn clip(routine: Routine) -> Routine
+    ensures { λ r. ⌜ ((s : List ℕ) → routineOf s r ≡ routineOf s routine) × (r .«block_count» ≤ 16) × (length (blocksIn (r .blocks) (r .«block_count»)) ≡ r .«block_count») ⌝ }
+{
+    let mut q = routine;
+    if 16 < routine.block_count {
+        q.block_count = 16;
+        return q;
+    }
+    q
 }
 
 fn refused(number: u8, place: usize) -> Verdict

@@ -2,17 +2,40 @@
 use crate::hand::spread;
 use crate::tally::BlockStatus;
 use crate::tally::Tally;
+use abstract_state::state::AbstractState;
 use kept_states::clear;
 use kept_states::load;
 use kept_states::store;
+use listing::Block;
 use listing::Routine;
 use reference_safety::block::run_block;
 use state_join::first::new;
 ghost use mathlib.Core.Path.{_≡_};
 ghost use mathlib.Core.Bool.{false};
 ghost use Prim.Native.Nat.{_≤_, _<_};
-ghost use lib.ListN.{length};
+ghost use lib.ListN.{length, getD};
+ghost use Rattle.meaning.specs.Loop.{noBlock};
+ghost use Rattle.listing.specs.Models.{blockOf, blocksIn};
+ghost use Rattle.abstract_state.specs.Models.{stateOf};
 ghost use Rattle.absint.specs.Models.{Readable, Ready, Turned, Analyzed};
+
+// The block at a position.
+fn listed(blocks: [Block; 16], n: usize, i: usize) -> Block
+    requires { ⌜ (n ≤ 16) × (i < n) ⌝ }
+    ensures { λ r. ⌜ (blockOf r ≡ getD (blocksIn blocks n) i noBlock) × (length (blocksIn blocks n) ≡ n) ⌝ }
+{
+    blocks[i]
+}
+
+// A state that has this many locals, with that number.
+fn adopt(s: AbstractState, locals: u8) -> AbstractState
+    requires { ⌜ length (stateOf s .locals) ≡ locals ⌝ }
+    ensures { λ r. ⌜ (stateOf r ≡ stateOf s) × (r .«num_locals» ≡ locals) ⌝ }
+{
+    let mut t = s;
+    t.num_locals = locals;
+    t
+}
 
 // The next block: passed over where it has no kept state, else run from it.
 fn visit(listing: &[u8], routine: Routine, area: &mut [u32], t: Tally) -> Tally
@@ -23,9 +46,10 @@ fn visit(listing: &[u8], routine: Routine, area: &mut [u32], t: Tally) -> Tally
     let mut u = t;
     u.next = i + 1;
     u.turns = t.turns + 1;
+    let blocks = routine.blocks;
+    let b = listed(blocks, routine.block_count, i);
     let k = load(area, i, routine.locals);
     if k.present {
-        let b = routine.blocks[i];
         let start = k.state;
         let r = run_block(listing, routine, b, start);
         let s = r.state;
@@ -43,8 +67,8 @@ fn visit(listing: &[u8], routine: Routine, area: &mut [u32], t: Tally) -> Tally
             return u.stop(s.refusal, place);
         }
         let v = u.clear(i);
-        let blocks = routine.blocks;
-        return spread(area, blocks, routine.block_count, routine.locals, b, s, v);
+        let e = adopt(s, routine.locals);
+        return spread(area, blocks, routine.block_count, routine.locals, b, e, v);
     }
     u
 }

@@ -1,58 +1,81 @@
+use borrow.Author.Needs.{needs}
+use mathlib.Core.Path.{_≡_, refl, sym, ap, _∙_}
+use Prim.Native.Nat.{_-_, _≤_, _<_}
+use mathlib.Core.List.{map}
+use lib.ListN.{length, take, drop}
+use borrow.Author.Tests.{ltb-true}
+use Rattle.meaning.specs.AreaLaws.{cleared-beyond}
+use Rattle.meaning.specs.Listing.{tokenAs}
+use Rattle.meaning.specs.Verify.{mostVisits}
+use Rattle.listing.specs.Models.{routineOf}
+use Rattle.absint.specs.VisitLaws as Law
+use native.Mathlib.Omega.{arith}
 use Rattle.absint.proofs.visit.visit_all.Statement.{statement}
 use Rattle.absint.proofs.visit.visit_all.Tie as tie
-use Rattle.absint.proofs.visit.visit_all.Reads as reads
-use Rattle.absint.proofs.visit.visit_all.Lts as lts
-use Rattle.absint.proofs.tally.Tally.start.Reads as start-reads
-use Rattle.absint.proofs.visit.visit.Reads as visit-reads
-use Rattle.kept_states.proofs.clear.Reads as clear-reads
-use Rattle.kept_states.proofs.store.Reads as store-reads
-use Rattle.state_join.proofs.first.new.Reads as new-reads
 
 abbrev Inv-loop : tie.InvT-loop
-Inv-loop listing routine area₀ t₀ area t = ?
+Inv-loop listing routine area₀ t₀ area t = Law.Loops listing routine area₀ area t
 
 abbrev μ-loop : tie.MeasureT-loop
-μ-loop listing routine area₀ t₀ area t = ?
+μ-loop listing routine area₀ t₀ area t = mostVisits (routineOf listing routine) - t .turns
 
--- src/visit.rt:58:9
 new-requires : tie.Need-new-requires Inv-loop μ-loop
-new-requires c κs = ?
+new-requires c κs = search needs
 
--- src/visit.rt:59:5
 clear-requires : tie.Need-clear-requires Inv-loop μ-loop
-clear-requires c κs = ?
+clear-requires c κs = search needs
 
--- src/visit.rt:60:5
 store-requires : tie.Need-store-requires Inv-loop μ-loop
-store-requires c κs = ?
+store-requires c κs = search needs
 
--- src/visit.rt:61:9
 start-requires : tie.Need-start-requires Inv-loop μ-loop
-start-requires c κs = ?
+start-requires c κs = search needs
 
--- src/visit.rt:62:5
 loop-holds : tie.Need-loop-holds Inv-loop μ-loop
-loop-holds c = ?
+loop-holds c =
+    let small = Law.promised-small (routineOf ((c .before .before .before .before .before .before .before .before .before .before .before .before .before .args) .listing .now) ((c .before .before .before .before .before .before .before .before .before .before .before .before .before .args) .routine)) (((c .before .before .before .before .before .before .before .before .before .before .before .before .before .pre) .0) .promise) in
+    let made = Law.first-made ((c .before .before .before .before .before .before .before .before .before .new) .result) ((c .before .before .before .before .before .before .before .before .before .before .before .before .before .args) .routine .locals) (map tokenAs (take ((c .before .before .before .before .before .before .before .before .before .before .before .before .before .args) .routine .«param_count») ((c .before .before .before .before .before .before .before .before .before .before .before .before .before .args) .routine .params))) small ((c .before .before .before .before .before .before .before .before .before .new) .ensures) in
+    let area : 16384 ≤ length ((c .before .before .before .before .before .before .before .before .before .before .before .before .before .args) .area .now) = (c .before .before .before .before .before .before .before .before .before .before .before .before .before .pre) .1 in
+    record {
+      read = ((c .before .before .before .before .before .before .before .before .before .before .before .before .before .pre) .0);
+      long = refl;
+      going = Law.goes-again ((c .before .before .before .before .before .before .before .before .before .before .before .before .before .args) .listing .now) ((c .before .before .before .before .before .before .before .before .before .before .before .before .before .args) .routine) (((c .before .before .before .before .before .before .before .before .before .before .before .before .before .pre) .0) .promise) (((c .before .before .before .before .before .before .before .before .before .before .before .before .before .pre) .0) .count) ((c .before .before .before .before .before .before .before .before .before .before .before .before .before .args) .area .now) ((c .before .before .before .before .before .before .before .clear) .last .0) ((c .before .before .before .store) .last .0) ((c .start) .result) area ((c .before .before .before .before .before .before .before .clear) .ensures) ((c .before .before .before .before .before .before .before .clear) .kept .0)
+        (Law.stored-as ((c .before .before .before .before .before .before .before .before .before .new) .result .«num_locals») ((c .before .before .before .before .before .before .before .before .before .before .before .before .before .args) .routine .locals) _ _ ((c .before .before .before .before .before .before .before .clear) .last .0) ((c .before .before .before .store) .last .0) (made .0) (made .1) ((c .before .before .before .store) .ensures)) ((c .start) .ensures);
+    }
 
--- src/visit.rt:63:9
 visit-requires : tie.Need-visit-requires Inv-loop μ-loop
-visit-requires c κs = ?
+visit-requires c κs =
+    let on = Law.test-on ((c .before .before .before .before .before .loop) .t .stopped) _ ((c .before .if1) .taken) in
+    let g = (c .before .before .before .before .before .loop) .inv .going in
+    let few = ((c .before .before .before .before .before .before .before .before .before .before .before .before .before .before .before .before .before .before .before .pre) .0) .blocks in
+    let long = (c .before .before .before .before .before .loop) .inv .long in
+    let a = (c .before .before .before .before .before .before .before .before .before .store) .kept .0 in
+    let b = (c .before .before .before .before .before .before .before .before .before .before .before .before .before .clear) .kept .0 in
+    let wide : 16384 ≤ length ((c .before .before .before .before .before .before .before .before .before .before .before .before .before .before .before .before .before .before .before .args) .area .now) = (c .before .before .before .before .before .before .before .before .before .before .before .before .before .before .before .before .before .before .before .pre) .1 in
+    Law.ready ((c .before .before .before .before .before .before .before .before .before .before .before .before .before .before .before .before .before .before .before .args) .listing .now) ((c .before .before .before .before .before .before .before .before .before .before .before .before .before .before .before .before .before .before .before .args) .routine) ((c .before .before .before .before .before .loop) .inv .read .promise) ((c .before .before .before .before .before .loop) .inv .read .count) _ ((c .before .before .before .before .before .loop) .area) ((c .before .before .before .before .before .loop) .t) g (on .0) (ltb-true _ _ (on .1)) few (Law.promised-small (routineOf ((c .before .before .before .before .before .before .before .before .before .before .before .before .before .before .before .before .before .before .before .args) .listing .now) ((c .before .before .before .before .before .before .before .before .before .before .before .before .before .before .before .before .before .before .before .args) .routine)) (((c .before .before .before .before .before .before .before .before .before .before .before .before .before .before .before .before .before .before .before .pre) .0) .promise)) (omega (arith, long, a, b, wide))
 
--- src/visit.rt:62:5
 loop-less : tie.Need-loop-less Inv-loop μ-loop
-loop-less c = ?
+loop-less c =
+    let on = Law.test-on ((c .before .before .before .before .before .before .before .before .loop) .t .stopped) _ ((c .before .before .before .before .if1) .taken) in
+    let b = Law.bound ((c .before .before .before .before .before .before .before .before .before .before .before .before .before .before .before .before .before .before .before .before .before .before .args) .listing .now) ((c .before .before .before .before .before .before .before .before .before .before .before .before .before .before .before .before .before .before .before .before .before .before .args) .routine) ((c .before .before .before .before .before .before .before .before .loop) .inv .read .promise) ((c .before .before .before .before .before .before .before .before .loop) .inv .read .count) _ ((c .before .before .before .before .before .before .before .before .loop) .area) ((c .before .before .before .before .before .before .before .before .loop) .t) ((c .before .before .before .before .before .before .before .before .loop) .inv .going) (on .0) (ltb-true _ _ (on .1)) in
+    let t = (c .before .before .visit) .ensures .turns in
+    omega (arith, b, t)
 
--- src/visit.rt:62:5
 loop-again : tie.Need-loop-again Inv-loop μ-loop
-loop-again c = ?
+loop-again c =
+    let on = Law.test-on ((c .before .before .before .before .before .before .before .before .loop) .t .stopped) _ ((c .before .before .before .before .if1) .taken) in
+    record {
+      read = (c .before .before .before .before .before .before .before .before .loop) .inv .read;
+      long = (c .before .before .visit) .kept .1 .1 .0 ∙ (c .before .before .before .before .before .before .before .before .loop) .inv .long;
+      going = Law.goes-on ((c .before .before .before .before .before .before .before .before .before .before .before .before .before .before .before .before .before .before .before .before .before .before .args) .listing .now) ((c .before .before .before .before .before .before .before .before .before .before .before .before .before .before .before .before .before .before .before .before .before .before .args) .routine) ((c .before .before .before .before .before .before .before .before .loop) .inv .read .promise) ((c .before .before .before .before .before .before .before .before .loop) .inv .read .count) _ ((c .before .before .before .before .before .before .before .before .loop) .area) ((c .before .before .before .before .before .before .before .before .loop) .t) ((c .before .before .before .before .before .before .before .before .loop) .inv .going) (on .0) (ltb-true _ _ (on .1)) _ ((c .before .before .visit) .result) ((c .before .before .visit) .ensures);
+    }
 
--- src/visit.rt:53:1
 same-length : tie.Need-same-length Inv-loop μ-loop
-same-length c = ?
+same-length c = (c .before .before .before .before .loop) .inv .long ∙ (c .before .before .before .before .before .before .before .before .store) .kept .0 ∙ (c .before .before .before .before .before .before .before .before .before .before .before .before .clear) .kept .0
 
--- src/visit.rt:53:1
 returns : tie.Need-returns Inv-loop μ-loop
-returns c = ?
+returns c =
+    Law.from ((c .before .before .before .before .before .before .before .before .before .before .before .before .before .before .before .before .before .before .args) .listing .now) ((c .before .before .before .before .before .before .before .before .before .before .before .before .before .before .before .before .before .before .args) .routine) ((c .before .before .before .before .before .before .before .before .before .before .before .before .before .before .before .before .before .before .args) .area .now) ((c .before .before .before .before .before .before .before .before .store) .last .0) ((c .before .before .before .before .loop) .area) ((c .before .before .before .before .loop) .t) ((c .before .before .before .before .before .before .before .before .store) .ensures .beyond ∙ ap (λ ws. drop 16384 ws) ((c .before .before .before .before .before .before .before .before .before .before .before .before .clear) .ensures) ∙ cleared-beyond ((c .before .before .before .before .before .before .before .before .before .before .before .before .before .before .before .before .before .before .args) .area .now) ((c .before .before .before .before .before .before .before .before .before .before .before .before .before .before .before .before .before .before .pre) .1)) (Law.ends ((c .before .before .before .before .before .before .before .before .before .before .before .before .before .before .before .before .before .before .args) .listing .now) ((c .before .before .before .before .before .before .before .before .before .before .before .before .before .before .before .before .before .before .args) .routine) ((c .before .before .before .before .loop) .inv .read .promise) ((c .before .before .before .before .loop) .inv .read .count) _ ((c .before .before .before .before .loop) .area) ((c .before .before .before .before .loop) .t) ((c .before .before .before .before .loop) .inv .going) (Law.test-off ((c .before .before .before .before .loop) .t .stopped) _ _ ((c .if1) .left)))
 
 pub visit-all-spec : {M : Type 1} → statement M
 visit-all-spec =

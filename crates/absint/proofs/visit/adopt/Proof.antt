@@ -1,0 +1,11 @@
+use mathlib.Core.Path.{_≡_, refl}
+use Rattle.borrow_graph.specs.Models.{graphOf}
+use Rattle.absint.specs.VisitLaws.{locals-same}
+use Rattle.absint.proofs.visit.adopt.Statement.{statement}
+use Rattle.absint.proofs.visit.adopt.Tie as tie
+
+returns : tie.Need-returns
+returns c = ((λ z. record { locals = locals-same ((c .args) .s .locals) ((c .args) .s .«num_locals») ((c .args) .locals) ((c .pre)) z; graph = graphOf ((c .args) .s .«borrow_graph») }), refl)
+
+pub adopt-spec : {M : Type 1} → statement M
+adopt-spec = tie.close (tie.spec returns)
