@@ -1,5 +1,5 @@
 -- An end state handed on: what each way through the code leaves, as the definitions have it.
-use Prim.Native.Nat.{ℕ, zero, suc, _+_, _≤_, _<_}
+use Prim.Native.Nat.{ℕ, zero, suc, _≤_, _<_}
 use native.Mathlib.Omega.{arith}
 use mathlib.Core.Path.{_≡_, refl, sym, ap, _∙_, subst}
 use mathlib.Core.Logic.{_≢_}
@@ -7,13 +7,13 @@ use mathlib.Core.Bool.{Bool, true, false, _&&_, cond}
 use mathlib.Core.Option.{Option, none, some}
 use mathlib.Core.List.{List, [], _∷_}
 use borrow.Author.Tests.{le-leb, lt-ltb}
-use lib.Dec.{leb, ltb}
-use lib.ListN.{length, take, drop, set}
-use Rattle.meaning.specs.Base.{Ans, ok, refuse}
-use Rattle.meaning.specs.Area.{keptOf, hasBlock, Stored}
+use lib.Dec.{leb}
+use lib.ListN.{length, take, set}
+use Rattle.meaning.specs.Base.{ok, refuse}
+use Rattle.meaning.specs.Area.{keptOf, Stored}
 use Rattle.meaning.specs.State.{State, join, changed}
 use Rattle.meaning.specs.Loop as M
-use Rattle.meaning.specs.Loop.{Result, Status, fine, Next, at, stopped, position, toNext}
+use Rattle.meaning.specs.Loop.{Status, fine, Next, at, stopped, position, toNext}
 use Rattle.meaning.specs.FitLaws as F
 use Rattle.meaning.specs.FitLaws.{Does, spreadTo}
 use Rattle.absint.specs.Models.{statusesOf, nextOf, SameCounts, HandedOn, SpreadOut}

@@ -1,13 +1,13 @@
 -- Blocks and statuses read one by one.
 use Prim.Native.Nat.{ℕ, zero, suc, _+_, _≤_, _<_}
 use native.Mathlib.Omega.{arith}
-use mathlib.Core.Path.{_≡_, refl, sym, ap, _∙_}
-use mathlib.Core.Bool.{Bool, true, false, cond}
+use mathlib.Core.Path.{_≡_, refl, ap}
+use mathlib.Core.Bool.{true, false}
 use mathlib.Core.List.{List, [], _∷_, map}
 use lib.Dec.{eqb, ltb}
 use native.Mathlib.Numerals.{add-one}
 use lib.Seq.{drop-cons}
-use lib.ListN.{length, take, drop, getD, set, replicate, length-map, length-take, drop-of-length-le}
+use lib.ListN.{length, drop, getD, set, replicate, length-map, length-take, drop-of-length-le}
 use Rattle.meaning.specs.ArrayLaws.{front-map-step, map-step}
 use Rattle.meaning.specs.Loop as M
 use Rattle.meaning.specs.Loop.{Status, fine, position, Verdict, violation, entryOf, lowestOf}

@@ -1,13 +1,13 @@
 -- What the values of the code stand for in the definitions, and what the functions of the loop promise.
-use Prim.Native.Nat.{ℕ, suc, _+_, _≤_, _<_}
+use Prim.Native.Nat.{ℕ, _+_, _≤_, _<_}
 use mathlib.Core.Path.{_≡_}
-use mathlib.Core.Bool.{Bool, true, false, cond}
+use mathlib.Core.Bool.{true, false, cond}
 use mathlib.Core.Option.{some}
 use mathlib.Core.List.{List, map}
 use lib.ListN.{length, drop, getD}
 use Rattle.meaning.specs.Area.{keptOf}
 use Rattle.meaning.specs.State.{State, join, changed}
-use Rattle.meaning.specs.Blocks.{Routine, exec, firstState, Strong, promised}
+use Rattle.meaning.specs.Blocks.{Routine, exec, Strong, promised}
 use Rattle.meaning.specs.Loop as M
 use Rattle.meaning.specs.Loop.{Result, Status, fine, failed, Next, at, stopped, Run, blank, step, Verdict, accept, violation, refusal, toNext}
 use Rattle.meaning.specs.Listing.{readListing, read, refused}

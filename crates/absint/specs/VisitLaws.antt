@@ -6,11 +6,11 @@ use native.Mathlib.Omega.{arith}
 use mathlib.Core.Path.{_≡_, refl, sym, ap, _∙_, subst}
 use mathlib.Core.Logic.{_≢_, _⊎_, inl, inr}
 use mathlib.Core.Bool.{Bool, true, false, not, _&&_, cond, true≢false}
-use mathlib.Core.Option.{Option, none, some}
+use mathlib.Core.Option.{none, some}
 use mathlib.Core.List.{List, [], _∷_, map}
-use borrow.Author.Tests.{ne-eqb, eq-eqb, lt-ltb, le-ltb, le-leb, ltb-false}
+use borrow.Author.Tests.{ne-eqb, eq-eqb, lt-ltb, le-ltb, ltb-false}
 use lib.Dec.{eqb, leb, ltb}
-use lib.ListN.{length, take, drop, getD, set, length-map, length-take}
+use lib.ListN.{length, take, drop, getD, set, length-map}
 use Rattle.meaning.specs.ArrayLaws.{front-all}
 use Rattle.meaning.specs.Area.{keptOf, Stored, cleared}
 use Rattle.meaning.specs.AreaLaws.{cleared-kept, cleared-beyond}
@@ -18,12 +18,12 @@ use Rattle.meaning.specs.State.{State, join, changed}
 use Rattle.meaning.specs.Running as R
 use Rattle.meaning.specs.Running.{Outcome, done, Running}
 use Rattle.meaning.specs.Base.{and-l, leb-le, all}
-use Rattle.meaning.specs.Blocks.{Routine, exec, runBlock, firstState, Strong, promised, fits, instrsOf, placed as placed-rets}
+use Rattle.meaning.specs.Blocks.{Routine, exec, runBlock, firstState, promised, fits, instrsOf, placed as placed-rets}
 use Rattle.meaning.specs.BlockLaws.{exec-keeps}
 use Rattle.meaning.specs.Loop as M
-use Rattle.meaning.specs.Loop.{Result, Status, fine, failed, Next, at, stopped, Run, Spread, noBlock, blank, step, steps, run, hasEnded, visits, accept, refusal, lowest, verdict, Verdict}
+use Rattle.meaning.specs.Loop.{Result, Status, fine, failed, Next, at, stopped, Run, noBlock, step, steps, run, hasEnded}
 use Rattle.meaning.specs.FitLaws as F
-use Rattle.meaning.specs.FitLaws.{Fits, Reached, lowestBy, lowest-by}
+use Rattle.meaning.specs.FitLaws.{Reached}
 use Rattle.meaning.specs.RunLaws as RunLaws
 use Rattle.meaning.specs.Verify.{mostVisits, runOf}
 use Rattle.listing.specs.Models.{blockOf, blocksIn, routineOf}
@@ -34,8 +34,8 @@ use Rattle.abstract_state.specs.declared.state.Local.{Local}
 use Rattle.abstract_state.specs.declared.state.AbstractState.{AbstractState}
 use Rattle.state_join.specs.Models.{firstRunning}
 use Rattle.reference_safety.specs.Models.{placed}
-use Rattle.absint.specs.Models.{statusOf, statusesOf, nextOf, SameCounts, SpreadOut, At, Readable, Ready, Turned, Started, Analyzed, verdictIn}
-use Rattle.absint.specs.LoopLaws.{past-block, blocks-count}
+use Rattle.absint.specs.Models.{statusesOf, nextOf, SpreadOut, At, Readable, Ready, Turned, Started, Analyzed}
+use Rattle.absint.specs.LoopLaws.{past-block}
 use Rattle.absint.specs.HandLaws.{going, stored-here}
 use Rattle.absint.specs.declared.tally.Tally.{Tally}
 

@@ -6,8 +6,8 @@ use file_format::CodeOffset;
 use listing::Block;
 ghost use mathlib.Core.Path.{_≡_};
 ghost use Prim.Native.Nat.{_≤_};
+ghost use lib.ListN.{length};
 ghost use Rattle.meaning.specs.Loop.{lowestOf, entryOf};
-ghost use Rattle.meaning.specs.FitLaws.{lowestBy};
 ghost use Rattle.listing.specs.Models.{blocksIn};
 ghost use Rattle.absint.specs.Models.{statusOf, statusesOf, rulingOf, lowestVerdict, verdictIn};
 
@@ -45,7 +45,7 @@ impl Lowest {
 
 pub(crate) fn rule(blocks: [Block; 16], n: usize, t: Tally) -> Ruling
     requires { ⌜ n ≤ 16 ⌝ }
-    ensures { λ r. ⌜ rulingOf r ≡ verdictIn (blocksIn blocks n) t ⌝ }
+    ensures { λ r. ⌜ (rulingOf r ≡ verdictIn (blocksIn blocks n) t) × (length (statusesOf t) ≡ 16) ⌝ }
 {
     if t.stopped {
         return Ruling::Refused(t.number, t.place.0 as usize);

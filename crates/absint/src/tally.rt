@@ -1,9 +1,9 @@
 // What a run has by value.
 use file_format::CodeOffset;
 ghost use mathlib.Core.Path.{_≡_};
-ghost use Prim.Native.Nat.{_<_, suc};
+ghost use Prim.Native.Nat.{_<_};
 ghost use lib.ListN.{length, set};
-ghost use Rattle.meaning.specs.Loop.{fine, failed, at, stopped};
+ghost use Rattle.meaning.specs.Loop.{fine, failed, stopped};
 ghost use Rattle.absint.specs.Models.{statusOf, statusesOf, nextOf, Started, SameCounts};
 
 pub(crate) struct BlockStatus {

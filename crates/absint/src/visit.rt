@@ -11,7 +11,6 @@ use listing::Routine;
 use reference_safety::block::run_block;
 use state_join::first::new;
 ghost use mathlib.Core.Path.{_≡_};
-ghost use mathlib.Core.Bool.{false};
 ghost use Prim.Native.Nat.{_≤_, _<_};
 ghost use lib.ListN.{length, getD};
 ghost use Rattle.meaning.specs.Loop.{noBlock};

@@ -1,18 +1,18 @@
 -- The loop's slots as a program keeps them: kept states by position, and a list of statuses. (How often a kept state changed stands
 -- in no program; it is free here.)
-use Prim.Native.Nat.{ℕ, zero, suc, _+_, _*_, _≤_, _<_}
+use Prim.Native.Nat.{ℕ, zero, suc, _≤_, _<_}
 use native.Mathlib.Nat.{not-suc-le-zero, le-of-suc-le-suc}
 use native.Mathlib.Omega.{arith}
 use mathlib.Core.Path.{_≡_, refl, sym, ap, _∙_, subst}
 use mathlib.Core.Logic.{_≢_}
-use mathlib.Core.Bool.{Bool, true, false, not, cond, true≢false}
+use mathlib.Core.Bool.{Bool, true, false, cond, true≢false}
 use mathlib.Core.Option.{Option, none, some}
 use mathlib.Core.List.{List, [], _∷_, map}
 use lib.ListN.{length, getD, set, length-set, length-map, List·getD-eq-default}
 use lib.Seq.{getD-set-same, getD-set-other, set-out}
 use lib.Dec.{leb, ltb, eqb, lt→ltb}
 use Rattle.meaning.specs.Base.{Ans, ok, refuse, decide, eqb-eq, eqb-ne, T→eq}
-use Rattle.meaning.specs.Loop.{Result, ended, violated, refused, Block, Status, fine, failed, Slot, Next, at, stopped, Run, Spread, position, noBlock, blank, afterChange, afterJoin, toKept, toNext, spread, mark, afterBlock, runBlock, stepAt, step, steps, startSlots, run, Verdict, lowestOf, entryOf, lowest}
+use Rattle.meaning.specs.Loop.{Result, ended, violated, refused, Block, Status, fine, failed, Slot, Next, at, stopped, Run, Spread, position, noBlock, blank, afterChange, afterJoin, toKept, toNext, spread, mark, afterBlock, runBlock, stepAt, step, steps, startSlots, Verdict, lowestOf, entryOf, lowest}
 
 pub none≢some : {A : Type 0} {a : A} → none ≡ some a → ⊥
 none≢some {A} e = true≢false (ap empty e)

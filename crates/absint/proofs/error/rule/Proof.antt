@@ -1,14 +1,13 @@
 use mathlib.Core.Path.{_≡_, refl, sym, ap, _∙_}
 use mathlib.Core.Bool.{Bool, cond}
-use mathlib.Core.List.{[]}
 use Prim.Native.Nat.{_-_, _+_, _<_}
 use lib.ListN.{length, drop, getD}
 use Rattle.meaning.specs.ArrayLaws.{length-of-map}
-use Rattle.meaning.specs.Loop.{accept, violation, refusal, Verdict}
+use Rattle.meaning.specs.Loop.{accept, violation, refusal}
 use Rattle.meaning.specs.FitLaws.{lowestBy}
 use Rattle.listing.specs.Models.{blockOf, blocksIn}
 use Rattle.absint.specs.Models.{statusesOf, statusOf, lowestVerdict}
-use Rattle.absint.specs.LoopLaws.{past-block, past-status, blocks-step, blocks-end, statuses-step, lowest-step, lowest-end}
+use Rattle.absint.specs.LoopLaws.{past-block, past-status, blocks-step, blocks-end, statuses-step, lowest-step, lowest-end, statuses-count}
 use native.Mathlib.Omega.{arith}
 use borrow.Author.Needs.{needs}
 use Rattle.absint.proofs.error.rule.Statement.{statement}
@@ -24,7 +23,9 @@ cast-t15 : tie.Need-cast-t15 Inv-loop μ-loop
 cast-t15 c = omega arith
 
 returns : tie.Need-returns Inv-loop μ-loop
-returns c = rw ((c .if1) .taken) refl
+returns c =
+    let rows : length ((c .before .args) .t3 .statuses) ≡ 16 = search length-of-map in
+    (rw ((c .if1) .taken) refl, statuses-count ((c .before .args) .t3) rows)
 
 loop-holds : tie.Need-loop-holds Inv-loop μ-loop
 loop-holds c = refl
@@ -67,21 +68,27 @@ returns-2 : tie.Need-returns-2 Inv-loop μ-loop
 returns-2 c =
     let full : length ((c .before .before .before .before .before .args) .t1) ≡ 16 = search length-of-map in
     let l = (c .before .before .before .loop) .l in
-    sym (ap (λ (b : Bool). cond b (violation (l .code) (l .offset .0)) accept) ((c .before .if2) .taken))
-    ∙ sym (lowest-end (drop ((c .before .before .before .loop) .i) (statusesOf ((c .before .before .before .before .before .args) .t3))) (l .entry .0) (lowestVerdict l))
-    ∙ (λ k. lowestBy (sym (blocks-end ((c .before .before .before .before .before .args) .t1) ((c .before .before .before .before .before .args) .n) full ((c .before .before .before .before .before .pre)) ((c .before .before .before .loop) .i) ((c .before .before .loop-test) .left)) k) (drop ((c .before .before .before .loop) .i) (statusesOf ((c .before .before .before .before .before .args) .t3))) (l .entry .0) (lowestVerdict l))
-    ∙ (c .before .before .before .loop) .inv
-    ∙ sym (ap (λ (b : Bool). cond b (refusal ((c .before .before .before .before .before .args) .t3 .number) ((c .before .before .before .before .before .args) .t3 .place .0)) (lowestBy (blocksIn ((c .before .before .before .before .before .args) .t1) ((c .before .before .before .before .before .args) .n)) (statusesOf ((c .before .before .before .before .before .args) .t3)) 0 accept)) ((c .before .before .before .before .if1) .left))
+    let rows : length ((c .before .before .before .before .before .args) .t3 .statuses) ≡ 16 = search length-of-map in (
+      sym (ap (λ (b : Bool). cond b (violation (l .code) (l .offset .0)) accept) ((c .before .if2) .taken))
+          ∙ sym (lowest-end (drop ((c .before .before .before .loop) .i) (statusesOf ((c .before .before .before .before .before .args) .t3))) (l .entry .0) (lowestVerdict l))
+          ∙ (λ k. lowestBy (sym (blocks-end ((c .before .before .before .before .before .args) .t1) ((c .before .before .before .before .before .args) .n) full ((c .before .before .before .before .before .pre)) ((c .before .before .before .loop) .i) ((c .before .before .loop-test) .left)) k) (drop ((c .before .before .before .loop) .i) (statusesOf ((c .before .before .before .before .before .args) .t3))) (l .entry .0) (lowestVerdict l))
+          ∙ (c .before .before .before .loop) .inv
+          ∙ sym (ap (λ (b : Bool). cond b (refusal ((c .before .before .before .before .before .args) .t3 .number) ((c .before .before .before .before .before .args) .t3 .place .0)) (lowestBy (blocksIn ((c .before .before .before .before .before .args) .t1) ((c .before .before .before .before .before .args) .n)) (statusesOf ((c .before .before .before .before .before .args) .t3)) 0 accept)) ((c .before .before .before .before .if1) .left)),
+      statuses-count ((c .before .before .before .before .before .args) .t3) rows,
+    )
 
 returns-3 : tie.Need-returns-3 Inv-loop μ-loop
 returns-3 c =
     let full : length ((c .before .before .before .before .args) .t1) ≡ 16 = search length-of-map in
     let l = (c .before .before .loop) .l in
-    sym (ap (λ (b : Bool). cond b (violation (l .code) (l .offset .0)) accept) ((c .if2) .left))
-    ∙ sym (lowest-end (drop ((c .before .before .loop) .i) (statusesOf ((c .before .before .before .before .args) .t3))) (l .entry .0) (lowestVerdict l))
-    ∙ (λ k. lowestBy (sym (blocks-end ((c .before .before .before .before .args) .t1) ((c .before .before .before .before .args) .n) full ((c .before .before .before .before .pre)) ((c .before .before .loop) .i) ((c .before .loop-test) .left)) k) (drop ((c .before .before .loop) .i) (statusesOf ((c .before .before .before .before .args) .t3))) (l .entry .0) (lowestVerdict l))
-    ∙ (c .before .before .loop) .inv
-    ∙ sym (ap (λ (b : Bool). cond b (refusal ((c .before .before .before .before .args) .t3 .number) ((c .before .before .before .before .args) .t3 .place .0)) (lowestBy (blocksIn ((c .before .before .before .before .args) .t1) ((c .before .before .before .before .args) .n)) (statusesOf ((c .before .before .before .before .args) .t3)) 0 accept)) ((c .before .before .before .if1) .left))
+    let rows : length ((c .before .before .before .before .args) .t3 .statuses) ≡ 16 = search length-of-map in (
+      sym (ap (λ (b : Bool). cond b (violation (l .code) (l .offset .0)) accept) ((c .if2) .left))
+          ∙ sym (lowest-end (drop ((c .before .before .loop) .i) (statusesOf ((c .before .before .before .before .args) .t3))) (l .entry .0) (lowestVerdict l))
+          ∙ (λ k. lowestBy (sym (blocks-end ((c .before .before .before .before .args) .t1) ((c .before .before .before .before .args) .n) full ((c .before .before .before .before .pre)) ((c .before .before .loop) .i) ((c .before .loop-test) .left)) k) (drop ((c .before .before .loop) .i) (statusesOf ((c .before .before .before .before .args) .t3))) (l .entry .0) (lowestVerdict l))
+          ∙ (c .before .before .loop) .inv
+          ∙ sym (ap (λ (b : Bool). cond b (refusal ((c .before .before .before .before .args) .t3 .number) ((c .before .before .before .before .args) .t3 .place .0)) (lowestBy (blocksIn ((c .before .before .before .before .args) .t1) ((c .before .before .before .before .args) .n)) (statusesOf ((c .before .before .before .before .args) .t3)) 0 accept)) ((c .before .before .before .if1) .left)),
+      statuses-count ((c .before .before .before .before .args) .t3) rows,
+    )
 
 pub rule-spec : {M : Type 1} → statement M
 rule-spec =

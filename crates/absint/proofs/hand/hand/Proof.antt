@@ -1,10 +1,8 @@
-use mathlib.Core.Path.{_≡_, refl, sym, ap, _∙_}
-use mathlib.Core.Bool.{Bool, true, false, cond}
+use mathlib.Core.Path.{refl, sym, ap, _∙_}
+use mathlib.Core.Bool.{Bool, cond}
 use mathlib.Core.Option.{Option, none, some}
 use Prim.Native.Nat.{_≤_, _<_}
 use borrow.Author.Tests.{le-leb, lt-leb}
-use lib.ListN.{length}
-use Rattle.meaning.specs.ArrayLaws.{length-of-map}
 use Rattle.meaning.specs.State.{State}
 use Rattle.meaning.specs.Running.{Running}
 use Rattle.meaning.specs.Loop.{Next, at, stopped}
@@ -12,8 +10,7 @@ use Rattle.borrow_graph.specs.ModelLaws.{told-yes, told-no}
 use Rattle.listing.specs.Models.{blockOf, blocksIn}
 use Rattle.abstract_state.specs.Models.{stateOf}
 use Rattle.state_join.specs.Models.{changedBy}
-use Rattle.absint.specs.Models.{statusesOf, nextOf}
-use Rattle.absint.specs.LoopLaws.{blocks-count, statuses-count}
+use Rattle.absint.specs.Models.{statusesOf}
 use Rattle.absint.specs.HandLaws as H
 use Rattle.absint.specs.VisitLaws.{kept-root, loaded-root}
 use native.Mathlib.Omega.{arith}

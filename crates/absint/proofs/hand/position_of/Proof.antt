@@ -1,15 +1,12 @@
-use mathlib.Core.Path.{_≡_, refl, sym, ap}
-use mathlib.Core.List.{List}
+use mathlib.Core.Path.{_≡_}
 use Prim.Native.Nat.{_+_, _-_}
 use borrow.Author.Tests.{eq-eqb, ne-eqb}
 use lib.ListN.{length, drop, getD}
 use Rattle.meaning.specs.ArrayLaws.{length-of-map}
-use Rattle.meaning.specs.Loop as M
 use Rattle.meaning.specs.Loop.{position}
 use Rattle.listing.specs.Models.{blockOf, blocksIn}
 use Rattle.absint.specs.LoopLaws.{past-block, blocks-count, blocks-step, blocks-end, position-found, position-passed, position-none}
 use native.Mathlib.Omega.{arith}
-use borrow.Author.Needs.{needs}
 use Rattle.absint.proofs.hand.position_of.Statement.{statement}
 use Rattle.absint.proofs.hand.position_of.Tie as tie
 

@@ -1,4 +1,4 @@
-use mathlib.Core.Path.{_≡_, refl}
+use mathlib.Core.Path.{refl}
 use Rattle.borrow_graph.specs.Models.{graphOf}
 use Rattle.absint.specs.VisitLaws.{locals-same}
 use Rattle.absint.proofs.visit.adopt.Statement.{statement}

@@ -2,8 +2,7 @@ use native.Mathlib.Numerals.{add-one}
 use mathlib.Core.Path.{_≡_, refl, sym, ap, _∙_}
 use mathlib.Core.Bool.{Bool, cond}
 use mathlib.Core.Option.{Option, none, some}
-use Prim.Native.Nat.{ℕ, _+_, _≤_, suc}
-use lib.ListN.{length}
+use Prim.Native.Nat.{_+_}
 use Rattle.meaning.specs.Area.{keptOf}
 use Rattle.meaning.specs.State.{State}
 use Rattle.meaning.specs.Loop.{Next, at, stopped, Result}
@@ -12,7 +11,7 @@ use Rattle.borrow_graph.specs.Models.{graphOf}
 use Rattle.listing.specs.Models.{blockOf, routineOf}
 use Rattle.abstract_state.specs.Models.{localsIn, stateOf, runningOf}
 use Rattle.reference_safety.specs.Models.{stateIn, ranOf}
-use Rattle.absint.specs.Models.{statusesOf, nextOf}
+use Rattle.absint.specs.Models.{statusesOf}
 use Rattle.absint.specs.VisitLaws as Law
 use native.Mathlib.Omega.{arith}
 use borrow.Author.Needs.{needs}

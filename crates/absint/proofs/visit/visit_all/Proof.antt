@@ -1,6 +1,6 @@
 use borrow.Author.Needs.{needs}
-use mathlib.Core.Path.{_≡_, refl, sym, ap, _∙_}
-use Prim.Native.Nat.{_-_, _≤_, _<_}
+use mathlib.Core.Path.{refl, ap, _∙_}
+use Prim.Native.Nat.{_-_, _≤_}
 use mathlib.Core.List.{map}
 use lib.ListN.{length, take, drop}
 use borrow.Author.Tests.{ltb-true}
@@ -40,7 +40,7 @@ loop-holds c =
       read = ((c .before .before .before .before .before .before .before .before .before .before .before .before .before .pre) .0);
       long = refl;
       going = Law.goes-again ((c .before .before .before .before .before .before .before .before .before .before .before .before .before .args) .listing .now) ((c .before .before .before .before .before .before .before .before .before .before .before .before .before .args) .routine) (((c .before .before .before .before .before .before .before .before .before .before .before .before .before .pre) .0) .promise) (((c .before .before .before .before .before .before .before .before .before .before .before .before .before .pre) .0) .count) ((c .before .before .before .before .before .before .before .before .before .before .before .before .before .args) .area .now) ((c .before .before .before .before .before .before .before .clear) .last .0) ((c .before .before .before .store) .last .0) ((c .start) .result) area ((c .before .before .before .before .before .before .before .clear) .ensures) ((c .before .before .before .before .before .before .before .clear) .kept .0)
-        (Law.stored-as ((c .before .before .before .before .before .before .before .before .before .new) .result .«num_locals») ((c .before .before .before .before .before .before .before .before .before .before .before .before .before .args) .routine .locals) _ _ ((c .before .before .before .before .before .before .before .clear) .last .0) ((c .before .before .before .store) .last .0) (made .0) (made .1) ((c .before .before .before .store) .ensures)) ((c .start) .ensures);
+          (Law.stored-as ((c .before .before .before .before .before .before .before .before .before .new) .result .«num_locals») ((c .before .before .before .before .before .before .before .before .before .before .before .before .before .args) .routine .locals) _ _ ((c .before .before .before .before .before .before .before .clear) .last .0) ((c .before .before .before .store) .last .0) (made .0) (made .1) ((c .before .before .before .store) .ensures)) ((c .start) .ensures);
     }
 
 visit-requires : tie.Need-visit-requires Inv-loop μ-loop

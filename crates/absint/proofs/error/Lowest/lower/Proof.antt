@@ -1,4 +1,3 @@
-use mathlib.Core.Path.{refl}
 use borrow.Author.Tests.{le-ltb, lt-ltb}
 use Rattle.absint.specs.LoopLaws.{lower-first, lower-new, lower-old, lower-none}
 use Rattle.absint.proofs.error.Lowest.lower.Statement.{statement}
