@@ -1,4 +1,5 @@
-//! Routines near the limits: sets of ten edges, paths of eight labels, graphs of 96 edges; and exchanged references.
+//! Routines near the limits: sets of ten edges, paths of eight labels, graphs of 96 edges, also by the order of releases; and
+//! exchanged references.
 
 use super::{
     draft::{call, field, global, local, LOAD, NOTHING, TAKE},
@@ -11,7 +12,9 @@ fn part(code: Vec<Instruction>, successors: &[usize]) -> Part {
 }
 
 pub fn draft(rng: &mut Rng) -> Draft {
-    match rng.below(20) {
+    match rng.below(26) {
+        20..=23 => ordered(rng),
+        24 | 25 => crowded(rng),
         0 | 1 => wide(rng),
         15..=17 => released(rng),
         18 => lacking(rng),
@@ -157,6 +160,113 @@ fn released(rng: &mut Rng) -> Draft {
     let last = ending(rng, end, n + 1);
     let parts = fan(rng, n, code, last);
     Draft { parameters: vec![2], locals: 4, returns: vec![], parts }
+}
+
+/// Local 0 lends to one local, that to a second and that to a third, along one to four paths each. Some of the three are released
+/// together, by a comparison, a call or a return, in any order of names: which one goes first decides whether a set blurs on the
+/// way and whether a path gets too long.
+fn ordered(rng: &mut Rng) -> Draft {
+    let mut chain = [1, 2, 3];
+    shuffle(rng, &mut chain);
+    let chain = chain.map(|l| l as u8);
+    let mutable = rng.percent(20);
+    let long = rng.percent(40);
+    let widths = if long { [1; 3] } else { [rng.between(1, 4), rng.between(1, 4), rng.between(1, 4)] };
+    let mut parts = vec![];
+    for (at, to) in chain.into_iter().enumerate() {
+        let from = if at == 0 { 0 } else { chain[at - 1] };
+        let join = parts.len() + widths[at];
+        for number in 0..widths[at] {
+            let depth = if long { rng.between(1, 6) } else { rng.pick(&[1, 1, 1, 2]) };
+            let path = (0..depth).map(|deep| field(if deep == 0 { number } else { rng.below(2) }, mutable));
+            let mut code = vec![CopyLoc(from)];
+            code.extend(path);
+            code.extend([StLoc(to), LOAD, TAKE]);
+            let next = parts.len() + 1;
+            let successors = if next == join { vec![join] } else { vec![join, next] };
+            parts.push(part(code, &successors))
+        }
+    }
+    if rng.percent(30) {
+        let (from, to) = rng.pick(&[(0, chain[1]), (0, chain[2]), (chain[0], chain[2])]);
+        let more = vec![CopyLoc(from), field(rng.pick(&[0, 5]), mutable), StLoc(to), LOAD, TAKE];
+        let at = parts.len();
+        parts.push(part(vec![LOAD, TAKE], &[at + 1, at + 2]));
+        parts.push(part(more, &[at + 2]))
+    }
+    let mut returns = vec![];
+    let mut code = released_together(rng, &chain, &mut returns);
+    if returns.is_empty() {
+        code.extend(probes(rng))
+    }
+    code.push(Ret);
+    parts.push(part(code, &[]));
+    Draft { parameters: vec![2], locals: 5, returns, parts }
+}
+
+/// Two of the chain compared, some of them given to a call that may lend its result, or all left to the return, which may return what
+/// borrows from the last one.
+fn released_together(rng: &mut Rng, chain: &[u8; 3], returns: &mut Vec<u8>) -> Vec<Instruction> {
+    let mut order = [0, 1, 2];
+    shuffle(rng, &mut order);
+    let mut code: Vec<Instruction> = order.iter().map(|at| MoveLoc(chain[*at])).collect();
+    match rng.below(8) {
+        0..=2 => {
+            code.truncate(2);
+            code.extend([Eq, Pop])
+        }
+        3..=5 => {
+            let n = rng.between(2, 3);
+            code.truncate(n);
+            let lends = rng.percent(60);
+            code.push(call(n, &[], if lends { &[1] } else { &[] }));
+            if lends {
+                code.push(StLoc(4))
+            }
+        }
+        6 => {
+            let n = rng.between(1, 2);
+            code = (0..n).flat_map(|at| [CopyLoc(chain[2]), field(at, false)]).collect();
+            returns.extend(vec![1; n])
+        }
+        _ => code.clear(),
+    }
+    code
+}
+
+/// Many names lend to one and that to many: where its release comes before that of the others, its edges multiply.
+fn crowded(rng: &mut Rng) -> Draft {
+    let lenders = rng.between(6, 8);
+    let takers = rng.between(5, 7);
+    let others = rng.between(2, 6);
+    let first = lenders as u8;
+    let end = first + takers as u8;
+    let hub = rng.pick(&[first, end, end - 2]);
+    let takers: Vec<u8> = (first..=end).filter(|l| *l != hub).collect();
+    let all = || (0..lenders as u8).map(CopyLoc);
+    let mut code: Vec<Instruction> = all().collect();
+    code.extend([call(lenders, &[], &[1]), StLoc(hub)]);
+    code.extend(takers.iter().flat_map(|l| [CopyLoc(hub), StLoc(*l)]));
+    let start = part([code, vec![LOAD, TAKE]].concat(), &[1]);
+    let mut code: Vec<Instruction> = all().collect();
+    code.push(call(lenders, &[], &vec![1; others]));
+    let mut returns = vec![];
+    match rng.below(4) {
+        0 => returns = vec![1; others],
+        1 => code.extend([MoveLoc(hub), MoveLoc(takers[0]), Eq, Pop]),
+        _ => {
+            let mut given = [vec![hub as usize], takers.iter().map(|l| *l as usize).collect()].concat();
+            shuffle(rng, &mut given);
+            given.truncate(16 - others);
+            code.extend(given.iter().map(|l| MoveLoc(*l as u8)));
+            code.push(call(given.len(), &[], &[]))
+        }
+    }
+    if returns.is_empty() {
+        code.extend(vec![Pop; others])
+    }
+    code.push(Ret);
+    Draft { parameters: vec![1; lenders], locals: end + 1, returns, parts: vec![start, part(code, &[])] }
 }
 
 /// The frame root's own set: one reference borrows many locals or globals.
