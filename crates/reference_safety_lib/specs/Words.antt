@@ -1,5 +1,5 @@
 -- An answer as four words: 0 accepted, 1 violation, 2 refused; the code or number; the offset or place; the visits.
-use Prim.Native.Nat.{ℕ, _%_}
+use Prim.Native.Nat.{ℕ}
 use mathlib.Core.Bool.{Bool, cond}
 use mathlib.Core.List.{List, [], _∷_, _++_}
 use lib.Dec.{leb}
@@ -8,11 +8,10 @@ use Rattle.meaning.specs.Area.{cleared}
 use Rattle.meaning.specs.Loop.{Verdict, accept, violation, refusal}
 use Rattle.meaning.specs.Verify.{Answered}
 
--- a place is at most 65,536, so its low 32 bits are all of it
 abbrev pub rulingWords : Verdict → ℕ → List ℕ
 rulingWords accept visits = 0 ∷ 0 ∷ 0 ∷ visits ∷ []
 rulingWords (violation code offset) visits = 1 ∷ code ∷ offset ∷ visits ∷ []
-rulingWords (refusal number place) visits = 2 ∷ number ∷ place % 4294967296 ∷ visits ∷ []
+rulingWords (refusal number place) visits = 2 ∷ number ∷ place ∷ visits ∷ []
 
 abbrev pub wordsOf : Answered → List ℕ
 wordsOf a = rulingWords (a .verdict) (a .visits)

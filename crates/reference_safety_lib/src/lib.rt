@@ -5,14 +5,13 @@ use absint::verify;
 ghost use mathlib.Core.Path.{_≡_};
 ghost use Prim.Native.Nat.{_≤_};
 ghost use lib.ListN.{length};
+ghost use Rattle.meaning.specs.AnswerLaws.{Low};
 ghost use Rattle.meaning.specs.Verify as Whole;
-ghost use Rattle.absint.specs.Models.{verdictOf};
+ghost use Rattle.absint.specs.Models.{rulingOf, verdictOf};
 ghost use Rattle.reference_safety_lib.specs.Words.{fits, written, areaAfter, putWords, wordsOf};
 ghost use Rattle.reference_safety_lib.specs.Models.{wordsIn};
 
 const ANSWER_WORDS: usize = 4;
-
-const WORD_END: usize = 4294967296;
 
 struct Words {
     kind: u32,
@@ -40,6 +39,7 @@ pub extern "C" fn reference_safety_verify(
 }
 
 fn verdict_words(v: Verdict) -> Words
+    requires { ⌜ Low (rulingOf (v .ruling)) ⌝ }
     ensures { λ r. ⌜ wordsIn r ≡ wordsOf (verdictOf v) ⌝ }
 {
     let ruling = v.ruling;
@@ -59,7 +59,7 @@ fn verdict_words(v: Verdict) -> Words
         Ruling::Refused(number, place) => Words {
             kind: 2,
             number: number as u32,
-            place: (place % WORD_END) as u32,
+            place: place as u32,
             visits: v.visits,
         },
     }

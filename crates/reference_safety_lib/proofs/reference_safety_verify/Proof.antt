@@ -1,10 +1,11 @@
 -- `reference_safety_lib::reference_safety_verify` meets its contract. Assumes nothing.
 use Prim.Native.Nat.{ℕ}
 use native.Mathlib.Omega.{arith}
-use mathlib.Core.Path.{ap, _∙_}
+use mathlib.Core.Path.{sym, ap, _∙_, subst}
 use mathlib.Core.List.{List}
 use lib.ListN.{length}
-use Rattle.meaning.specs.Verify.{verify}
+use Rattle.meaning.specs.Verify.{Answered, verify}
+use Rattle.meaning.specs.AnswerLaws.{Low, low-answer}
 use Rattle.reference_safety_lib.specs.Words.{wordsOf, putWords}
 use Rattle.reference_safety_lib.specs.WordLaws.{no-room, room}
 use borrow.Author.Needs.{needs}
@@ -18,7 +19,7 @@ verify-requires : tie.Need-verify-requires
 verify-requires c κs = search needs
 
 verdict-words-requires : tie.Need-verdict-words-requires
-verdict-words-requires c κs = search needs
+verdict-words-requires c κs = subst (λ (a : Answered). Low (a .verdict)) (sym (c .before .before .verify .ensures .0)) (low-answer (length (c .before .before .before .before .before .before .before .before .args .area .now)) (c .before .before .before .before .before .before .before .before .args .listing .now))
 
 put-words-requires : tie.Need-put-words-requires
 put-words-requires c κs = search needs

@@ -1,5 +1,8 @@
 -- `reference_safety_lib::verdict_words` meets its contract. Assumes nothing.
-use mathlib.Core.Path.{sym, ap}
+use mathlib.Core.Path.{sym, ap, subst}
+use Prim.Native.Nat.{_≤_}
+use native.Mathlib.Omega.{arith}
+use Rattle.meaning.specs.AnswerLaws.{Low}
 use Rattle.absint.specs.Models.{rulingOf}
 use Rattle.absint.specs.declared.Ruling.{Ruling}
 use Rattle.reference_safety_lib.specs.Words.{rulingWords}
@@ -25,8 +28,10 @@ enum-known-ruling-2 c = search needs
 cast-t10 : tie.Need-cast-t10
 cast-t10 c = search needs
 
-cast-t12 : tie.Need-cast-t12
-cast-t12 c = search needs
+cast-t11 : tie.Need-cast-t11
+cast-t11 c =
+    let low : c .before .ruling2 .given .0 .1 .0 ≤ 65536 = subst (λ (r : Ruling). Low (rulingOf r)) (c .before .ruling2 .given .1) (c .before .before .before .pre) in
+    omega (arith, low)
 
 returns : tie.Need-returns
 returns c = ap (λ (r : Ruling). rulingWords (rulingOf r) (c .before .before .args .v .visits)) (sym (c .enum-told .given .1))
@@ -47,7 +52,7 @@ verdict-words-spec =
     cast-t9
     enum-known-ruling-2
     cast-t10
-    cast-t12
+    cast-t11
     returns
     returns-2
     returns-3)
