@@ -281,7 +281,7 @@ first-none p i (suc n) e k a b =
     none-go p i n k a (p i) refl (firstOf p (suc i) n)
     (λ q h. first-none p (suc i) n (subst (λ (m : ℕ). ltb (firstOf p (suc i) n) m ≡ false) (add-suc i n ∙ sym (suc-add i n)) q) k h (omega arith)) e
 
-first-none-below : (p : ℕ → Bool) (n : ℕ) → ltb (firstOf p 0 n) n ≡ false → (k : ℕ) → k < n → p k ≡ false
+pub first-none-below : (p : ℕ → Bool) (n : ℕ) → ltb (firstOf p 0 n) n ≡ false → (k : ℕ) → k < n → p k ≡ false
 first-none-below p n e k h =
     let z : 0 + n ≡ n = omega arith in
     first-none p 0 n (subst (λ (m : ℕ). ltb (firstOf p 0 n) m ≡ false) (sym z) e) k (omega arith) (omega arith)
@@ -316,7 +316,7 @@ pub record Ruled (n : ℕ) (bs : List Block) (i : ℕ) : Type 0 where
   pub inside : getD bs i noBlock .exit < n
   pub apart : any (overlap (getD bs i noBlock)) (take i bs) ≡ false
 
-ruled-block : (n : ℕ) (bs : List Block) (i : ℕ) → faultyBlock n bs i ≡ false → Ruled n bs i
+pub ruled-block : (n : ℕ) (bs : List Block) (i : ℕ) → faultyBlock n bs i ≡ false → Ruled n bs i
 unfolding faultyBlock
 ruled-block n bs i e =
     let b : Block = getD bs i noBlock in

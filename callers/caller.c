@@ -1,0 +1,65 @@
+/* The static library called from C: a violation, an area too short, an answer too short. */
+#include "buslatim.h"
+
+#include <stdio.h>
+#include <stdlib.h>
+
+/* Document 01's example: VIOLATION 102 3. */
+static const uint8_t listing[] = {0x03, 0x00, 0x01, 0x00, 0x00, 0x01, 0x00, 0x05, 0x00, 0x02, 0x00, 0x00, 0x00, 0x03,
+                                  0x00, 0x00, 0x05, 0x00, 0x18, 0x00, 0x00, 0x00, 0x01, 0x00, 0x00, 0x01, 0x00, 0x0D,
+                                  0x00, 0x00, 0x02, 0x00, 0x12, 0x00, 0x00, 0x01, 0x01, 0x00, 0x0C, 0x00, 0x00};
+
+enum { BEYOND = 1, USED = 7 };
+
+static uint32_t area[BUSLATIM_AREA_WORDS + BEYOND];
+static uint32_t answer[BUSLATIM_ANSWER_WORDS + BEYOND];
+
+static void fill(uint32_t *words, size_t n) {
+    for (size_t i = 0; i < n; i++) {
+        words[i] = USED;
+    }
+}
+
+static void expect(bool holds, const char *what) {
+    if (!holds) {
+        fprintf(stderr, "caller.c: %s\n", what);
+        exit(1);
+    }
+}
+
+/* Whether the words from `from` up to `to` all hold `value`. */
+static bool all(const uint32_t *words, size_t from, size_t to, uint32_t value) {
+    for (size_t i = from; i < to; i++) {
+        if (words[i] != value) {
+            return false;
+        }
+    }
+    return true;
+}
+
+static bool answers(uint32_t kind, uint32_t number, uint32_t place, uint32_t visits) {
+    return answer[0] == kind && answer[1] == number && answer[2] == place && answer[3] == visits && answer[4] == USED;
+}
+
+static bool call(size_t area_len, size_t answer_len) {
+    fill(area, BUSLATIM_AREA_WORDS + BEYOND);
+    fill(answer, BUSLATIM_ANSWER_WORDS + BEYOND);
+    return reference_safety_verify(listing, sizeof listing, area, area_len, answer, answer_len);
+}
+
+int main(void) {
+    expect(call(BUSLATIM_AREA_WORDS + BEYOND, BUSLATIM_ANSWER_WORDS + BEYOND), "no answer");
+    expect(answers(BUSLATIM_VIOLATION, 102, 3, 1), "not VIOLATION 102 3 after one visit");
+    expect(all(area, 0, BUSLATIM_AREA_WORDS, 0), "the area is not zero");
+    expect(all(area, BUSLATIM_AREA_WORDS, BUSLATIM_AREA_WORDS + BEYOND, USED), "a word beyond the area is written");
+
+    expect(call(BUSLATIM_AREA_WORDS - 1, BUSLATIM_ANSWER_WORDS), "no answer with a short area");
+    expect(answers(BUSLATIM_REFUSED, 7, 0, 0), "a short area is not REFUSED 7 0");
+    expect(all(area, 0, BUSLATIM_AREA_WORDS, USED), "a short area is written");
+
+    expect(!call(BUSLATIM_AREA_WORDS, BUSLATIM_ANSWER_WORDS - 1), "three words are taken for an answer");
+    expect(all(answer, 0, BUSLATIM_ANSWER_WORDS + BEYOND, USED), "a short answer is written");
+    expect(all(area, 0, BUSLATIM_AREA_WORDS, USED), "the area is written though the answer is short");
+    puts("called from C");
+    return 0;
+}

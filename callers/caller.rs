@@ -1,0 +1,60 @@
+//! The static library called from Rust: a violation, an area too short, an answer too short.
+
+/// Document 01's example: VIOLATION 102 3.
+const LISTING: [u8; 41] = [
+    0x03, 0x00, 0x01, 0x00, 0x00, 0x01, 0x00, 0x05, 0x00, 0x02, 0x00, 0x00, 0x00, 0x03, 0x00, 0x00, 0x05, 0x00, 0x18,
+    0x00, 0x00, 0x00, 0x01, 0x00, 0x00, 0x01, 0x00, 0x0D, 0x00, 0x00, 0x02, 0x00, 0x12, 0x00, 0x00, 0x01, 0x01, 0x00,
+    0x0C, 0x00, 0x00,
+];
+
+const AREA: usize = 16_384;
+const USED: u32 = 7;
+
+mod library {
+    extern "C" {
+        pub fn reference_safety_verify(
+            listing: *const u8,
+            listing_len: usize,
+            area: *mut u32,
+            area_len: usize,
+            answer: *mut u32,
+            answer_len: usize,
+        ) -> bool;
+    }
+}
+
+fn verify(listing: &[u8], area: &mut [u32], answer: &mut [u32]) -> bool {
+    // The slices are valid for their lengths, and the borrow checker keeps them apart.
+    unsafe {
+        library::reference_safety_verify(
+            listing.as_ptr(),
+            listing.len(),
+            area.as_mut_ptr(),
+            area.len(),
+            answer.as_mut_ptr(),
+            answer.len(),
+        )
+    }
+}
+
+fn main() {
+    let mut area = vec![USED; AREA + 1];
+    let mut answer = [USED; 5];
+    assert!(verify(&LISTING, &mut area, &mut answer));
+    assert_eq!(answer, [1, 102, 3, 1, USED]);
+    assert!(area[..AREA].iter().all(|w| *w == 0));
+    assert_eq!(area[AREA], USED);
+
+    let mut area = vec![USED; AREA - 1];
+    let mut answer = [USED; 4];
+    assert!(verify(&LISTING, &mut area, &mut answer));
+    assert_eq!(answer, [2, 7, 0, 0]);
+    assert!(area.iter().all(|w| *w == USED));
+
+    let mut area = vec![USED; AREA];
+    let mut answer = [USED; 3];
+    assert!(!verify(&LISTING, &mut area, &mut answer));
+    assert_eq!(answer, [USED; 3]);
+    assert!(area.iter().all(|w| *w == USED));
+    println!("called from Rust");
+}

@@ -1,0 +1,44 @@
+-- What the loader prints, in ASCII: `ACCEPT`, `VIOLATION code offset` or `REFUSED number place`, decimal, one line.
+use Prim.Native.Nat.{ℕ, zero, suc, _+_, _/_, _%_}
+use mathlib.Core.Bool.{cond}
+use mathlib.Core.List.{List, [], _∷_, _++_}
+use lib.Dec.{ltb}
+use Rattle.meaning.specs.Loop.{Verdict, accept, violation, refusal}
+use Rattle.meaning.specs.Verify.{Answered}
+
+-- the last k digits, without zeros in front
+abbrev pub decimalBy : ℕ → ℕ → List ℕ
+decimalBy zero n = []
+decimalBy (suc k) n = cond (ltb n 10) [] (decimalBy k (n / 10)) ++ ((48 + n % 10) ∷ [])
+
+-- no number of the code has more than 20 digits
+unfoldable pub decimalOf : ℕ → List ℕ
+decimalOf n = decimalBy 20 n
+
+abbrev pub space : List ℕ
+space = 32 ∷ []
+
+abbrev pub newline : List ℕ
+newline = 10 ∷ []
+
+unfoldable pub numbersOf : ℕ → ℕ → List ℕ
+unfolding decimalOf
+numbersOf a b = decimalOf a ++ space ++ decimalOf b ++ newline
+
+-- `ACCEPT`, `VIOLATION ` and `REFUSED `
+abbrev pub accepted : List ℕ
+accepted = 65 ∷ 67 ∷ 67 ∷ 69 ∷ 80 ∷ 84 ∷ []
+
+abbrev pub violated : List ℕ
+violated = 86 ∷ 73 ∷ 79 ∷ 76 ∷ 65 ∷ 84 ∷ 73 ∷ 79 ∷ 78 ∷ 32 ∷ []
+
+abbrev pub refused : List ℕ
+refused = 82 ∷ 69 ∷ 70 ∷ 85 ∷ 83 ∷ 69 ∷ 68 ∷ 32 ∷ []
+
+abbrev pub verdictLine : Verdict → List ℕ
+verdictLine accept = accepted ++ newline
+verdictLine (violation code offset) = violated ++ numbersOf code offset
+verdictLine (refusal number place) = refused ++ numbersOf number place
+
+abbrev pub lineOf : Answered → List ℕ
+lineOf a = verdictLine (a .verdict)

@@ -1,0 +1,36 @@
+-- `reference_safety_lib::put_words` meets its contract. Assumes nothing.
+use native.Mathlib.Omega.{arith}
+use lib.ListN.{length-set}
+use Rattle.reference_safety_lib.specs.WordLaws.{put-four}
+use borrow.Author.Needs.{needs}
+use Rattle.reference_safety_lib.proofs.put_words.Statement.{statement}
+use Rattle.reference_safety_lib.proofs.put_words.Tie as tie
+
+slice-write-answer : tie.Need-slice-write-answer
+slice-write-answer c = search needs
+
+slice-write-answer-2 : tie.Need-slice-write-answer-2
+slice-write-answer-2 c = simp length-set (omega arith)
+
+slice-write-answer-3 : tie.Need-slice-write-answer-3
+slice-write-answer-3 c = simp length-set (omega arith)
+
+slice-write-answer-4 : tie.Need-slice-write-answer-4
+slice-write-answer-4 c = search needs
+
+same-length : tie.Need-same-length
+same-length c = search needs
+
+returns : tie.Need-returns
+returns c = put-four (c .args .answer .now) _ _ _ _ (c .pre)
+
+pub put-words-spec : {M : Type 1} → statement M
+put-words-spec =
+    tie.close
+    (tie.spec
+    slice-write-answer
+    slice-write-answer-2
+    slice-write-answer-3
+    slice-write-answer-4
+    same-length
+    returns)

@@ -1,0 +1,3 @@
+pub mod Words
+pub mod Models
+pub mod WordLaws

@@ -1,0 +1,25 @@
+-- Words written one by one.
+use Prim.Native.Nat.{ℕ, _≤_, _<_}
+use native.Mathlib.Nat.{not-suc-le-zero, le-of-suc-le-suc}
+use mathlib.Core.Path.{_≡_, refl}
+use mathlib.Core.List.{List, [], _∷_}
+use mathlib.Core.Bool.{true, false}
+use borrow.Author.Tests.{le-leb, lt-leb}
+use Rattle.meaning.specs.Area.{cleared}
+use Rattle.meaning.specs.Verify.{Answered}
+use Rattle.reference_safety_lib.specs.Words.{fits, putWords, wordsOf, written, areaAfter}
+use lib.ListN.{length, drop, set}
+
+module _ (a : Answered) (ws area : List ℕ) where
+  pub no-room : length ws < 4 → (false ≡ fits ws) × (ws ≡ written a ws) × (area ≡ areaAfter ws area)
+  no-room h = rw (lt-leb 4 (length ws) h) (refl, refl, refl)
+
+  pub room : (ws′ area′ : List ℕ) → 4 ≤ length ws → ws′ ≡ putWords (wordsOf a) ws → area′ ≡ cleared area → (true ≡ fits ws) × (ws′ ≡ written a ws) × (area′ ≡ areaAfter ws area)
+  room ws′ area′ h e z = rw (le-leb 4 (length ws) h) (refl, e, z)
+
+pub put-four : (ws : List ℕ) (a b c d : ℕ) → 4 ≤ length ws → set (set (set (set ws 0 a) 1 b) 2 c) 3 d ≡ a ∷ b ∷ c ∷ d ∷ drop 4 ws
+put-four [] a b c d h = absurd (not-suc-le-zero h)
+put-four (w ∷ []) a b c d h = absurd (not-suc-le-zero (le-of-suc-le-suc h))
+put-four (w ∷ x ∷ []) a b c d h = absurd (not-suc-le-zero (le-of-suc-le-suc (le-of-suc-le-suc h)))
+put-four (w ∷ x ∷ y ∷ []) a b c d h = absurd (not-suc-le-zero (le-of-suc-le-suc (le-of-suc-le-suc (le-of-suc-le-suc h))))
+put-four (w ∷ x ∷ y ∷ z ∷ ws) a b c d h = refl

@@ -1,0 +1,31 @@
+-- An answer as four words: 0 accepted, 1 violation, 2 refused; the code or number; the offset or place; the visits.
+use Prim.Native.Nat.{ℕ}
+use mathlib.Core.Bool.{Bool, cond}
+use mathlib.Core.List.{List, [], _∷_, _++_}
+use lib.Dec.{leb}
+use lib.ListN.{length, drop}
+use Rattle.meaning.specs.Area.{cleared}
+use Rattle.meaning.specs.Loop.{Verdict, accept, violation, refusal}
+use Rattle.meaning.specs.Verify.{Answered}
+
+abbrev pub rulingWords : Verdict → ℕ → List ℕ
+rulingWords accept visits = 0 ∷ 0 ∷ 0 ∷ visits ∷ []
+rulingWords (violation code offset) visits = 1 ∷ code ∷ offset ∷ visits ∷ []
+rulingWords (refusal number place) visits = 2 ∷ number ∷ place ∷ visits ∷ []
+
+abbrev pub wordsOf : Answered → List ℕ
+wordsOf a = rulingWords (a .verdict) (a .visits)
+
+-- whether there is room for the four words
+abbrev pub fits : List ℕ → Bool
+fits ws = leb 4 (length ws)
+
+abbrev pub putWords : List ℕ → List ℕ → List ℕ
+putWords xs ws = xs ++ drop 4 ws
+
+-- the answer's words after the call, and the area's: without room nothing is written
+abbrev pub written : Answered → List ℕ → List ℕ
+written a ws = cond (fits ws) (putWords (wordsOf a) ws) ws
+
+abbrev pub areaAfter : List ℕ → List ℕ → List ℕ
+areaAfter ws area = cond (fits ws) (cleared area) area

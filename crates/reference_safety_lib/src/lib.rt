@@ -1,0 +1,76 @@
+// The check for controllers, to be linked from C or Rust (include/buslatim.h).
+use absint::Ruling;
+use absint::Verdict;
+use absint::verify;
+ghost use mathlib.Core.Path.{_≡_};
+ghost use Prim.Native.Nat.{_≤_};
+ghost use lib.ListN.{length};
+ghost use Rattle.meaning.specs.AnswerLaws.{Low};
+ghost use Rattle.meaning.specs.Verify as Whole;
+ghost use Rattle.absint.specs.Models.{rulingOf, verdictOf};
+ghost use Rattle.reference_safety_lib.specs.Words.{fits, written, areaAfter, putWords, wordsOf};
+ghost use Rattle.reference_safety_lib.specs.Models.{wordsIn};
+
+const ANSWER_WORDS: usize = 4;
+
+struct Words {
+    kind: u32,
+    number: u32,
+    place: u32,
+    visits: u32,
+}
+
+// The answer's first four words: 0 accepted, 1 violation, 2 refused; the code or number; the offset or place; the visits. False, and
+// nothing is done, where the answer has fewer.
+#[no_mangle]
+pub extern "C" fn reference_safety_verify(
+    listing: &[u8],
+    area: &mut [u32],
+    answer: &mut [u32],
+) -> bool
+    ensures { λ r. ⌜ (r ≡ fits (now (answer .entry))) × (now (answer .exit) ≡ written (Whole.verify (length (now (area .entry))) (now (listing .entry))) (now (answer .entry))) × (now (area .exit) ≡ areaAfter (now (answer .entry)) (now (area .entry))) ⌝ }
+{
+    if answer.len() < ANSWER_WORDS {
+        return false;
+    }
+    let v = verify(listing, area);
+    put_words(verdict_words(v), answer);
+    true
+}
+
+fn verdict_words(v: Verdict) -> Words
+    requires { ⌜ Low (rulingOf (v .ruling)) ⌝ }
+    ensures { λ r. ⌜ wordsIn r ≡ wordsOf (verdictOf v) ⌝ }
+{
+    let ruling = v.ruling;
+    match ruling {
+        Ruling::Accept => Words {
+            kind: 0,
+            number: 0,
+            place: 0,
+            visits: v.visits,
+        },
+        Ruling::Violation(code, offset) => Words {
+            kind: 1,
+            number: code as u32,
+            place: offset.0 as u32,
+            visits: v.visits,
+        },
+        Ruling::Refused(number, place) => Words {
+            kind: 2,
+            number: number as u32,
+            place: place as u32,
+            visits: v.visits,
+        },
+    }
+}
+
+fn put_words(w: Words, answer: &mut [u32])
+    requires { ⌜ 4 ≤ length (now answer) ⌝ }
+    ensures { λ _. ⌜ now (answer .exit) ≡ putWords (wordsIn w) (now (answer .entry)) ⌝ }
+{
+    answer[0] = w.kind;
+    answer[1] = w.number;
+    answer[2] = w.place;
+    answer[3] = w.visits;
+}
