@@ -32,6 +32,13 @@ enum { BUSLATIM_ACCEPT = 0, BUSLATIM_VIOLATION = 1, BUSLATIM_REFUSED = 2 };
 bool reference_safety_verify(const uint8_t *listing, size_t listing_len, uint32_t *area, size_t area_len, uint32_t *answer,
                              size_t answer_len);
 
+/*
+ * The same answer, but the area is not zeroed: the block listed at position b has its kept state in the 1,024 words from 1,024 * b on
+ * (docs/ARCHITECTURE.md has their layout). A refused listing leaves the area as it was.
+ */
+bool reference_safety_analyze(const uint8_t *listing, size_t listing_len, uint32_t *area, size_t area_len, uint32_t *answer,
+                              size_t answer_len);
+
 #ifdef __cplusplus
 }
 #endif

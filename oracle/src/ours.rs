@@ -1,9 +1,23 @@
 //! Our own `verify`, linked as a static library.
 
-use crate::answer::Answer;
+use crate::{
+    answer::Answer,
+    kept::{Edge, State},
+    listing,
+};
+
+type Function = unsafe extern "C" fn(*const u8, usize, *mut u32, usize, *mut u32, usize) -> bool;
 
 extern "C" {
     fn reference_safety_verify(
+        listing: *const u8,
+        n: usize,
+        area: *mut u32,
+        m: usize,
+        answer: *mut u32,
+        k: usize,
+    ) -> bool;
+    fn reference_safety_analyze(
         listing: *const u8,
         n: usize,
         area: *mut u32,
@@ -17,18 +31,14 @@ pub const AREA: usize = 16_384;
 const BEYOND: usize = 16;
 const USED: u32 = 0xA5A5_A5A5;
 
+fn called(function: Function, listing: &[u8], area: &mut [u32], answer: &mut [u32; 4]) -> bool {
+    let (from, words) = (area.as_mut_ptr(), area.len());
+    unsafe { function(listing.as_ptr(), listing.len(), from, words, answer.as_mut_ptr(), answer.len()) }
+}
+
 /// A bare call, for the benchmark.
 pub fn call(listing: &[u8], area: &mut [u32], answer: &mut [u32; 4]) -> bool {
-    unsafe {
-        reference_safety_verify(
-            listing.as_ptr(),
-            listing.len(),
-            area.as_mut_ptr(),
-            area.len(),
-            answer.as_mut_ptr(),
-            answer.len(),
-        )
-    }
+    called(reference_safety_verify, listing, area, answer)
 }
 
 /// Its answer, from an area in use; or what it did to the area that document 01 forbids.
@@ -65,4 +75,42 @@ fn answered(listing: &[u8], area: &mut [u32]) -> Result<Answer, &'static str> {
         (words[1], words[2]) = (0, 0)
     }
     Ok(Answer::of(words))
+}
+
+/// The kept states by entry, of a listing that is read.
+pub fn kept_states(listing: &[u8]) -> Vec<(u16, State)> {
+    let routine = listing::read(listing).expect("a listing that is read");
+    let mut area = vec![USED; AREA];
+    called(reference_safety_analyze, listing, &mut area, &mut [0; 4]);
+    let blocks = routine.blocks.iter().zip(area.chunks(1_024));
+    let mut kept: Vec<(u16, State)> = blocks
+        .filter(|(_, words)| words[0] >> 18 != 0)
+        .map(|(b, words)| (b.entry, state(words, routine.locals)))
+        .collect();
+    kept.sort_by_key(|(entry, _)| *entry);
+    kept
+}
+
+/// A block's words, as docs/ARCHITECTURE.md has them.
+fn state(words: &[u32], locals: u8) -> State {
+    let mut state = State::default();
+    for local in 0..locals {
+        let word = words[local as usize];
+        match word >> 16 & 3 {
+            0 => continue,
+            1 => state.locals.insert(local, None),
+            _ => state.locals.insert(local, Some((word & 0xFFFF) as usize)),
+        };
+    }
+    for word in &words[16..][..(words[1] >> 18) as usize] {
+        state.graph.names.insert((word & 0xFFFF) as usize, word >> 16 == 1);
+    }
+    for edge in words[64..].chunks(10).take((words[2] >> 18) as usize) {
+        let pair = ((edge[0] >> 16) as usize, (edge[0] & 0xFFFF) as usize);
+        let set = state.graph.sets.entry(pair).or_default();
+        set.blurred = edge[1] & 32 != 0;
+        let path = edge[2..][..(edge[1] & 15) as usize].to_vec();
+        set.edges.push(Edge { strong: edge[1] & 16 != 0, path })
+    }
+    state
 }

@@ -1,13 +1,14 @@
 -- Words written one by one.
 use Prim.Native.Nat.{ℕ, _≤_, _<_}
 use native.Mathlib.Nat.{not-suc-le-zero, le-of-suc-le-suc}
-use mathlib.Core.Path.{_≡_, refl}
+use mathlib.Core.Path.{_≡_, refl, sym, _∙_}
 use mathlib.Core.List.{List, [], _∷_}
-use mathlib.Core.Bool.{true, false}
+use mathlib.Core.Bool.{true, false, true≢false}
 use borrow.Author.Tests.{le-leb, lt-leb}
 use Rattle.meaning.specs.Area.{cleared}
 use Rattle.meaning.specs.Verify.{Answered}
-use Rattle.reference_safety_lib.specs.Words.{fits, putWords, wordsOf, written, areaAfter}
+use Rattle.absint.specs.Models.{Left}
+use Rattle.reference_safety_lib.specs.Words.{fits, putWords, wordsOf, written, areaAfter, Kept}
 use lib.ListN.{length, drop, set}
 
 module _ (a : Answered) (ws area : List ℕ) where
@@ -16,6 +17,13 @@ module _ (a : Answered) (ws area : List ℕ) where
 
   pub room : (ws′ area′ : List ℕ) → 4 ≤ length ws → ws′ ≡ putWords (wordsOf a) ws → area′ ≡ cleared area → (true ≡ fits ws) × (ws′ ≡ written a ws) × (area′ ≡ areaAfter ws area)
   room ws′ area′ h e z = rw (le-leb 4 (length ws) h) (refl, e, z)
+
+module _ (a : Answered) (ws s area : List ℕ) where
+  pub no-room-kept : length ws < 4 → (false ≡ fits ws) × (ws ≡ written a ws) × Kept ws s area area
+  no-room-kept h = (sym (lt-leb 4 (length ws) h), no-room a ws area h .1, record { left = λ f. absurd (true≢false (sym f ∙ lt-leb 4 (length ws) h)); same = λ f. refl })
+
+  pub room-kept : (ws′ area′ : List ℕ) → 4 ≤ length ws → ws′ ≡ putWords (wordsOf a) ws → Left s area area′ → (true ≡ fits ws) × (ws′ ≡ written a ws) × Kept ws s area area′
+  room-kept ws′ area′ h e z = (sym (le-leb 4 (length ws) h), room a ws area ws′ (cleared area) h e refl .1, record { left = λ f. z; same = λ f. absurd (true≢false (sym (le-leb 4 (length ws) h) ∙ f)) })
 
 pub put-four : (ws : List ℕ) (a b c d : ℕ) → 4 ≤ length ws → set (set (set (set ws 0 a) 1 b) 2 c) 3 d ≡ a ∷ b ∷ c ∷ d ∷ drop 4 ws
 put-four [] a b c d h = absurd (not-suc-le-zero h)

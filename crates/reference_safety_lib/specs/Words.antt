@@ -1,12 +1,14 @@
 -- An answer as four words: 0 accepted, 1 violation, 2 refused; the code or number; the offset or place; the visits.
 use Prim.Native.Nat.{ℕ}
-use mathlib.Core.Bool.{Bool, cond}
+use mathlib.Core.Path.{_≡_}
+use mathlib.Core.Bool.{Bool, true, false, cond}
 use mathlib.Core.List.{List, [], _∷_, _++_}
 use lib.Dec.{leb}
 use lib.ListN.{length, drop}
 use Rattle.meaning.specs.Area.{cleared}
 use Rattle.meaning.specs.Loop.{Verdict, accept, violation, refusal}
 use Rattle.meaning.specs.Verify.{Answered}
+use Rattle.absint.specs.Models.{Left}
 
 abbrev pub rulingWords : Verdict → ℕ → List ℕ
 rulingWords accept visits = 0 ∷ 0 ∷ 0 ∷ visits ∷ []
@@ -29,3 +31,8 @@ written a ws = cond (fits ws) (putWords (wordsOf a) ws) ws
 
 abbrev pub areaAfter : List ℕ → List ℕ → List ℕ
 areaAfter ws area = cond (fits ws) (cleared area) area
+
+-- the area with the kept states of the run: absint's `Left`; without room it is as it was
+pub record Kept (ws s area area′ : List ℕ) : Type 0 where
+  pub left : fits ws ≡ true → Left s area area′
+  pub same : fits ws ≡ false → area′ ≡ area

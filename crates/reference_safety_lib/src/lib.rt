@@ -1,4 +1,6 @@
 // The check for controllers, to be linked from C or Rust (include/buslatim.h).
+pub mod kept;
+
 use absint::Ruling;
 use absint::Verdict;
 use absint::verify;
@@ -11,7 +13,7 @@ ghost use Rattle.absint.specs.Models.{rulingOf, verdictOf};
 ghost use Rattle.reference_safety_lib.specs.Words.{fits, written, areaAfter, putWords, wordsOf};
 ghost use Rattle.reference_safety_lib.specs.Models.{wordsIn};
 
-const ANSWER_WORDS: usize = 4;
+pub(crate) const ANSWER_WORDS: usize = 4;
 
 struct Words {
     kind: u32,
@@ -38,7 +40,7 @@ pub extern "C" fn reference_safety_verify(
     true
 }
 
-fn verdict_words(v: Verdict) -> Words
+pub(crate) fn verdict_words(v: Verdict) -> Words
     requires { ⌜ Low (rulingOf (v .ruling)) ⌝ }
     ensures { λ r. ⌜ wordsIn r ≡ wordsOf (verdictOf v) ⌝ }
 {
@@ -65,7 +67,7 @@ fn verdict_words(v: Verdict) -> Words
     }
 }
 
-fn put_words(w: Words, answer: &mut [u32])
+pub(crate) fn put_words(w: Words, answer: &mut [u32])
     requires { ⌜ 4 ≤ length (now answer) ⌝ }
     ensures { λ _. ⌜ now (answer .exit) ≡ putWords (wordsIn w) (now (answer .entry)) ⌝ }
 {

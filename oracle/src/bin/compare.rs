@@ -85,7 +85,7 @@ impl Run {
 mod ours {
     use oracle::{
         answer::{hex, Answer},
-        judge::{judge, Judged, Source},
+        judge::{judge, kept_states, Judged, Source},
         ours,
         shrink::shrink,
     };
@@ -96,12 +96,22 @@ mod ours {
         within: Vec<Vec<u8>>,
         outside: Vec<Vec<u8>>,
         number: u64,
+        /// How many runs had their kept states compared.
+        kept: u64,
     }
+
+    /// The Rust shows its kept states slowly.
+    const KEPT_EVERY: u64 = 4;
 
     const SHORT: Answer = Answer { kind: 2, number: 7, place: 0, visits: 0 };
 
     fn differs(listing: &[u8], judged: &Judged) -> bool {
         ours::verify(listing) != Ok(judged.answer)
+    }
+
+    /// Where the oracle shows the kept states.
+    fn kept_differ(listing: &[u8]) -> bool {
+        kept_states(listing).is_some_and(|kept| kept != ours::kept_states(listing))
     }
 
     impl Differing {
@@ -113,6 +123,12 @@ mod ours {
                     _ => self.outside.push(listing.to_vec()),
                 }
             }
+            if self.number % KEPT_EVERY == 0 && judged.source == Source::Rust && judged.answer.kind < 2 {
+                self.kept += 1;
+                if kept_differ(listing) {
+                    self.within.push(listing.to_vec())
+                }
+            }
             if self.number % 100 == 0 && ours::verify_short(listing) != Ok(SHORT) {
                 self.outside.push(listing.to_vec())
             }
@@ -120,7 +136,8 @@ mod ours {
 
         pub fn close(&self, compared: u64) {
             println!(
-                "{compared} compared, {} differ; outside {} differ",
+                "{compared} compared, of {} the kept states too; {} differ; outside {} differ",
+                self.kept,
                 self.within.len(),
                 self.outside.len()
             );
@@ -129,7 +146,8 @@ mod ours {
                 let Some(smallest) = found.iter().min_by_key(|l| l.len()) else { continue };
                 let smallest = shrink(smallest, |l| {
                     let judged = judge(l);
-                    (judged.source == Source::Rust) == domain && differs(l, &judged)
+                    (judged.source == Source::Rust) == domain
+                        && (differs(l, &judged) || domain && kept_differ(l))
                 });
                 println!("smallest ({name}): {}", hex(&smallest));
                 println!("  the oracle: {:?}", judge(&smallest));
