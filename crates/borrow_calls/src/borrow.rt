@@ -126,7 +126,12 @@ fn add_more(graph: BorrowGraph, parent: RefID, edge: BorrowEdge, child: RefID) -
 }
 
 // The same; the first edge of a pair goes straight to its place: `low` edges stand before it, and the others make room.
-fn add_edge(mut graph: BorrowGraph, parent: RefID, edge: BorrowEdge, child: RefID) -> Answer
+pub(crate) fn add_edge(
+    mut graph: BorrowGraph,
+    parent: RefID,
+    edge: BorrowEdge,
+    child: RefID,
+) -> Answer
     requires { ⌜ wellFormed (graphOf graph) ≡ true ⌝ }
     ensures { λ r. ⌜ (answerOf r ≡ andThen (addEdge (graphOf graph) (between (parent .0) (edgeOf edge) (child .0))) limit) × (graphOf (r .graph) ≡ leaves (graphOf graph) (andThen (addEdge (graphOf graph) (between (parent .0) (edgeOf edge) (child .0))) limit)) ⌝ }
 {

@@ -1,9 +1,11 @@
 // A name is taken out; each way through it stays as an edge.
+use crate::borrow::add_edge;
 use crate::pairs::Replaced;
 use crate::pairs::between;
 use crate::pairs::replace_set;
 use borrow_graph::graph::Answer;
 use borrow_graph::graph::BorrowGraph;
+use borrow_graph::graph::GraphEdge;
 use borrow_graph::graph::GraphEdges;
 use references::paths;
 use references::references::BorrowEdge;
@@ -13,9 +15,10 @@ use references::references::Inserted;
 use references::references::RefID;
 ghost use mathlib.Core.Path.{_≡_};
 ghost use mathlib.Core.Bool.{true, _&&_};
-ghost use mathlib.Core.List.{map};
-ghost use lib.Dec.{eqb};
-ghost use Rattle.meaning.specs.Base.{any, leaves, keep};
+ghost use mathlib.Core.List.{List, map};
+ghost use Prim.Native.Nat.{_≤_};
+ghost use lib.ListN.{length};
+ghost use Rattle.meaning.specs.Base.{leaves, keep};
 ghost use Rattle.meaning.specs.Graph as G;
 ghost use Rattle.meaning.specs.GraphLaws.{insertAll};
 ghost use Rattle.meaning.specs.Pairs.{across, replaceLim, twoPass};
@@ -23,7 +26,8 @@ ghost use Rattle.meaning.specs.PairLaws.{Neat};
 ghost use Rattle.meaning.specs.Passes.{fitting, apart, splices, spliceSet, childRow, splicePairs};
 ghost use Rattle.references.specs.Models.{edgeOf, edgesOf as edgesOfSet, setOf, candidateOf, insertedOf};
 ghost use Rattle.borrow_graph.specs.Models.{edgesOf, heldOf, graphOf, answerOf};
-ghost use Rattle.borrow_calls.specs.Models.{replacedOf};
+ghost use Rattle.borrow_calls.specs.Models.{replacedOf, Found, putOf};
+ghost use Rattle.borrow_calls.specs.Ways.{entering, leaving, ways};
 
 // The edge from a parent's parent to a child. Behind a weak edge nothing more is known.
 fn splice(parent: BorrowEdge, child: BorrowEdge) -> Candidate
@@ -263,55 +267,143 @@ fn release_through(graph: BorrowGraph, id: RefID) -> Answer
     }
 }
 
-// Whether edges lead to the name and from it.
-fn passed(graph: BorrowGraph, id: RefID) -> bool
-    ensures { λ r. ⌜ r ≡ (any (λ x. eqb (id .0) (x .child)) (heldOf graph) && any (λ x. eqb (id .0) (x .parent)) (heldOf graph)) ⌝ }
+// The edges on one side of a name: none, a single one, or several.
+pub(crate) struct Side {
+    pub empty: bool,
+    pub single: bool,
+    pub edge: GraphEdge,
+}
+
+// The edges to a name, and from it.
+pub(crate) struct Touching {
+    pub to: Side,
+    pub from: Side,
+}
+
+// What a release puts in, one edge or nothing, where it is `known` without the passes.
+pub(crate) struct Bridge {
+    pub known: bool,
+    pub one: bool,
+    pub parent: RefID,
+    pub edge: BorrowEdge,
+    pub child: RefID,
+}
+
+// An edge from the name to itself counts as several from it.
+fn touching_edges(graph: BorrowGraph, id: RefID) -> Touching
+    ensures { λ r. ⌜ Found (r .to) (keep (entering (id .0)) (heldOf graph)) × Found (r .from) (keep (leaving (id .0)) (heldOf graph)) ⌝ }
 {
     let n = graph.len();
-    let mut to = false;
-    let mut from = false;
+    let e = BorrowEdge::weakest();
+    let start = GraphEdge {
+        parent: id,
+        child: id,
+        blurred: false,
+        edge: e,
+    };
+    let mut to = Side {
+        empty: true,
+        single: false,
+        edge: start,
+    };
+    let mut from = to;
     let mut i: usize = 0;
     while i < n {
         let x = graph.edges[i];
-        to = to | (id.0 == x.child.0);
-        from = from | (id.0 == x.parent.0);
-        i += 1;
+        let out = id.0 == x.parent.0;
+        if id.0 == x.child.0 {
+            to.single = to.empty;
+            to.empty = false;
+            to.edge = x;
+            from.empty = from.empty & !out;
+            from.single = from.single & !out;
+            i += 1;
+        } else {
+            if out {
+                from.single = from.empty;
+                from.empty = false;
+                from.edge = x;
+                i += 1;
+            } else {
+                i += 1;
+            }
+        }
     }
-    to & from
+    Touching { to: to, from: from }
 }
 
-// 9 where the name is not held; 22 for a path of more than eight labels, then 21 for more than 96 edges in the end. Where no way
-// leads through the name its edges are left out, and that is all.
-pub fn release(mut graph: BorrowGraph, id: RefID) -> Answer
+// Nothing where a side is empty, or where the way would lead from a name to itself.
+fn bridged(t: Touching) -> Bridge
+    ensures { λ r. ⌜ (r .known ≡ true → (xs ys : List G.GEdge) → Found (t .to) xs → Found (t .from) ys → ways xs ys ≡ putOf r) × (length (edgeOf (r .edge) .path) ≤ 8) ⌝ }
+{
+    let to = t.to;
+    let from = t.from;
+    let x = to.edge;
+    let y = from.edge;
+    let e = x.edge;
+    let f = y.edge;
+    let c = splice(e, f);
+    let parent = x.parent;
+    let child = y.child;
+    let edge = c.edge;
+    let nothing = to.empty | from.empty;
+    let cycle = parent.0 == child.0;
+    Bridge {
+        known: nothing | (to.single & from.single & (cycle | c.fits)),
+        one: !nothing & !cycle,
+        parent: parent,
+        edge: edge,
+        child: child,
+    }
+}
+
+// The graph without a name and the edges that touch it.
+fn left_out(mut graph: BorrowGraph, id: RefID) -> BorrowGraph
+    ensures { λ r. ⌜ graphOf r ≡ G.without (graphOf graph) (id .0) ⌝ }
+{
+    let rs = graph.refs;
+    let ms = rs.without(id);
+    graph.refs = ms;
+    let n = graph.len();
+    let mut j: usize = 0;
+    let mut i: usize = 0;
+    while i < n {
+        let x = graph.edges[i];
+        if !(id.0 == x.parent.0) & !(id.0 == x.child.0) {
+            graph.edges[j] = x;
+            j += 1;
+            i += 1;
+        } else {
+            i += 1;
+        }
+    }
+    graph.len = j as u8;
+    graph
+}
+
+// 9 where the name is not held; 22 for a path of more than eight labels, then 21 for more than 96 edges in the end. Where at most one
+// way leads through the name, its edges are left out and that way is put in, which needs no passes and is never refused.
+pub fn release(graph: BorrowGraph, id: RefID) -> Answer
     ensures { λ r. ⌜ (answerOf r ≡ G.release (graphOf graph) (id .0)) × (graphOf (r .graph) ≡ leaves (graphOf graph) (G.release (graphOf graph) (id .0))) ⌝ }
 {
     let w = graph.well_formed();
     let rs = graph.refs;
     let h = rs.holds(id);
     if w & h {
-        if passed(graph, id) {
-            return release_through(graph, id);
-        }
-        let ms = rs.without(id);
-        graph.refs = ms;
-        let n = graph.len();
-        let mut j: usize = 0;
-        let mut i: usize = 0;
-        while i < n {
-            let x = graph.edges[i];
-            if !(id.0 == x.parent.0) & !(id.0 == x.child.0) {
-                graph.edges[j] = x;
-                j += 1;
-                i += 1;
-            } else {
-                i += 1;
+        let t = touching_edges(graph, id);
+        let b = bridged(t);
+        if b.known {
+            let g = left_out(graph, id);
+            if b.one {
+                let e = b.edge;
+                return add_edge(g, b.parent, e, b.child);
             }
+            return Answer {
+                graph: g,
+                refusal: 0,
+            };
         }
-        graph.len = j as u8;
-        return Answer {
-            graph: graph,
-            refusal: 0,
-        };
+        return release_through(graph, id);
     }
     Answer {
         graph: graph,

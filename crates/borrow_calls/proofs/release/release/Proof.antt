@@ -1,155 +1,82 @@
-use native.Mathlib.Omega.{arith}
+use mathlib.Core.Path.{_≡_, sym, ap, _∙_}
+use mathlib.Core.Bool.{Bool, true, false, _&&_, cond}
+use mathlib.Core.List.{List, [], _∷_}
+use Rattle.meaning.specs.Base.{answered, declined}
+use Rattle.meaning.specs.Graph.{GEdge, wellFormed, held, between}
+use Rattle.meaning.specs.PassLaws.{release-9}
+use Rattle.references.specs.Models.{edgeOf}
+use Rattle.borrow_graph.specs.Models.{graphOf, answerOf}
+use Rattle.borrow_calls.specs.Models.{putOf}
+use Rattle.borrow_calls.specs.Ways.{left-formed, release-none, release-one}
 use borrow.Author.Needs.{needs}
-use mathlib.Core.Path.{_≡_, refl, sym, ap, _∙_}
-use mathlib.Core.Bool.{Bool, true, false, not, _&&_, cond}
-use mathlib.Core.List.{List, _∷_, _++_, map, append-nil}
-use Prim.Native.Nat.{ℕ, _+_, _-_, _<_, _≤_}
-use lib.Dec.{eqb}
-use lib.ListN.{length, take, drop, getD, length-set}
-use Rattle.meaning.specs.Base.{keep, answered, declined}
-use Rattle.meaning.specs.Graph.{GEdge, wellFormed, held}
-use Rattle.meaning.specs.Passes.{apart}
-use Rattle.meaning.specs.PassLaws.{release-9, release-still}
-use Rattle.meaning.specs.ArrayLaws.{push-map, length-of-map}
-use Rattle.borrow_graph.specs.Models.{gedgeOf, refsOf, edgesOf, heldOf, graphOf}
-use Rattle.borrow_graph.specs.ModelLaws.{no-gedge, held-step, held-end, edges-made}
-use Rattle.borrow_graph.specs.declared.graph.Refs.{Refs}
-use Rattle.borrow_calls.specs.Places.{written-length, written-rest}
 use Rattle.borrow_calls.proofs.release.release.Statement.{statement}
 use Rattle.borrow_calls.proofs.release.release.Tie as tie
 
-abbrev Inv-loop : tie.InvT-loop
-Inv-loop id graph₀ w h n j₀ i₀ graph j i =
-    (j ≤ i) × (i ≤ n) × (graph .refs ≡ graph₀ .refs) × (length (graph .edges) ≡ 96) × (length (heldOf graph) ≡ n)
-    × (map gedgeOf (take j (graph .edges)) ++ keep (apart (id .0)) (drop i (heldOf graph)) ≡ keep (apart (id .0)) (heldOf graph₀))
-
-abbrev μ-loop : tie.MeasureT-loop
-μ-loop id graph₀ w h n j₀ i₀ graph j i = n - i
-
 -- the test, as the definition has it
-tested : (c : tie.After-holds Inv-loop μ-loop) (b : Bool) → ((c .before .before .well-formed) .result && (c .holds) .result) ≡ b → (wellFormed (graphOf ((c .before .before .before .args) .t1)) && held (graphOf ((c .before .before .before .args) .t1)) ((c .before .before .before .args) .id .0)) ≡ b
+tested : (c : tie.After-holds) (b : Bool) → ((c .before .before .well-formed) .result && (c .holds) .result) ≡ b → (wellFormed (graphOf ((c .before .before .before .args) .graph)) && held (graphOf ((c .before .before .before .args) .graph)) ((c .before .before .before .args) .id .0)) ≡ b
 tested c b e = (λ i. sym ((c .before .before .well-formed) .ensures) i && sym ((c .holds) .ensures) i) ∙ e
 
-turn : (c : tie.In-loop Inv-loop μ-loop) →
-    let x = gedgeOf (getD ((c .before .loop) .graph .edges) ((c .before .loop) .i) no-gedge) in
-    let rest = keep (apart ((c .before .before .before .before .before .before .before .before .before .before .args) .id .0)) (drop ((c .before .loop) .i + 1) (heldOf ((c .before .loop) .graph))) in
-    map gedgeOf (take ((c .before .loop) .j) ((c .before .loop) .graph .edges)) ++ cond (not (eqb ((c .before .before .before .before .before .before .before .before .before .before .args) .id .0) (x .parent)) && not (eqb ((c .before .before .before .before .before .before .before .before .before .before .args) .id .0) (x .child))) (x ∷ rest) rest ≡ keep (apart ((c .before .before .before .before .before .before .before .before .before .before .args) .id .0)) (heldOf ((c .before .before .before .before .before .before .before .before .before .before .args) .t1))
-turn c =
-    ap (λ (xs : List GEdge). map gedgeOf (take ((c .before .loop) .j) ((c .before .loop) .graph .edges)) ++ keep (apart ((c .before .before .before .before .before .before .before .before .before .before .args) .id .0)) xs) (sym (held-step ((c .before .loop) .graph) ((c .before .loop) .i) (omega (arith, (c .before .loop) .inv .4, (c .loop-test) .taken)))) ∙ (c .before .loop) .inv .5
-
-well-formed-requires : tie.Need-well-formed-requires Inv-loop μ-loop
+well-formed-requires : tie.Need-well-formed-requires
 well-formed-requires c κs = search needs
 
-holds-requires : tie.Need-holds-requires Inv-loop μ-loop
+holds-requires : tie.Need-holds-requires
 holds-requires c κs = search needs
 
-passed-requires : tie.Need-passed-requires Inv-loop μ-loop
-passed-requires c κs = search needs
+touching-edges-requires : tie.Need-touching-edges-requires
+touching-edges-requires c κs = search needs
 
-release-through-requires : tie.Need-release-through-requires Inv-loop μ-loop
-release-through-requires c κs = tested (c .before .before .before) true ((c .before .before .if1) .taken)
+bridged-requires : tie.Need-bridged-requires
+bridged-requires c κs = search needs
 
-returns : tie.Need-returns Inv-loop μ-loop
-returns c = (c .release-through) .ensures
+left-out-requires : tie.Need-left-out-requires
+left-out-requires c κs = search needs
 
-without-requires : tie.Need-without-requires Inv-loop μ-loop
-without-requires c κs = search needs
-
-len-requires : tie.Need-len-requires Inv-loop μ-loop
-len-requires c κs = search needs
-
-loop-holds : tie.Need-loop-holds Inv-loop μ-loop
-loop-holds c = (omega arith, omega arith, refl, search length-of-map, sym ((c .len) .ensures .0), refl)
-
-mul-x : tie.Need-mul-x Inv-loop μ-loop
-mul-x c = omega arith
-
-element-copy-out-x : tie.Need-element-copy-out-x Inv-loop μ-loop
-element-copy-out-x c = omega arith
-
-mul-x-2 : tie.Need-mul-x-2 Inv-loop μ-loop
-mul-x-2 c = omega arith
-
-element-set-from-x : tie.Need-element-set-from-x Inv-loop μ-loop
-element-set-from-x c = omega arith
-
-add-j : tie.Need-add-j Inv-loop μ-loop
-add-j c = omega arith
-
-add-i : tie.Need-add-i Inv-loop μ-loop
-add-i c = omega arith
-
-loop-less : tie.Need-loop-less Inv-loop μ-loop
-loop-less c = omega arith
-
-loop-again : tie.Need-loop-again Inv-loop μ-loop
-loop-again c =
-    let l = (c .before .before .before .before .before .before .before .loop) in
-    let q = apart ((c .before .before .before .before .before .before .before .before .before .before .before .before .before .before .before .before .args) .id .0) in
-    let h : l .j < length (l .graph .edges) = omega (arith, l .inv .0, l .inv .3, (c .before .before .before .before .before .before .before .before .len) .ensures .1, (c .before .before .before .before .before .before .loop-test) .taken) in (
-      omega (arith, l .inv .0),
-      omega (arith, (c .before .before .before .before .before .before .loop-test) .taken),
-      l .inv .2,
-      simp length-set (l .inv .3),
-      written-length (l .graph .edges) (l .graph .len) (l .j) _ ∙ l .inv .4,
-      push-map gedgeOf (l .graph .edges) (l .j) (l .j + 1) _ _ refl h
-          ∙ ap (λ (xs : List GEdge). map gedgeOf (take (l .j) (l .graph .edges)) ++ (gedgeOf (getD (l .graph .edges) (l .i) no-gedge) ∷ keep q xs)) (written-rest (l .graph .edges) (l .graph .len) (l .j) (l .i + 1) _ (omega (arith, l .inv .0)))
-          ∙ rw ((c .if3) .taken) at (turn (c .before .before .before .before .before .before)),
-    )
-
-add-i-2 : tie.Need-add-i-2 Inv-loop μ-loop
-add-i-2 c = omega arith
-
-loop-less-2 : tie.Need-loop-less-2 Inv-loop μ-loop
-loop-less-2 c = omega arith
-
-loop-again-2 : tie.Need-loop-again-2 Inv-loop μ-loop
-loop-again-2 c =
-    let l = (c .before .before .before .before .before .before .before .loop) in
-    (omega (arith, l .inv .0), omega (arith, (c .before .before .before .before .before .before .loop-test) .taken), l .inv .2, l .inv .3, l .inv .4, rw ((c .if3) .left) at (turn (c .before .before .before .before .before .before)))
-
-cast-graph : tie.Need-cast-graph Inv-loop μ-loop
-cast-graph c = omega arith
-
-returns-2 : tie.Need-returns-2 Inv-loop μ-loop
-returns-2 c =
+add-edge-requires : tie.Need-add-edge-requires
+add-edge-requires c κs =
     let a = (c .before .before .before .before .before .before .before .before .before .before .args) in
-    let l = (c .before .loop) in
-    let g = graphOf (a .t1) in
-    let e = held-end (l .graph) (l .i) (omega (arith, l .inv .4, (c .loop-test) .left)) in
-    let z : edgesOf (record { list = l .graph .edges; len = l .j }) ≡ keep (apart (a .id .0)) (heldOf (a .t1)) = edges-made (l .graph .edges) (l .j) ∙ rw (e, append-nil) at (l .inv .5) in
-    answered g _ _ (release-still g (a .id .0) (tested (c .before .before .before .before .before .before .before) true ((c .before .before .before .before .before .before .if1) .taken)) (sym ((c .before .before .before .before .before .passed) .ensures) ∙ (c .before .before .before .before .if2) .left) _ z (refsOf (l .graph .refs)) (ap (λ (s : Refs). refsOf s) (l .inv .2) ∙ (c .before .before .before .without) .ensures))
+    left-formed (graphOf (a .graph)) (a .id .0) (tested (c .before .before .before .before .before .before .before) true ((c .before .before .before .before .before .before .if1) .taken)) (graphOf ((c .before .before .left-out) .result)) ((c .before .before .left-out) .ensures)
 
-returns-3 : tie.Need-returns-3 Inv-loop μ-loop
-returns-3 c =
-    let g = graphOf ((c .before .before .before .before .args) .t1) in
+returns : tie.Need-returns
+returns c =
+    let a = (c .before .before .before .before .before .before .before .before .before .before .before .args) in
+    let b = (c .before .before .before .before .before .bridged) .result in
+    let e = (c .before .before .before .before .before .bridged) .ensures .0 ((c .before .before .before .before .if2) .taken) _ _ ((c .before .before .before .before .before .before .touching-edges) .ensures .0) ((c .before .before .before .before .before .before .touching-edges) .ensures .1) in
+    let z = ap (λ (o : Bool). cond {A = List GEdge} o (between (b .parent .0) (edgeOf (b .edge)) (b .child .0) ∷ []) []) ((c .before .before .if3) .taken) in
+    release-one (graphOf (a .graph)) (a .id .0) (tested (c .before .before .before .before .before .before .before .before) true ((c .before .before .before .before .before .before .before .if1) .taken)) (graphOf ((c .before .before .before .left-out) .result)) ((c .before .before .before .left-out) .ensures) (putOf b) e
+    (b .parent .0) (edgeOf (b .edge)) (b .child .0) z ((c .before .before .before .before .before .bridged) .ensures .1) (answerOf ((c .add-edge) .result)) (graphOf ((c .add-edge) .result .graph)) ((c .add-edge) .ensures)
+
+returns-2 : tie.Need-returns-2
+returns-2 c =
+    let a = (c .before .before .before .before .before .before .before .before .before .args) in
+    let b = (c .before .before .before .bridged) .result in
+    let e = (c .before .before .before .bridged) .ensures .0 ((c .before .before .if2) .taken) _ _ ((c .before .before .before .before .touching-edges) .ensures .0) ((c .before .before .before .before .touching-edges) .ensures .1) in
+    let z = ap (λ (o : Bool). cond {A = List GEdge} o (between (b .parent .0) (edgeOf (b .edge)) (b .child .0) ∷ []) []) ((c .if3) .left) in
+    answered (graphOf (a .graph)) (graphOf ((c .before .left-out) .result)) _
+    (release-none (graphOf (a .graph)) (a .id .0) (tested (c .before .before .before .before .before .before) true ((c .before .before .before .before .before .if1) .taken)) (graphOf ((c .before .left-out) .result)) ((c .before .left-out) .ensures) (putOf b) e z)
+
+release-through-requires : tie.Need-release-through-requires
+release-through-requires c κs = tested (c .before .before .before .before) true ((c .before .before .before .if1) .taken)
+
+returns-3 : tie.Need-returns-3
+returns-3 c = (c .release-through) .ensures
+
+returns-4 : tie.Need-returns-4
+returns-4 c =
+    let g = graphOf ((c .before .before .before .before .args) .graph) in
     declined g 9 _ (release-9 g ((c .before .before .before .before .args) .id .0) (tested (c .before) false ((c .if1) .left)))
 
 pub release-spec : {M : Type 1} → statement M
 release-spec =
     tie.close
     (tie.spec
-    Inv-loop
-    μ-loop
     well-formed-requires
     holds-requires
-    passed-requires
-    release-through-requires
+    touching-edges-requires
+    bridged-requires
+    left-out-requires
+    add-edge-requires
     returns
-    without-requires
-    len-requires
-    loop-holds
-    mul-x
-    element-copy-out-x
-    mul-x-2
-    element-set-from-x
-    add-j
-    add-i
-    loop-less
-    loop-again
-    add-i-2
-    loop-less-2
-    loop-again-2
-    cast-graph
     returns-2
-    returns-3)
+    release-through-requires
+    returns-3
+    returns-4)
