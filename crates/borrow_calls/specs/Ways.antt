@@ -12,7 +12,7 @@ use Rattle.meaning.specs.Graph.{GEdge, Graph, held, setAt, setTo, between, spli
 use Rattle.meaning.specs.GraphLaws.{wf→inv, room}
 use Rattle.meaning.specs.Flat.{meet, row, rowIf, rows}
 use Rattle.meaning.specs.SplicedLaws.{spliced-rows}
-use Rattle.meaning.specs.AddLaws.{limit-pass, without-formed}
+use Rattle.meaning.specs.AddLaws.{limit-pass, without-formed, keep-few}
 use Rattle.meaning.specs.PutLaws.{insert-short, add-fits, made-length}
 use Rattle.meaning.specs.Passes.{fitting, apart}
 use Rattle.references.specs.Models.{edgeOf}
@@ -117,18 +117,10 @@ spliced-ways g n w =
 
 -- ---- the release
 
-kept-few : (q : GEdge → Bool) (xs : List GEdge) → length (keep q xs) ≤ length xs
-kept-few q [] = omega arith
-kept-few q (x ∷ xs) = go (q x) (kept-few q xs)
-  where
-    go : (b : Bool) → length (keep q xs) ≤ length xs → length (cond b (x ∷ keep q xs) (keep q xs)) ≤ suc (length xs)
-    go true h = omega arith
-    go false h = omega arith
-
 -- where a way leads through n, leaving out its edges makes room
 fewer : (n : ℕ) (f : GEdge → List GEdge) (z : GEdge) (xs : List GEdge) → each (keep (entering n) xs) f ≡ z ∷ [] → length (keep (apart n) xs) < length xs
 fewer n f z [] e = let k : _≡_ {A = ℕ} 0 1 = ap (λ (l : List GEdge). length l) e in absurd (omega arith)
-fewer n f z (x ∷ xs) e = go (eqb n (x .parent)) (eqb n (x .child)) e (kept-few (apart n) xs) (fewer n f z xs)
+fewer n f z (x ∷ xs) e = go (eqb n (x .parent)) (eqb n (x .child)) e (keep-few (apart n) xs) (fewer n f z xs)
   where
     go : (a b : Bool) → each (cond b (x ∷ keep (entering n) xs) (keep (entering n) xs)) f ≡ z ∷ [] → length (keep (apart n) xs) ≤ length xs
         → (each (keep (entering n) xs) f ≡ z ∷ [] → length (keep (apart n) xs) < length xs) → length (cond (not a && not b) (x ∷ keep (apart n) xs) (keep (apart n) xs)) < suc (length xs)

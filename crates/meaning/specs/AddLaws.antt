@@ -72,7 +72,7 @@ add-keeps g x h w q e =
       names = addAll-names (x ∷ []) g (y .0) a;
     })
 
-keep-few : {A : Type 0} (q : A → Bool) (xs : List A) → length (keep q xs) ≤ length xs
+pub keep-few : {A : Type 0} (q : A → Bool) (xs : List A) → length (keep q xs) ≤ length xs
 keep-few q [] = omega arith
 keep-few q (x ∷ xs) = go (q x) (keep-few q xs)
   where

@@ -259,29 +259,6 @@ join-passes g h =
 
 -- ---- their cases
 
-no-firsts : (q : GEdge → Bool) (r : Pair) (xs : List GEdge) → any q xs ≡ false → firsts q r xs ≡ []
-unfolding firsts
-no-firsts q r [] e = refl
-no-firsts q r (x ∷ xs) e =
-    let z = or-none (q x) (any q xs) e in
-    ap (λ (b : Bool). cond (b && not (eqPair (r .parent) (r .child) (x .parent) (x .child))) (ends x ∷ firsts q (ends x) xs) (firsts q r xs)) (z .0) ∙ no-firsts q r xs (z .1)
-
-no-ways : (g : Graph) (n : ℕ) → any (λ x. eqb n (x .child)) (g .edges) && any (λ x. eqb n (x .parent)) (g .edges) ≡ false → splicePairs (g .edges) n ≡ []
-unfolding splicePairs
-no-ways g n e = go (any (λ x. eqb n (x .child)) (g .edges)) refl
-  where
-    no-rows : (rs : List Pair) → each rs (λ x. each [] (across x)) ≡ []
-    no-rows [] = refl
-    no-rows (r ∷ rs) = no-rows rs
-
-    go : (b : Bool) → any (λ x. eqb n (x .child)) (g .edges) ≡ b → each (parentsFrom n n (g .edges)) (childRow (g .edges) n) ≡ []
-    go true t =
-        let z : childrenFrom n n (g .edges) ≡ [] = no-firsts (λ y. eqb n (y .parent)) (loopAt n) (g .edges) (sym (ap (λ (b : Bool). b && any (λ x. eqb n (x .parent)) (g .edges)) t) ∙ e) in
-        ap (λ (row : List Pair). each (parentsFrom n n (g .edges)) (λ x. each row (across x))) z ∙ no-rows (parentsFrom n n (g .edges))
-    go false t =
-        let z : parentsFrom n n (g .edges) ≡ [] = no-firsts (λ y. eqb n (y .child)) (loopAt n) (g .edges) t in
-        ap (λ (rs : List Pair). each rs (childRow (g .edges) n)) z
-
 module _ (g : Graph) (n : ℕ) where
   pub release-9 : wellFormed g && held g n ≡ false → release g n ≡ refuse 9
   release-9 h = release-passes g n ∙ ap (λ (b : Bool). guard b 9 (withEdges (without g n) (twoPass (spliceSet (g .edges) n) (splicePairs (g .edges) n) (without g n .edges)))) h
@@ -293,14 +270,6 @@ module _ (g : Graph) (n : ℕ) where
   release-when h es e a q ns d =
       release-passes g n ∙ ap (λ (b : Bool). guard b 9 (withEdges (without g n) (twoPass (spliceSet (g .edges) n) (splicePairs (g .edges) n) (without g n .edges)))) h
       ∙ sym ((λ i. andThen (q i) (λ fs. ok (record { names = d i; edges = fs }))) ∙ ap (λ (l : List GEdge). withEdges (without g n) (twoPass (spliceSet (g .edges) n) (splicePairs (g .edges) n) l)) e)
-
-  -- no way leads through n: its edges are left out, and that is all
-  pub release-still : wellFormed g && held g n ≡ true → any (λ x. eqb n (x .child)) (g .edges) && any (λ x. eqb n (x .parent)) (g .edges) ≡ false
-      → (es : List GEdge) → es ≡ keep (apart n) (g .edges) → (ns : List Name) → ns ≡ keep (other n) (g .names) → release g n ≡ ok (record { names = ns; edges = es })
-  unfolding twoPass replaceLim
-  release-still h q es e ns d =
-      let z : splicePairs (g .edges) n ≡ [] = no-ways g n q in
-      release-when h es e (ok es) (ap (λ (rs : List Pair). twoPass (spliceSet (g .edges) n) rs es) (sym z)) ns d
 
   pub without-neat : wellFormed g ≡ true → (es : List GEdge) → es ≡ keep (apart n) (g .edges) → Neat es
   unfolding without
