@@ -1,4 +1,5 @@
-// The operand stack lent for push and take, as mod.rs uses it. Each function is thin over the one by value of `operand_stack`.
+// The operand stack lent for push and take, as mod.rs uses it. Each function is thin over the one by value of `operand_stack`. Where it
+// is refused, what it leaves of the stack is free.
 use abstract_state::state::AbstractValue;
 use abstract_state::state::Operands;
 use operand_stack::pop;
