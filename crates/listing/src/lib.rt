@@ -3,6 +3,7 @@ pub mod decode;
 mod rules;
 
 use file_format::CodeOffset;
+use reader::head;
 use records::Cursor;
 use records::Places;
 use records::body;
@@ -154,5 +155,5 @@ pub fn read_listing(s: &[u8]) -> Listed
     if w.number != 0 {
         return refused(w.number, w.place);
     }
-    ruled(s, body(s, Cursor { at: 0 }), w)
+    ruled(s, head(s), w)
 }

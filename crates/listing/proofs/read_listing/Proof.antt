@@ -19,13 +19,13 @@ returns c =
     listed-refused (c .before .before .before .before .before .args .s .now) (c .refused .result) (c .before .before .before .read-places .result .number) (c .before .before .before .read-places .result .place) (c .refused .ensures .0) (c .refused .ensures .1) (c .before .if1 .taken)
     ∙ sym (ap (afterRecords (c .before .before .before .before .before .args .s .now)) (sym (c .before .before .before .read-places .ensures .0) ∙ places-stop (c .before .before .before .read-places .result) (c .before .if1 .taken)))
 
-body-requires : tie.Need-body-requires
-body-requires c κs = search needs
+head-requires : tie.Need-head-requires
+head-requires c κs = search needs
 
 ruled-requires : tie.Need-ruled-requires
 ruled-requires c κs =
     sound (c .before .before .before .before .before .args .s .now) (c .before .before .before .read-places .result) (c .before .if1 .left) (c .before .before .before .read-places .ensures .0) (c .before .before .before .read-places .ensures .1) (c .before .before .before .read-places .ensures .2)
-    (c .body .result .now) (c .body .ensures)
+    (c .head .result .now) (c .head .ensures)
 
 returns-2 : tie.Need-returns-2
 unfolding readListing ruledPlaces
@@ -37,4 +37,4 @@ returns-2 c =
 pub read-listing-spec : {M : Type 1} → statement M
 read-listing-spec =
     tie.close
-    (tie.spec read-places-requires refused-requires returns body-requires ruled-requires returns-2)
+    (tie.spec read-places-requires refused-requires returns head-requires ruled-requires returns-2)
