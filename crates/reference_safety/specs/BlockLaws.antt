@@ -72,26 +72,29 @@ next-instr f code count end k h g =
 pub code-length : (f : ℕ → Instr) (code : List ℕ) (count : ℕ) → length (map f (take count code)) ≡ min count (length code)
 code-length f code count = simp (length-map, length-take)
 
-module _ (returns : ℕ) (b : Block) (s : State) (k : ℕ) (i j : Instr) (is js : List Instr) (l : js ≡ i ∷ is) (v n : ℕ) (m : Machine) (v′ n′ : ℕ) (r : Running) (vs : List Operand) (o : Result State) (e : (eqb v 0 && eqb n 0) ≡ true) (d : j ≡ i) (p : halted v′ n′ (with vs r) ≡ then (halted v n m) (step returns j)) (h : runFrom returns b s k js m ≡ o) where
-  next : settle k (halted v′ n′ (with vs r)) (λ x. runFrom returns b s (suc k) is x) ≡ o
-  unfolding runFrom
-  next =
-      ap (λ (x : Outcome Machine). settle k x (λ y. runFrom returns b s (suc k) is y)) (p ∙ sym (goes v n m (step returns j) e) ∙ ap (λ (x : Instr). step returns x m) d)
-      ∙ ap (λ (xs : List Instr). runFrom returns b s k xs m) (sym l)
-      ∙ h
+-- what the block comes to, once the instruction at k has this outcome
+pub block-next : (returns : ℕ) (b : Block) (s : State) (k : ℕ) (i j : Instr) (is js : List Instr) (v n : ℕ) (m : Machine) (o : Result State) → js ≡ i ∷ is → j ≡ i → (eqb v 0 && eqb n 0) ≡ true → runFrom returns b s k js m ≡ o
+    → (q : Outcome Machine) → q ≡ then (halted v n m) (step returns j) → settle k q (λ x. runFrom returns b s (k + 1) is x) ≡ o
+unfolding runFrom
+block-next returns b s k i j is js v n m o l d e h q p =
+    ap (λ (a : ℕ). settle k q (λ x. runFrom returns b s a is x)) (add-one k)
+    ∙ ap (λ (x : Outcome Machine). settle k x (λ y. runFrom returns b s (suc k) is y)) (p ∙ sym (goes v n m (step returns j) e) ∙ ap (λ (x : Instr). step returns x m) d)
+    ∙ ap (λ (xs : List Instr). runFrom returns b s k xs m) (sym l)
+    ∙ h
 
-  pub block-turn : (eqb v′ 0 && eqb n′ 0) ≡ true → runFrom returns b s (k + 1) is (with vs r) ≡ o
-  block-turn z = ap (λ (a : ℕ). runFrom returns b s a is (with vs r)) (add-one k) ∙ go (eqb v′ 0) (eqb n′ 0) z ∙ next
+module _ (k v n : ℕ) (r : Running) (vs : List Operand) (f : Machine → Result State) (o : Result State) (h : settle k (halted v n (with vs r)) f ≡ o) where
+  pub block-turn : (eqb v 0 && eqb n 0) ≡ true → f (with vs r) ≡ o
+  block-turn z = go (eqb v 0) (eqb n 0) z ∙ h
     where
-      go : (x y : Bool) → (x && y) ≡ true → runFrom returns b s (suc k) is (with vs r) ≡ settle k (cond x (cond y (done (with vs r)) (refused n′)) (violated v′)) (λ w. runFrom returns b s (suc k) is w)
+      go : (x y : Bool) → (x && y) ≡ true → f (with vs r) ≡ settle k (cond x (cond y (done (with vs r)) (refused n)) (violated v)) f
       go true true z = refl
       go true false z = absurd (true≢false (sym z))
       go false y z = absurd (true≢false (sym z))
 
-  pub block-stop : (eqb v′ 0 && eqb n′ 0) ≡ false → placed k (halted v′ n′ r) ≡ o
-  block-stop z = go (eqb v′ 0) (eqb n′ 0) z ∙ next
+  pub block-stop : (eqb v 0 && eqb n 0) ≡ false → placed k (halted v n r) ≡ o
+  block-stop z = go (eqb v 0) (eqb n 0) z ∙ h
     where
-      go : (x y : Bool) → (x && y) ≡ false → placed k (cond x (cond y (done r) (refused n′)) (violated v′)) ≡ settle k (cond x (cond y (done (with vs r)) (refused n′)) (violated v′)) (λ w. runFrom returns b s (suc k) is w)
+      go : (x y : Bool) → (x && y) ≡ false → placed k (cond x (cond y (done r) (refused n)) (violated v)) ≡ settle k (cond x (cond y (done (with vs r)) (refused n)) (violated v)) f
       go true true z = absurd (true≢false z)
       go true false z = refl
       go false y z = refl

@@ -1,3 +1,4 @@
 pub mod Models
 pub mod MachineLaws
 pub mod BlockLaws
+pub mod ValueLaws

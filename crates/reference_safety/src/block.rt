@@ -2,6 +2,7 @@
 use crate::machine::Machine;
 use crate::machine::pushed;
 use crate::steps;
+use crate::values::on_values;
 use abstract_state::state::AbstractState;
 use file_format::CodeOffset;
 use listing::Block;
@@ -149,24 +150,34 @@ pub fn run_block(listing: &[u8], routine: Routine, b: Block, state: AbstractStat
     let first = begin(state, routine.locals);
     let n = code_len(routine);
     let end = lesser(n, past(b));
-    let stack = empty();
-    let mut m = Machine {
-        state: first,
-        stack,
-    };
+    let mut state = first;
+    let mut stack = empty();
     let mut k = b.entry.0 as usize;
     while k < end {
         let d = decode(listing, routine.code[k]);
-        m = execute(m, d, routine.returns);
-        if (m.state.violation == 0) & (m.state.refusal == 0) {
+        let locals = state.locals;
+        let v = on_values(locals, stack, d);
+        if v.handled {
+            // Nothing else changes, and the state, which is large, is not copied.
+            let rest = v.stack;
+            let i = v.local;
+            let x = v.value;
+            stack = rest;
+            state.locals[i] = x;
             k += 1;
         } else {
+            let m = execute(Machine { state, stack }, d, routine.returns);
             let s = m.state;
-            return Ran {
-                place: CodeOffset(k as u16),
-                state: s,
-            };
+            let rest = m.stack;
+            state = s;
+            stack = rest;
+            if (state.violation == 0) & (state.refusal == 0) {
+                k += 1;
+            } else {
+                let place = CodeOffset(k as u16);
+                return Ran { place, state };
+            }
         }
     }
-    finish(b, first, m)
+    finish(b, first, Machine { state, stack })
 }

@@ -2,3 +2,4 @@
 pub mod block;
 pub mod machine;
 mod steps;
+mod values;

@@ -6,23 +6,47 @@ use mathlib.Core.List.{map}
 use lib.Dec.{eqb}
 use lib.ListN.{take, drop, getD}
 use Rattle.meaning.specs.State.{State}
-use Rattle.meaning.specs.Running.{Running}
-use Rattle.meaning.specs.Blocks.{start, runFrom, runBlock}
+use Rattle.meaning.specs.Running.{Outcome, done, then, Running}
+use Rattle.meaning.specs.Steps.{Machine, step}
+use Rattle.meaning.specs.Loop.{Result}
+use Rattle.meaning.specs.Blocks.{start, settle, runFrom, runBlock}
 use Rattle.listing.specs.Models.{decodedAt, decodedOf, blockOf, routineOf}
-use Rattle.abstract_state.specs.Models.{runningOf, stateOf}
+use Rattle.abstract_state.specs.Models.{halted, runningOf, stateOf}
+use Rattle.abstract_state.specs.ModelLaws.{goes}
 use Rattle.operand_stack.specs.Models.{stackOf}
-use Rattle.reference_safety.specs.Models.{with}
-use Rattle.reference_safety.specs.BlockLaws.{going, block-start, next-instr, code-length, block-turn, block-stop, block-end}
+use Rattle.reference_safety.specs.Models.{with, stateIn}
+use Rattle.reference_safety.specs.BlockLaws.{going, block-start, next-instr, code-length, block-next, block-turn, block-stop, block-end}
 use native.Mathlib.Omega.{arith}
 use borrow.Author.Needs.{needs}
 use Rattle.reference_safety.proofs.block.run_block.Statement.{statement}
 use Rattle.reference_safety.proofs.block.run_block.Tie as tie
 
 abbrev Inv-loop : tie.InvT-loop
-Inv-loop listing b routine first n end m₀ k₀ m k = ((eqb (m .state .violation) 0 && eqb (m .state .refusal) 0) ≡ true) × (runFrom (routine .returns) (blockOf b) (stateOf first) k (take (end - k) (drop k (map (decodedAt listing) (take (routine .«code_count») (routine .code))))) (with (stackOf (m .stack)) (runningOf (m .state))) ≡ runBlock (routineOf listing routine) (blockOf b) (stateOf first))
+Inv-loop listing b routine first n end state₀ stack₀ k₀ state stack k = ((eqb (state .violation) 0 && eqb (state .refusal) 0) ≡ true) × (runFrom (routine .returns) (blockOf b) (stateOf first) k (take (end - k) (drop k (map (decodedAt listing) (take (routine .«code_count») (routine .code))))) (with (stackOf stack) (runningOf state)) ≡ runBlock (routineOf listing routine) (blockOf b) (stateOf first))
 
 abbrev μ-loop : tie.MeasureT-loop
-μ-loop listing b routine first n end m₀ k₀ m k = end - k
+μ-loop listing b routine first n end state₀ stack₀ k₀ state stack k = end - k
+
+-- the machine before the instruction, and what the block does from the machine behind it on
+abbrev here : (c : tie.After-on-values Inv-loop μ-loop) → Machine
+here c = with (stackOf ((c .before .before .before .before .before .loop) .stack)) (runningOf ((c .before .before .before .before .before .loop) .state))
+
+abbrev after : (c : tie.After-on-values Inv-loop μ-loop) → Machine → Result State
+after c x = runFrom ((c .before .before .before .before .before .before .before .before .before .before .before .before .before .args) .t2 .returns) (blockOf ((c .before .before .before .before .before .before .before .before .before .before .before .before .before .args) .b)) (stateOf ((c .before .before .before .before .before .before .before .before .before .before .before .begin) .result)) ((c .before .before .before .before .before .loop) .k + 1) (take ((c .before .before .before .before .before .before .before .before .lesser) .result - ((c .before .before .before .before .before .loop) .k + 1)) (drop ((c .before .before .before .before .before .loop) .k + 1) (map (decodedAt ((c .before .before .before .before .before .before .before .before .before .before .before .before .before .args) .listing .now)) (take ((c .before .before .before .before .before .before .before .before .before .before .before .before .before .args) .t2 .«code_count») ((c .before .before .before .before .before .before .before .before .before .before .before .before .before .args) .t2 .code))))) x
+
+next : (c : tie.After-on-values Inv-loop μ-loop) (q : Outcome Machine) → q ≡ then (halted ((c .before .before .before .before .before .loop) .state .violation) ((c .before .before .before .before .before .loop) .state .refusal) (here c)) (step ((c .before .before .before .before .before .before .before .before .before .before .before .before .before .args) .t2 .returns) (decodedOf ((c .before .before .decode) .result)))
+    → settle ((c .before .before .before .before .before .loop) .k) q (after c) ≡ runBlock (routineOf ((c .before .before .before .before .before .before .before .before .before .before .before .before .before .args) .listing .now) ((c .before .before .before .before .before .before .before .before .before .before .before .before .before .args) .t2)) (blockOf ((c .before .before .before .before .before .before .before .before .before .before .before .before .before .args) .b)) (stateOf ((c .before .before .before .before .before .before .before .before .before .before .before .begin) .result))
+next c =
+    block-next ((c .before .before .before .before .before .before .before .before .before .before .before .before .before .args) .t2 .returns) (blockOf ((c .before .before .before .before .before .before .before .before .before .before .before .before .before .args) .b)) (stateOf ((c .before .before .before .before .before .before .before .before .before .before .before .begin) .result)) ((c .before .before .before .before .before .loop) .k) (decodedAt ((c .before .before .before .before .before .before .before .before .before .before .before .before .before .args) .listing .now) (getD ((c .before .before .before .before .before .before .before .before .before .before .before .before .before .args) .t2 .code) ((c .before .before .before .before .before .loop) .k) 0)) (decodedOf ((c .before .before .decode) .result))
+    (take ((c .before .before .before .before .before .before .before .before .lesser) .result - ((c .before .before .before .before .before .loop) .k + 1)) (drop ((c .before .before .before .before .before .loop) .k + 1) (map (decodedAt ((c .before .before .before .before .before .before .before .before .before .before .before .before .before .args) .listing .now)) (take ((c .before .before .before .before .before .before .before .before .before .before .before .before .before .args) .t2 .«code_count») ((c .before .before .before .before .before .before .before .before .before .before .before .before .before .args) .t2 .code)))))
+    (take ((c .before .before .before .before .before .before .before .before .lesser) .result - (c .before .before .before .before .before .loop) .k) (drop ((c .before .before .before .before .before .loop) .k) (map (decodedAt ((c .before .before .before .before .before .before .before .before .before .before .before .before .before .args) .listing .now)) (take ((c .before .before .before .before .before .before .before .before .before .before .before .before .before .args) .t2 .«code_count») ((c .before .before .before .before .before .before .before .before .before .before .before .before .before .args) .t2 .code)))))
+    ((c .before .before .before .before .before .loop) .state .violation) ((c .before .before .before .before .before .loop) .state .refusal) (here c) (runBlock (routineOf ((c .before .before .before .before .before .before .before .before .before .before .before .before .before .args) .listing .now) ((c .before .before .before .before .before .before .before .before .before .before .before .before .before .args) .t2)) (blockOf ((c .before .before .before .before .before .before .before .before .before .before .before .before .before .args) .b)) (stateOf ((c .before .before .before .before .before .before .before .before .before .before .before .begin) .result)))
+    (next-instr (decodedAt ((c .before .before .before .before .before .before .before .before .before .before .before .before .before .args) .listing .now)) ((c .before .before .before .before .before .before .before .before .before .before .before .before .before .args) .t2 .code) ((c .before .before .before .before .before .before .before .before .before .before .before .before .before .args) .t2 .«code_count») ((c .before .before .before .before .before .before .before .before .lesser) .result) ((c .before .before .before .before .before .loop) .k) ((c .before .before .before .before .loop-test) .taken) (omega (arith, (c .before .before .before .before .before .before .before .before .before .before .code-len) .ensures .1, code-length (decodedAt ((c .before .before .before .before .before .before .before .before .before .before .before .before .before .args) .listing .now)) ((c .before .before .before .before .before .before .before .before .before .before .before .before .before .args) .t2 .code) ((c .before .before .before .before .before .before .before .before .before .before .before .before .before .args) .t2 .«code_count»), (c .before .before .before .before .before .before .before .before .before .before .code-len) .ensures .0, (c .before .before .before .before .before .before .before .before .lesser) .ensures)))
+    ((c .before .before .decode) .ensures) ((c .before .before .before .before .before .loop) .inv .0) ((c .before .before .before .before .before .loop) .inv .1)
+
+-- the state that the block begins with
+begun : (c : tie.After-begin Inv-loop μ-loop) → runBlock (routineOf ((c .before .before .args) .listing .now) ((c .before .before .args) .t2)) (blockOf ((c .before .before .args) .b)) (stateOf ((c .begin) .result)) ≡ runBlock (routineOf ((c .before .before .args) .listing .now) ((c .before .before .args) .t2)) (blockOf ((c .before .before .args) .b)) (stateIn ((c .before .before .args) .t2 .locals) ((c .before .before .args) .state))
+begun c = ap (runBlock (routineOf ((c .before .before .args) .listing .now) ((c .before .before .args) .t2)) (blockOf ((c .before .before .args) .b))) (ap {B = State} (λ (x : Running). record { locals = x .locals; graph = x .graph }) ((c .begin) .ensures .2))
 
 begin-requires : tie.Need-begin-requires Inv-loop μ-loop
 begin-requires c κs = search needs
@@ -57,8 +81,14 @@ element-copy-out-decode c = omega arith
 decode-requires : tie.Need-decode-requires Inv-loop μ-loop
 decode-requires c κs = search needs
 
-execute-requires : tie.Need-execute-requires Inv-loop μ-loop
-execute-requires c κs = search needs
+on-values-requires : tie.Need-on-values-requires Inv-loop μ-loop
+on-values-requires c κs = search needs
+
+mul-x : tie.Need-mul-x Inv-loop μ-loop
+mul-x c = omega arith
+
+element-set-from-x : tie.Need-element-set-from-x Inv-loop μ-loop
+element-set-from-x c = omega arith
 
 add-k : tie.Need-add-k Inv-loop μ-loop
 add-k c = omega arith
@@ -68,22 +98,30 @@ loop-less c = omega arith
 
 loop-again : tie.Need-loop-again Inv-loop μ-loop
 loop-again c = (
-  (c .if1) .taken,
-  block-turn ((c .before .before .before .before .before .before .before .before .before .before .before .before .before .before .before .args) .t2 .returns) (blockOf ((c .before .before .before .before .before .before .before .before .before .before .before .before .before .before .before .args) .b)) (stateOf ((c .before .before .before .before .before .before .before .before .before .before .before .before .before .begin) .result)) ((c .before .before .before .before .before .before .before .loop) .k) (decodedAt ((c .before .before .before .before .before .before .before .before .before .before .before .before .before .before .before .args) .listing .now) (getD ((c .before .before .before .before .before .before .before .before .before .before .before .before .before .before .before .args) .t2 .code) ((c .before .before .before .before .before .before .before .loop) .k) 0)) (decodedOf ((c .before .before .before .before .decode) .result)) (take ((c .before .before .before .before .before .before .before .before .before .before .lesser) .result - ((c .before .before .before .before .before .before .before .loop) .k + 1)) (drop ((c .before .before .before .before .before .before .before .loop) .k + 1) (map (decodedAt ((c .before .before .before .before .before .before .before .before .before .before .before .before .before .before .before .args) .listing .now)) (take ((c .before .before .before .before .before .before .before .before .before .before .before .before .before .before .before .args) .t2 .«code_count») ((c .before .before .before .before .before .before .before .before .before .before .before .before .before .before .before .args) .t2 .code))))) (take ((c .before .before .before .before .before .before .before .before .before .before .lesser) .result - (c .before .before .before .before .before .before .before .loop) .k) (drop ((c .before .before .before .before .before .before .before .loop) .k) (map (decodedAt ((c .before .before .before .before .before .before .before .before .before .before .before .before .before .before .before .args) .listing .now)) (take ((c .before .before .before .before .before .before .before .before .before .before .before .before .before .before .before .args) .t2 .«code_count») ((c .before .before .before .before .before .before .before .before .before .before .before .before .before .before .before .args) .t2 .code)))))
-      (next-instr (decodedAt ((c .before .before .before .before .before .before .before .before .before .before .before .before .before .before .before .args) .listing .now)) ((c .before .before .before .before .before .before .before .before .before .before .before .before .before .before .before .args) .t2 .code) ((c .before .before .before .before .before .before .before .before .before .before .before .before .before .before .before .args) .t2 .«code_count») ((c .before .before .before .before .before .before .before .before .before .before .lesser) .result) ((c .before .before .before .before .before .before .before .loop) .k) ((c .before .before .before .before .before .before .loop-test) .taken) (omega (arith, (c .before .before .before .before .before .before .before .before .before .before .before .before .code-len) .ensures .1, code-length (decodedAt ((c .before .before .before .before .before .before .before .before .before .before .before .before .before .before .before .args) .listing .now)) ((c .before .before .before .before .before .before .before .before .before .before .before .before .before .before .before .args) .t2 .code) ((c .before .before .before .before .before .before .before .before .before .before .before .before .before .before .before .args) .t2 .«code_count»), (c .before .before .before .before .before .before .before .before .before .before .before .before .code-len) .ensures .0, (c .before .before .before .before .before .before .before .before .before .before .lesser) .ensures)))
-      ((c .before .before .before .before .before .before .before .loop) .m .state .violation) ((c .before .before .before .before .before .before .before .loop) .m .state .refusal) (with (stackOf ((c .before .before .before .before .before .before .before .loop) .m .stack)) (runningOf ((c .before .before .before .before .before .before .before .loop) .m .state))) ((c .before .before .before .execute) .result .state .violation) ((c .before .before .before .execute) .result .state .refusal) (runningOf ((c .before .before .before .execute) .result .state)) (stackOf ((c .before .before .before .execute) .result .stack)) (runBlock (routineOf ((c .before .before .before .before .before .before .before .before .before .before .before .before .before .before .before .args) .listing .now) ((c .before .before .before .before .before .before .before .before .before .before .before .before .before .before .before .args) .t2)) (blockOf ((c .before .before .before .before .before .before .before .before .before .before .before .before .before .before .before .args) .b)) (stateOf ((c .before .before .before .before .before .before .before .before .before .before .before .before .before .begin) .result)))
-      ((c .before .before .before .before .before .before .before .loop) .inv .0) ((c .before .before .before .before .decode) .ensures) ((c .before .before .before .execute) .ensures) ((c .before .before .before .before .before .before .before .loop) .inv .1) ((c .if1) .taken),
+  (c .before .before .before .before .before .before .before .before .loop) .inv .0,
+  next ((c .before .before .before)) (done _) (sym ((c .before .before .before .on-values) .ensures .1 ((c .before .before .if1) .taken) ((c .before .before .before .before .before .before .before .before .before .before .before .before .before .before .before .before .args) .t2 .returns) ((c .before .before .before .before .before .before .before .before .loop) .state .«num_locals») (runningOf ((c .before .before .before .before .before .before .before .before .loop) .state))) ∙ goes ((c .before .before .before .before .before .before .before .before .loop) .state .violation) ((c .before .before .before .before .before .before .before .before .loop) .state .refusal) (here ((c .before .before .before))) (step ((c .before .before .before .before .before .before .before .before .before .before .before .before .before .before .before .before .args) .t2 .returns) (decodedOf ((c .before .before .before .before .before .decode) .result))) ((c .before .before .before .before .before .before .before .before .loop) .inv .0)),
 )
 
-cast-t25 : tie.Need-cast-t25 Inv-loop μ-loop
-cast-t25 c = omega (arith, (c .before .before .before .before .before .before .before .loop-test) .taken, (c .before .before .before .before .before .before .before .before .before .before .before .before .before .code-len) .ensures .0, (c .before .before .before .before .before .before .before .before .before .before .before .lesser) .ensures)
+execute-requires : tie.Need-execute-requires Inv-loop μ-loop
+execute-requires c κs = search needs
+
+add-k-2 : tie.Need-add-k-2 Inv-loop μ-loop
+add-k-2 c = omega arith
+
+loop-less-2 : tie.Need-loop-less-2 Inv-loop μ-loop
+loop-less-2 c = omega arith
+
+loop-again-2 : tie.Need-loop-again-2 Inv-loop μ-loop
+loop-again-2 c = (
+  (c .if2) .taken,
+  block-turn ((c .before .before .before .before .before .before .before .before .before .before .loop) .k) ((c .before .before .before .execute) .result .state .violation) ((c .before .before .before .execute) .result .state .refusal) (runningOf ((c .before .before .before .execute) .result .state)) (stackOf ((c .before .before .before .execute) .result .stack)) (after ((c .before .before .before .before .before))) _ (next ((c .before .before .before .before .before)) _ ((c .before .before .before .execute) .ensures)) ((c .if2) .taken),
+)
+
+cast-t40 : tie.Need-cast-t40 Inv-loop μ-loop
+cast-t40 c = omega (arith, (c .before .before .before .before .before .before .before .before .before .loop-test) .taken, (c .before .before .before .before .before .before .before .before .before .before .before .before .before .before .before .code-len) .ensures .0, (c .before .before .before .before .before .before .before .before .before .before .before .before .before .lesser) .ensures)
 
 returns : tie.Need-returns Inv-loop μ-loop
-returns c =
-    block-stop ((c .before .before .before .before .before .before .before .before .before .before .before .before .before .before .before .before .args) .t2 .returns) (blockOf ((c .before .before .before .before .before .before .before .before .before .before .before .before .before .before .before .before .args) .b)) (stateOf ((c .before .before .before .before .before .before .before .before .before .before .before .before .before .before .begin) .result)) ((c .before .before .before .before .before .before .before .before .loop) .k) (decodedAt ((c .before .before .before .before .before .before .before .before .before .before .before .before .before .before .before .before .args) .listing .now) (getD ((c .before .before .before .before .before .before .before .before .before .before .before .before .before .before .before .before .args) .t2 .code) ((c .before .before .before .before .before .before .before .before .loop) .k) 0)) (decodedOf ((c .before .before .before .before .before .decode) .result)) (take ((c .before .before .before .before .before .before .before .before .before .before .before .lesser) .result - ((c .before .before .before .before .before .before .before .before .loop) .k + 1)) (drop ((c .before .before .before .before .before .before .before .before .loop) .k + 1) (map (decodedAt ((c .before .before .before .before .before .before .before .before .before .before .before .before .before .before .before .before .args) .listing .now)) (take ((c .before .before .before .before .before .before .before .before .before .before .before .before .before .before .before .before .args) .t2 .«code_count») ((c .before .before .before .before .before .before .before .before .before .before .before .before .before .before .before .before .args) .t2 .code))))) (take ((c .before .before .before .before .before .before .before .before .before .before .before .lesser) .result - (c .before .before .before .before .before .before .before .before .loop) .k) (drop ((c .before .before .before .before .before .before .before .before .loop) .k) (map (decodedAt ((c .before .before .before .before .before .before .before .before .before .before .before .before .before .before .before .before .args) .listing .now)) (take ((c .before .before .before .before .before .before .before .before .before .before .before .before .before .before .before .before .args) .t2 .«code_count») ((c .before .before .before .before .before .before .before .before .before .before .before .before .before .before .before .before .args) .t2 .code)))))
-    (next-instr (decodedAt ((c .before .before .before .before .before .before .before .before .before .before .before .before .before .before .before .before .args) .listing .now)) ((c .before .before .before .before .before .before .before .before .before .before .before .before .before .before .before .before .args) .t2 .code) ((c .before .before .before .before .before .before .before .before .before .before .before .before .before .before .before .before .args) .t2 .«code_count») ((c .before .before .before .before .before .before .before .before .before .before .before .lesser) .result) ((c .before .before .before .before .before .before .before .before .loop) .k) ((c .before .before .before .before .before .before .before .loop-test) .taken) (omega (arith, (c .before .before .before .before .before .before .before .before .before .before .before .before .before .code-len) .ensures .1, code-length (decodedAt ((c .before .before .before .before .before .before .before .before .before .before .before .before .before .before .before .before .args) .listing .now)) ((c .before .before .before .before .before .before .before .before .before .before .before .before .before .before .before .before .args) .t2 .code) ((c .before .before .before .before .before .before .before .before .before .before .before .before .before .before .before .before .args) .t2 .«code_count»), (c .before .before .before .before .before .before .before .before .before .before .before .before .before .code-len) .ensures .0, (c .before .before .before .before .before .before .before .before .before .before .before .lesser) .ensures)))
-    ((c .before .before .before .before .before .before .before .before .loop) .m .state .violation) ((c .before .before .before .before .before .before .before .before .loop) .m .state .refusal) (with (stackOf ((c .before .before .before .before .before .before .before .before .loop) .m .stack)) (runningOf ((c .before .before .before .before .before .before .before .before .loop) .m .state))) ((c .before .before .before .before .execute) .result .state .violation) ((c .before .before .before .before .execute) .result .state .refusal) (runningOf ((c .before .before .before .before .execute) .result .state)) (stackOf ((c .before .before .before .before .execute) .result .stack)) (runBlock (routineOf ((c .before .before .before .before .before .before .before .before .before .before .before .before .before .before .before .before .args) .listing .now) ((c .before .before .before .before .before .before .before .before .before .before .before .before .before .before .before .before .args) .t2)) (blockOf ((c .before .before .before .before .before .before .before .before .before .before .before .before .before .before .before .before .args) .b)) (stateOf ((c .before .before .before .before .before .before .before .before .before .before .before .before .before .before .begin) .result)))
-    ((c .before .before .before .before .before .before .before .before .loop) .inv .0) ((c .before .before .before .before .before .decode) .ensures) ((c .before .before .before .before .execute) .ensures) ((c .before .before .before .before .before .before .before .before .loop) .inv .1) ((c .before .if1) .left) ∙ ap (runBlock (routineOf ((c .before .before .before .before .before .before .before .before .before .before .before .before .before .before .before .before .args) .listing .now) ((c .before .before .before .before .before .before .before .before .before .before .before .before .before .before .before .before .args) .t2)) (blockOf ((c .before .before .before .before .before .before .before .before .before .before .before .before .before .before .before .before .args) .b))) (ap {B = State} (λ (x : Running). record { locals = x .locals; graph = x .graph }) ((c .before .before .before .before .before .before .before .before .before .before .before .before .before .before .begin) .ensures .2))
+returns c = block-stop ((c .before .before .before .before .before .before .before .before .before .before .loop) .k) ((c .before .before .before .execute) .result .state .violation) ((c .before .before .before .execute) .result .state .refusal) (runningOf ((c .before .before .before .execute) .result .state)) (stackOf ((c .before .before .before .execute) .result .stack)) (after ((c .before .before .before .before .before))) _ (next ((c .before .before .before .before .before)) _ ((c .before .before .before .execute) .ensures)) ((c .if2) .left) ∙ begun ((c .before .before .before .before .before .before .before .before .before .before .before .before .before .before .before .before))
 
 finish-requires : tie.Need-finish-requires Inv-loop μ-loop
 finish-requires c κs = ((c .before .before .before .before .before .before .before .begin) .ensures .0, (c .before .before .before .before .before .before .before .begin) .ensures .1, (c .before .loop) .inv .0)
@@ -91,7 +129,7 @@ finish-requires c κs = ((c .before .before .before .before .before .before .bef
 returns-2 : tie.Need-returns-2 Inv-loop μ-loop
 returns-2 c =
     let z : (c .before .before .before .before .before .lesser) .result - (c .before .before .loop) .k ≡ 0 = omega arith in
-    (c .finish) .ensures ∙ block-end ((c .before .before .before .before .before .before .before .before .before .before .args) .t2 .returns) (blockOf ((c .before .before .before .before .before .before .before .before .before .before .args) .b)) (stateOf ((c .before .before .before .before .before .before .before .before .begin) .result)) ((c .before .before .loop) .k) ((c .before .before .before .before .before .lesser) .result - (c .before .before .loop) .k) (drop ((c .before .before .loop) .k) (map (decodedAt ((c .before .before .before .before .before .before .before .before .before .before .args) .listing .now)) (take ((c .before .before .before .before .before .before .before .before .before .before .args) .t2 .«code_count») ((c .before .before .before .before .before .before .before .before .before .before .args) .t2 .code)))) (with (stackOf ((c .before .before .loop) .m .stack)) (runningOf ((c .before .before .loop) .m .state))) (runBlock (routineOf ((c .before .before .before .before .before .before .before .before .before .before .args) .listing .now) ((c .before .before .before .before .before .before .before .before .before .before .args) .t2)) (blockOf ((c .before .before .before .before .before .before .before .before .before .before .args) .b)) (stateOf ((c .before .before .before .before .before .before .before .before .begin) .result))) z ((c .before .before .loop) .inv .1) ∙ ap (runBlock (routineOf ((c .before .before .before .before .before .before .before .before .before .before .args) .listing .now) ((c .before .before .before .before .before .before .before .before .before .before .args) .t2)) (blockOf ((c .before .before .before .before .before .before .before .before .before .before .args) .b))) (ap {B = State} (λ (x : Running). record { locals = x .locals; graph = x .graph }) ((c .before .before .before .before .before .before .before .before .begin) .ensures .2))
+    (c .finish) .ensures ∙ block-end ((c .before .before .before .before .before .before .before .before .before .before .args) .t2 .returns) (blockOf ((c .before .before .before .before .before .before .before .before .before .before .args) .b)) (stateOf ((c .before .before .before .before .before .before .before .before .begin) .result)) ((c .before .before .loop) .k) ((c .before .before .before .before .before .lesser) .result - (c .before .before .loop) .k) (drop ((c .before .before .loop) .k) (map (decodedAt ((c .before .before .before .before .before .before .before .before .before .before .args) .listing .now)) (take ((c .before .before .before .before .before .before .before .before .before .before .args) .t2 .«code_count») ((c .before .before .before .before .before .before .before .before .before .before .args) .t2 .code)))) (with (stackOf ((c .before .before .loop) .stack)) (runningOf ((c .before .before .loop) .state))) _ z ((c .before .before .loop) .inv .1) ∙ begun ((c .before .before .before .before .before .before .before .before))
 
 pub run-block-spec : {M : Type 1} → statement M
 run-block-spec =
@@ -109,11 +147,17 @@ run-block-spec =
     mul-decode
     element-copy-out-decode
     decode-requires
-    execute-requires
+    on-values-requires
+    mul-x
+    element-set-from-x
     add-k
     loop-less
     loop-again
-    cast-t25
+    execute-requires
+    add-k-2
+    loop-less-2
+    loop-again-2
+    cast-t40
     returns
     finish-requires
     returns-2)
