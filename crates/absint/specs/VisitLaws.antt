@@ -12,8 +12,7 @@ use borrow.Author.Tests.{ne-eqb, eq-eqb, lt-ltb, le-ltb, ltb-false}
 use lib.Dec.{eqb, leb, ltb}
 use lib.ListN.{length, take, drop, getD, set, length-map}
 use Rattle.meaning.specs.ArrayLaws.{front-all}
-use Rattle.meaning.specs.Area.{keptOf, Stored, cleared}
-use Rattle.meaning.specs.AreaLaws.{cleared-kept, cleared-beyond}
+use Rattle.meaning.specs.Area.{keptOf, Stored, Forgotten}
 use Rattle.meaning.specs.State.{State, join, changed}
 use Rattle.meaning.specs.Running as R
 use Rattle.meaning.specs.Running.{Outcome, done, Running}
@@ -203,20 +202,20 @@ module _ (s : List ℕ) (d : D.Routine) (promise : promised (routineOf s d) ≡ 
   more k = F.steps-more State join changed (exec r) (r .blocks) k (F.first State join changed (exec r) (r .blocks) (firstState (r .locals) (r .params)))
 
   -- the first block has the first state, no other one has any
-  pub goes : (ws₀ ws₁ ws : List ℕ) (t : Tally) → 16384 ≤ length ws₀ → ws₁ ≡ cleared ws₀ → length ws₁ ≡ length ws₀ → Stored (d .locals) (firstState (r .locals) (r .params)) 0 ws₁ ws → Started t → Going ws₀ ws t
+  pub goes : (ws₀ ws₁ ws : List ℕ) (t : Tally) → 16384 ≤ length ws₀ → Forgotten ws₀ ws₁ → Stored (d .locals) (firstState (r .locals) (r .params)) 0 ws₁ ws → Started t → Going ws₀ ws t
   unfolding steps
-  goes ws₀ ws₁ ws t area clean same w p =
+  goes ws₀ ws₁ ws t area f w p =
       record {
         here = subst (λ (n : ℕ). At s d (whole n) ws t) (sym (p .turns))
             (subst (λ (x : Run State). At s d x ws t) (sym (begun 0))
             (subst (λ (n : Next). Reached State join changed (exec r) (r .blocks) (F.first State join changed (exec r) (r .blocks) (firstState (r .locals) (r .params))) (keptOf (d .locals) ws) (statusesOf t) n (t .visits)) (sym (p .next))
             (subst (λ (n : ℕ). Reached State join changed (exec r) (r .blocks) (F.first State join changed (exec r) (r .blocks) (firstState (r .locals) (r .params))) (keptOf (d .locals) ws) (statusesOf t) (at 0) n) (sym (p .visits))
             (F.starts State join changed (exec r) (r .blocks) (firstState (r .locals) (r .params)) (keptOf (d .locals) ws) (statusesOf t)
-            (λ z. stored-here (d .locals) 0 (firstState (r .locals) (r .params)) ws₁ ws (omega (arith, area, same)) (omega arith) w)
-            (λ j z. w .others (d .locals) j z ∙ ap (λ (us : List ℕ). keptOf (d .locals) us j) clean ∙ cleared-kept (d .locals) ws₀ j area)
+            (λ z. stored-here (d .locals) 0 (firstState (r .locals) (r .params)) ws₁ ws (omega (arith, area, f .size)) (omega arith) w)
+            (λ j z. w .others (d .locals) j z ∙ f .kept (d .locals) j)
             (p .fines)))));
         fewer = let a = p .visits in let b = p .turns in omega (arith, a, b);
-        beyond = w .beyond ∙ ap (drop 16384) clean ∙ cleared-beyond ws₀ area;
+        beyond = w .beyond ∙ f .beyond;
       }
 
   module _ (ws₀ ws : List ℕ) (t : Tally) (g : Going ws₀ ws t) where
@@ -303,9 +302,9 @@ stored-as m l a b ws ws′ e f w = subst (λ (n : ℕ). Stored n b 0 ws ws′) e
 
 -- the loop starts from the area with the first state in it
 pub goes-again : (s : List ℕ) (d : D.Routine) (promise : promised (routineOf s d) ≡ true) (count : length (routineOf s d .blocks) ≡ d .«block_count») (ws₀ ws₁ ws : List ℕ) (t : Tally)
-    → 16384 ≤ length ws₀ → ws₁ ≡ cleared ws₀ → length ws₁ ≡ length ws₀ → Stored (d .locals) (firstState (routineOf s d .locals) (routineOf s d .params)) 0 ws₁ ws → Started t → Going s d promise count ws ws t
-goes-again s d promise count ws₀ ws₁ ws t area clean same w p =
-    let g = goes s d promise count ws₀ ws₁ ws t area clean same w p in
+    → 16384 ≤ length ws₀ → Forgotten ws₀ ws₁ → Stored (d .locals) (firstState (routineOf s d .locals) (routineOf s d .params)) 0 ws₁ ws → Started t → Going s d promise count ws ws t
+goes-again s d promise count ws₀ ws₁ ws t area f w p =
+    let g = goes s d promise count ws₀ ws₁ ws t area f w p in
     record { here = g .here; fewer = g .fewer; beyond = refl }
 
 pub from : (s : List ℕ) (d : D.Routine) (ws₀ ws₁ ws : List ℕ) (t : Tally) → drop 16384 ws₁ ≡ drop 16384 ws₀ → Analyzed s d ws₁ ws t → Analyzed s d ws₀ ws t

@@ -3,7 +3,7 @@ use crate::hand::spread;
 use crate::tally::BlockStatus;
 use crate::tally::Tally;
 use abstract_state::state::AbstractState;
-use kept_states::clear;
+use kept_states::forget;
 use kept_states::load;
 use kept_states::store;
 use listing::Block;
@@ -79,7 +79,7 @@ pub(crate) fn visit_all(listing: &[u8], routine: Routine, area: &mut [u32]) -> T
 {
     let params = routine.params;
     let s = new(routine.locals, params, routine.param_count);
-    clear(area);
+    forget(area);
     store(area, 0, s);
     let mut t = Tally::start();
     while !t.stopped & (t.next < routine.block_count) {

@@ -5,6 +5,7 @@ use crate::graph::GraphEdges;
 use crate::graph::Refs;
 use references::paths::Label;
 use references::paths::Path;
+use references::paths::first_number;
 use references::references::RefID;
 ghost use mathlib.Core.Path.{_≡_};
 ghost use Rattle.meaning.specs.Base.{keep};
@@ -53,7 +54,7 @@ impl LabelFilter {
             LabelFilter::At(label) => {
                 let n = path.len();
                 if 0 < n {
-                    let first = path.labels[0];
+                    let first = first_number(path.kinds, path.labels[0]);
                     let l = label.number();
                     return l == first;
                 }

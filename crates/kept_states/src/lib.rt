@@ -8,13 +8,13 @@ use meaning::BLOCK_WORDS;
 use meaning::MAX_BLOCKS;
 ghost use mathlib.Core.Path.{_≡_};
 ghost use Prim.Native.Nat.{ℕ};
-ghost use Rattle.meaning.specs.Area.{hasBlock, isKept, keptOf, Stored, cleared};
+ghost use Rattle.meaning.specs.Area.{hasBlock, isKept, keptOf, Stored, Forgotten, cleared};
 ghost use Rattle.meaning.specs.Running.{done};
 ghost use Rattle.meaning.specs.Blocks.{start};
 ghost use Rattle.abstract_state.specs.Models.{stateOf, outcomeOf};
 ghost use Rattle.kept_states.specs.Models.{loadedOf};
 
-// A local's part of a word is below LOCAL_END, a name below NAME_END.
+// A local's part of a word is below LOCAL_END, a name and a label's index below NAME_END.
 const LOCAL_END: u32 = 262144;
 
 const NAME_END: u32 = 65536;
@@ -38,12 +38,21 @@ fn has_block(n: usize, b: usize) -> bool
     (AREA_WORDS <= n) & (b < MAX_BLOCKS)
 }
 
-// Then no block has a kept state.
+// Then every word of the blocks is zero.
 pub fn clear(area: &mut [u32])
     ensures { λ _. ⌜ now (area .exit) ≡ cleared (now (area .entry)) ⌝ }
 {
     if AREA_WORDS <= area.len() {
         write::put_zeros(area);
+    }
+}
+
+// Then no block has a kept state: the words that tell so are zero. The other words stay.
+pub fn forget(area: &mut [u32])
+    ensures { λ _. ⌜ Forgotten (now (area .entry)) (now (area .exit)) ⌝ }
+{
+    if AREA_WORDS <= area.len() {
+        write::put_absent(area);
     }
 }
 

@@ -22,7 +22,7 @@ use references::references::RefID;
 ghost use mathlib.Core.Path.{_≡_};
 ghost use Prim.Native.Nat.{_+_, _*_, _≤_, min};
 ghost use lib.ListN.{length};
-ghost use Rattle.meaning.specs.Area.{upTo, localIn, nameIn, edgeIn, decode, word, from};
+ghost use Rattle.meaning.specs.Area.{upTo, localIn, nameIn, labelIn, edgeIn, decode, word, from};
 ghost use Rattle.meaning.specs.Running.{done};
 ghost use Rattle.meaning.specs.Blocks.{start};
 ghost use Rattle.references.specs.Models.{pathOf};
@@ -48,6 +48,7 @@ const NO_EDGES: [GraphEdge; MAX_EDGES] = [GraphEdge {
         strong: false,
         path: Path {
             labels: [0; MAX_LABELS],
+            kinds: 0,
             len: 0,
         },
     },
@@ -120,20 +121,22 @@ fn get_refs(ws: &[u32], at: usize, n: usize) -> Refs
 
 fn get_path(ws: &[u32], at: usize, n: usize) -> Path
     requires { ⌜ (at + 8 ≤ length (now ws)) × (n ≤ 8) ⌝ }
-    ensures { λ r. ⌜ pathOf r ≡ upTo n (λ i. from (now (ws .entry)) at i) ⌝ }
+    ensures { λ r. ⌜ pathOf r ≡ upTo n (λ i. labelIn (from (now (ws .entry)) at i)) ⌝ }
 {
-    let labels = [
-        ws[at],
-        ws[at + 1],
-        ws[at + 2],
-        ws[at + 3],
-        ws[at + 4],
-        ws[at + 5],
-        ws[at + 6],
-        ws[at + 7],
-    ];
+    let mut labels = [0u16; MAX_LABELS];
+    let mut kinds: u32 = 0;
+    let mut unit: u32 = 1;
+    let mut i: usize = 0;
+    while i < n {
+        let w = ws[at + i];
+        labels[i] = (w % NAME_END) as u16;
+        kinds = kinds + w / NAME_END % 4 * unit;
+        unit = unit * 4;
+        i += 1;
+    }
     Path {
         labels: labels,
+        kinds: kinds as u16,
         len: n as u8,
     }
 }

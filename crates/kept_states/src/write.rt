@@ -11,14 +11,17 @@ use borrow_graph::graph::BorrowGraph;
 use borrow_graph::graph::GraphEdge;
 use borrow_graph::graph::Ref;
 use meaning::AREA_WORDS;
+use meaning::BLOCK_WORDS;
+use meaning::MAX_BLOCKS;
 use meaning::MAX_EDGES;
 use meaning::MAX_LABELS;
 use meaning::MAX_NAMES;
+use references::paths::first_number;
 ghost use mathlib.Core.Path.{_≡_};
 ghost use mathlib.Core.Option.{some};
 ghost use Prim.Native.Nat.{ℕ, _+_, _*_, _≤_, _<_, min};
 ghost use lib.ListN.{length};
-ghost use Rattle.meaning.specs.Area.{localIn, nameIn, edgeIn, decode, word, from};
+ghost use Rattle.meaning.specs.Area.{localIn, nameIn, edgeIn, decode, word, from, Forgotten};
 ghost use Rattle.meaning.specs.AreaLaws.{bit, Frame, Written, WrittenEdges, IsLabel, IsLocal, IsName, IsZero, aboveLocal};
 ghost use Rattle.borrow_graph.specs.Models.{refOf, gedgeOf};
 ghost use Rattle.abstract_state.specs.Models.{localOf, stateOf};
@@ -49,6 +52,17 @@ pub(crate) fn put_zeros(ws: &mut [u32])
     while i < AREA_WORDS {
         ws[i] = 0;
         i += 1;
+    }
+}
+
+pub(crate) fn put_absent(ws: &mut [u32])
+    requires { ⌜ 16384 ≤ length (now ws) ⌝ }
+    ensures { λ _. ⌜ Forgotten (now (ws .entry)) (now (ws .exit)) ⌝ }
+{
+    let mut b: usize = 0;
+    while b < MAX_BLOCKS {
+        ws[BLOCK_WORDS * b] = 0;
+        b += 1;
     }
 }
 
@@ -114,14 +128,16 @@ fn put_refs(ws: &mut [u32], at: usize, list: [Ref; 48], n: usize)
     }
 }
 
-fn put_labels(ws: &mut [u32], at: usize, labels: [u32; 8], n: usize)
+fn put_labels(ws: &mut [u32], at: usize, labels: [u16; 8], kinds: u16, n: usize)
     requires { ⌜ (at + 8 ≤ length (now ws)) × (n ≤ 8) ⌝ }
-    ensures { λ _. ⌜ Written (IsLabel (labelAt labels)) at 8 n (now (ws .entry)) (now (ws .exit)) ⌝ }
+    ensures { λ _. ⌜ Written (IsLabel (labelAt kinds labels)) at 8 n (now (ws .entry)) (now (ws .exit)) ⌝ }
 {
+    let mut k = kinds;
     let mut i: usize = 0;
     while i < n {
         let x = labels[i];
-        ws[at + i] = x;
+        ws[at + i] = first_number(k, x);
+        k /= 4;
         i += 1;
     }
 }
@@ -140,7 +156,7 @@ fn put_edge(ws: &mut [u32], at: usize, x: GraphEdge)
     let s = bit_of(e.strong);
     ws[at] = (p.0 as u32) * NAME_END + (c.0 as u32);
     ws[at + 1] = b * 32 + s * 16 + (n as u32);
-    put_labels(ws, at + 2, labels, n);
+    put_labels(ws, at + 2, labels, path.kinds, n);
 }
 
 fn put_edges(ws: &mut [u32], at: usize, g: BorrowGraph, n: usize)

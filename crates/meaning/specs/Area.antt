@@ -30,6 +30,10 @@ localIn w = localOf (w / 65536 % 4) (w % 65536)
 abbrev pub nameIn : ℕ → Name
 nameIn w = record { id = w % 65536; mutable = eqb (w / 65536) 1 }
 
+-- a label's number has 18 bits, and what stands above them is free
+abbrev pub labelIn : ℕ → ℕ
+labelIn w = w % 262144
+
 -- marks: in units of 32 blurred, of 16 strong, and below that the number of labels
 abbrev pub edgeOf : ℕ → ℕ → (ℕ → ℕ) → GEdge
 edgeOf ends marks label = record {
@@ -42,7 +46,7 @@ edgeOf ends marks label = record {
 -- the edge whose words stand from `at` on
 unfoldable pub edgeIn : (ℕ → ℕ) → ℕ → GEdge
 unfolding upTo
-edgeIn w at = edgeOf (w at) (w (at + 1)) (λ i. w (at + 2 + i))
+edgeIn w at = edgeOf (w at) (w (at + 1)) (λ i. labelIn (w (at + 2 + i)))
 
 abbrev pub stateIn : ℕ → (ℕ → ℕ) → State
 stateIn l w = record {
@@ -84,6 +88,12 @@ pub record Stored (l : ℕ) (s : State) (b : ℕ) (ws ws′ : List ℕ) : Type 0
   pub others : (m c : ℕ) → c ≢ b → keptOf m ws′ c ≡ keptOf m ws c
   pub beyond : drop 16384 ws′ ≡ drop 16384 ws
   pub short : hasBlock (length ws) b ≡ false → ws′ ≡ ws
+
+-- no block has a kept state; of the blocks' words nothing else is said, and later ones are as they were
+pub record Forgotten (ws ws′ : List ℕ) : Type 0 where
+  pub size : length ws′ ≡ length ws
+  pub kept : (l b : ℕ) → keptOf l ws′ b ≡ none
+  pub beyond : drop 16384 ws′ ≡ drop 16384 ws
 
 unfoldable pub zeros : ℕ → List ℕ
 zeros n = replicate n 0

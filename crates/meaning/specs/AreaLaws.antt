@@ -2,19 +2,20 @@
 use Prim.Native.Nat.{ℕ, zero, suc, _+_, _-_, _*_, _/_, _%_, _≤_, _<_, min}
 use mathlib.Core.Path.{_≡_, refl, sym, ap, subst, _∙_}
 use mathlib.Core.Logic.{_≢_}
-use mathlib.Core.Bool.{Bool, true, false, not, cond}
+use mathlib.Core.Bool.{Bool, true, false, not, _&&_, cond}
 use mathlib.Core.Option.{Option, none, some}
 use mathlib.Core.List.{List, [], _∷_, _++_, map}
+use native.Mathlib.Numerals.{add-one}
 use native.Mathlib.Omega.{arith}
 use borrow.Author.Count.{below-none, below-more}
 use borrow.Author.Tests.{lt-leb}
 use lib.Dec.{leb, ltb, eqb}
 use lib.ListN.{length, take, drop, getD, set, length-set, length-drop, length-append, length-replicate, getD-replicate, List·getD-append}
-use lib.Seq.{getD-set-same, getD-set-other, getD-drop, getD-append-add, ext-getD, drop-at}
+use lib.Seq.{getD-set-same, getD-set-other, getD-drop, getD-append-add, ext-getD}
 use Rattle.meaning.specs.Base.{decide, both, and-l, and-r, eqb-no, leb-le, le-leb, leb-gt}
 use Rattle.meaning.specs.Graph.{Name, GEdge}
 use Rattle.meaning.specs.State.{State, Local, absent, value, ref}
-use Rattle.meaning.specs.Area.{upTo, localOf, localIn, nameIn, edgeOf, edgeIn, stateIn, decode, isKept, hasBlock, word, from, keptOf, Stored, zeros, cleared}
+use Rattle.meaning.specs.Area.{upTo, localOf, localIn, nameIn, labelIn, edgeOf, edgeIn, stateIn, decode, isKept, hasBlock, word, from, keptOf, Stored, Forgotten, zeros, cleared}
 
 -- ---- lists given by their elements
 
@@ -30,11 +31,14 @@ module _ {A : Type 0} where
   pub upTo-same : (m n : ℕ) (f g : ℕ → A) → m ≡ n → ((i : ℕ) → i < n → f i ≡ g i) → upTo m f ≡ upTo n g
   upTo-same m n f g e h = ap (λ (k : ℕ). upTo k f) e ∙ upTo-ext n f g h
 
-  pub upTo-take : (n m : ℕ) (f : ℕ → A) → n ≤ m → take n (upTo m f) ≡ upTo n f
+  upTo-suc : (n : ℕ) (f : ℕ → A) → upTo (suc n) f ≡ upTo n f ++ f n ∷ []
   unfolding upTo
-  upTo-take zero m f h = refl
-  upTo-take (suc n) zero f h = absurd (omega arith)
-  upTo-take (suc n) (suc m) f h = ap (λ (l : List A). f 0 ∷ l) (upTo-take n m (λ i. f (suc i)) (omega arith))
+  upTo-suc zero f = refl
+  upTo-suc (suc n) f = ap (λ (l : List A). f 0 ∷ l) (upTo-suc n (λ i. f (suc i)))
+
+  -- one element more
+  pub upTo-more : (n : ℕ) (f : ℕ → A) → upTo (n + 1) f ≡ upTo n f ++ f n ∷ []
+  upTo-more n f = rw add-one (upTo-suc n f)
 
   -- the first n elements of an array, by what each stands for
   pub upTo-front : {B : Type 0} (g : B → A) (d : B) (xs : List B) (n k : ℕ) (f : ℕ → A) → k ≡ min n (length xs) → ((i : ℕ) → i < k → f i ≡ g (getD xs i d)) → upTo k f ≡ map g (take n xs)
@@ -159,8 +163,8 @@ unfolding edgeIn
 edge-ext w v at h =
     let e = h at (omega arith) (omega arith) in
     let m = h (at + 1) (omega arith) (omega arith) in
-    let p : upTo (min (w (at + 1) % 16) 8) (λ i. w (at + 2 + i)) ≡ upTo (min (v (at + 1) % 16) 8) (λ i. v (at + 2 + i)) =
-    upTo-same (min (w (at + 1) % 16) 8) (min (v (at + 1) % 16) 8) (λ i. w (at + 2 + i)) (λ i. v (at + 2 + i)) (ap (λ (k : ℕ). min (k % 16) 8) m) (λ i k. h (at + 2 + i) (omega arith) (omega arith)) in
+    let p : upTo (min (w (at + 1) % 16) 8) (λ i. labelIn (w (at + 2 + i))) ≡ upTo (min (v (at + 1) % 16) 8) (λ i. labelIn (v (at + 2 + i))) =
+    upTo-same (min (w (at + 1) % 16) 8) (min (v (at + 1) % 16) 8) (λ i. labelIn (w (at + 2 + i))) (λ i. labelIn (v (at + 2 + i))) (ap (λ (k : ℕ). min (k % 16) 8) m) (λ i k. ap labelIn (h (at + 2 + i) (omega arith) (omega arith))) in
     λ i. record { parent = e i / 65536; child = e i % 65536; blurred = eqb (m i / 32) 1; edge = record { strong = eqb (m i / 16 % 2) 1; path = p i } }
 
 -- an edge of the words from a place on
@@ -169,10 +173,10 @@ unfolding edgeIn
 edge-from ws at k =
     let m : at + (k + 1) ≡ at + k + 1 = omega arith in
     let p : (i : ℕ) → at + (k + 2 + i) ≡ at + k + 2 + i = λ i. omega arith in
-    λ t. edgeOf (getD ws (at + k) 0) (getD ws (m t) 0) (λ i. getD ws (p i t) 0)
+    λ t. edgeOf (getD ws (at + k) 0) (getD ws (m t) 0) (λ i. labelIn (getD ws (p i t) 0))
 
 abbrev pub IsLabel : (ℕ → ℕ) → ℕ → ℕ → Type 0
-IsLabel f i w = w ≡ f i
+IsLabel f i w = labelIn w ≡ f i
 
 -- an edge's ends, marks and labels, written
 module _ (ws us : List ℕ) (at u v n : ℕ) (f : ℕ → ℕ) (h : at + 10 ≤ length ws) (k : n ≤ 8) (q : Written (IsLabel f) (at + 2) 8 n (set (set ws at u) (at + 1) v) us) where
@@ -189,18 +193,11 @@ module _ (ws us : List ℕ) (at u v n : ℕ) (f : ℕ → ℕ) (h : at + 10 ≤ 
       → edgeIn (word us) at ≡ record { parent = p; child = c; blurred = b; edge = record { strong = s; path = upTo n f } }
   unfolding edgeIn
   edge-put p c b s e l d =
-      edge-words (getD us at 0) (getD us (at + 1) 0) p c n b s (λ i. getD us (at + 2 + i) 0) (edge-put-at ∙ e) l (edge-put-next ∙ d) k
-      ∙ ap (λ (x : List ℕ). record { parent = p; child = c; blurred = b; edge = record { strong = s; path = x } }) (upTo-ext n (λ i. getD us (at + 2 + i) 0) f (λ i m. q .within i m))
-
--- eight labels, read
-pub labels-read : (ws : List ℕ) (at : ℕ) → getD ws at 0 ∷ getD ws (at + 1) 0 ∷ getD ws (at + 2) 0 ∷ getD ws (at + 3) 0 ∷ getD ws (at + 4) 0 ∷ getD ws (at + 5) 0 ∷ getD ws (at + 6) 0 ∷ getD ws (at + 7) 0 ∷ [] ≡ upTo 8 (from ws at)
-unfolding upTo
-labels-read ws at =
-    let z : at ≡ at + 0 = omega arith in
-    ap (λ (k : ℕ). getD ws k 0 ∷ upTo 7 (λ i. from ws at (suc i))) z
+      edge-words (getD us at 0) (getD us (at + 1) 0) p c n b s (λ i. labelIn (getD us (at + 2 + i) 0)) (edge-put-at ∙ e) l (edge-put-next ∙ d) k
+      ∙ ap (λ (x : List ℕ). record { parent = p; child = c; blurred = b; edge = record { strong = s; path = x } }) (upTo-ext n (λ i. labelIn (getD us (at + 2 + i) 0)) f (λ i m. q .within i m))
 
 -- an edge, read
-pub edge-read : (w : ℕ → ℕ) (at : ℕ) (ls : List ℕ) → ls ≡ upTo (min (w (at + 1) % 16) 8) (λ i. w (at + 2 + i))
+pub edge-read : (w : ℕ → ℕ) (at : ℕ) (ls : List ℕ) → ls ≡ upTo (min (w (at + 1) % 16) 8) (λ i. labelIn (w (at + 2 + i)))
     → _≡_ {A = GEdge} (record { parent = w at / 65536; child = w at % 65536; blurred = eqb (w (at + 1) / 32) 1; edge = record { strong = eqb (w (at + 1) / 16 % 2) 1; path = ls } }) (edgeIn w at)
 unfolding edgeIn
 edge-read w at ls e = λ i. record { parent = w at / 65536; child = w at % 65536; blurred = eqb (w (at + 1) / 32) 1; edge = record { strong = eqb (w (at + 1) / 16 % 2) 1; path = e i } }
@@ -419,22 +416,44 @@ cleared-short ws h = ap (λ (t : Bool). cond t (zeros 16384 ++ drop 16384 ws) ws
 pub cleared-written : (ws us : List ℕ) → 16384 ≤ length ws → Written IsZero 0 16384 16384 ws us → us ≡ cleared ws
 cleared-written ws us h p = zeros-front 16384 ws us h p ∙ sym (cleared-long ws h)
 
--- no block has a kept state, and later words are as they were
-pub cleared-kept : (l : ℕ) (ws : List ℕ) (b : ℕ) → 16384 ≤ length ws → keptOf l (cleared ws) b ≡ none
-unfolding keptOf decode
-cleared-kept l ws b h =
-    ap (λ (us : List ℕ). keptOf l us b) (cleared-long ws h) ∙ zeroed (hasBlock (length us) b) refl
-  where
-    us : List ℕ
-    us = zeros 16384 ++ drop 16384 ws
+-- ---- the area with no kept state
 
-    zeroed : (t : Bool) → hasBlock (length us) b ≡ t → cond t (decode l (from us (1024 * b))) none ≡ none
-    zeroed false e = refl
-    zeroed true e =
+-- the first words of the first i blocks are zero, and words past the blocks are as they were
+pub record Emptied (i : ℕ) (ws us : List ℕ) : Type 0 where
+  pub frame : Frame 0 16384 ws us
+  pub firsts : (b : ℕ) → b < i → getD us (1024 * b) 0 ≡ 0
+
+pub emptied-none : (ws : List ℕ) → Emptied 0 ws ws
+emptied-none ws = record { frame = frame-none 0 16384 ws; firsts = below-none (λ b. getD ws (1024 * b) 0 ≡ 0) }
+
+pub emptied-one : (i : ℕ) (ws us : List ℕ) → i < 16 → 1024 * i < length us → Emptied i ws us → Emptied (i + 1) ws (set us (1024 * i) 0)
+emptied-one i ws us h l p = record {
+  frame = frame-set (1024 * i) 0 (omega arith) (omega arith) (p .frame);
+  firsts = below-more (λ b. getD (set us (1024 * i) 0) (1024 * b) 0 ≡ 0) i
+      (λ b k. getD-set-other us (1024 * i) (1024 * b) 0 0 (λ e. omega arith) ∙ p .firsts b k)
+      (getD-set-same us (1024 * i) 0 0 l);
+}
+
+pub forgotten : (i : ℕ) (ws us : List ℕ) → 16 ≤ i → Emptied i ws us → Forgotten ws us
+unfolding keptOf decode
+forgotten i ws us h p = record {
+  size = p .frame .size;
+  kept = λ l b. gone l b (hasBlock (length us) b) refl;
+  beyond = drop-same 0 16384 16384 ws us (omega arith) (p .frame);
+}
+  where
+    gone : (l b : ℕ) (t : Bool) → hasBlock (length us) b ≡ t → cond t (decode l (from us (1024 * b))) none ≡ none
+    gone l b false e = refl
+    gone l b true e =
         let k : b < 16 = has-block (length us) b e .1 in
-        let z : from us (1024 * b) 0 ≡ 0 = List·getD-append (zeros 16384) (drop 16384 ws) 0 (1024 * b + 0) (omega (arith, zeros-length 16384)) ∙ zeros-at 16384 (1024 * b + 0) (omega arith) in
+        let j : 1024 * b + 0 ≡ 1024 * b = omega arith in
+        let z : from us (1024 * b) 0 ≡ 0 = ap (λ (m : ℕ). getD us m 0) j ∙ p .firsts b (omega arith) in
         ap (λ (x : ℕ). cond (eqb (x / 262144) 0) none (some (stateIn l (from us (1024 * b))))) z
 
-pub cleared-beyond : (ws : List ℕ) → 16384 ≤ length ws → drop 16384 (cleared ws) ≡ drop 16384 ws
-cleared-beyond ws h =
-    ap (drop 16384) (cleared-long ws h) ∙ drop-at (zeros 16384) (drop 16384 ws) 16384 (zeros-length 16384)
+-- a shorter area has no blocks
+pub forgotten-short : (ws : List ℕ) → length ws < 16384 → Forgotten ws ws
+forgotten-short ws h = record {
+  size = refl;
+  kept = λ l b. kept-out l ws b (ap (λ (t : Bool). t && ltb b 16) (lt-leb 16384 (length ws) h));
+  beyond = refl;
+}

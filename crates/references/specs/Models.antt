@@ -1,8 +1,8 @@
 -- What the values of the code stand for in the definitions. A count beyond an array's length reads as the length.
 use mathlib.Core.Bool.{cond}
 use mathlib.Core.Option.{Option, none, some}
-use mathlib.Core.List.{List, map}
-use Prim.Native.Nat.{ℕ}
+use mathlib.Core.List.{List, [], _∷_, map}
+use Prim.Native.Nat.{ℕ, _+_, _*_, _/_, _%_, _^_}
 use lib.Dec.{eqb}
 use lib.ListN.{take}
 use Rattle.meaning.specs.Base.{Ans, ok, refuse}
@@ -30,8 +30,28 @@ orderingOf Less = less
 orderingOf Equal = equal
 orderingOf Greater = greater
 
+-- kinds of labels stand two bits each in a number, the first label's lowest: the number of a label with the first kind and this index
+abbrev pub firstNumber : ℕ → ℕ → ℕ
+firstNumber kinds index = kinds % 4 * 65536 + index
+
+-- the kinds without the first i; the first n of some and then others, sixteen bits of them
+abbrev pub kindsFrom : ℕ → ℕ → ℕ
+kindsFrom i kinds = kinds / 2 ^ (2 * i)
+
+abbrev pub joinedKinds : ℕ → ℕ → ℕ → ℕ
+joinedKinds n a b = (a % 2 ^ (2 * n) + b * 2 ^ (2 * n)) % 65536
+
+-- the numbers of labels by their kinds and indices
+unfoldable pub numbered : ℕ → List ℕ → List ℕ
+numbered kinds [] = []
+numbered kinds (x ∷ xs) = firstNumber kinds x ∷ numbered (kinds / 4) xs
+
+unfoldable pub indicesOf : Path → List ℕ
+indicesOf p = take (p .len) (p .labels)
+
 unfoldable pub pathOf : Path → List ℕ
-pathOf p = take (p .len) (p .labels)
+unfolding numbered indicesOf
+pathOf p = numbered (p .kinds) (indicesOf p)
 
 -- a path that is too long is document 01's refusal 22
 abbrev pub appendedOf : Appended → Ans (List ℕ)

@@ -2,11 +2,11 @@
 use meaning::MAX_LABELS;
 ghost use mathlib.Core.Path.{_≡_};
 ghost use mathlib.Core.List.{[], _∷_, _++_};
-ghost use Prim.Native.Nat.{_≤_};
+ghost use Prim.Native.Nat.{_*_, _^_, _≤_, _<_};
 ghost use lib.ListN.{length, drop};
-ghost use Rattle.meaning.specs.Labels.{numberOf, labelAt};
+ghost use Rattle.meaning.specs.Labels.{numberOf, labelAt, kindOf, indexOf};
 ghost use Rattle.meaning.specs.Sets.{prefix, comparePaths, within};
-ghost use Rattle.references.specs.Models.{labelOf, orderingOf, pathOf, appendedOf};
+ghost use Rattle.references.specs.Models.{labelOf, orderingOf, firstNumber, kindsFrom, joinedKinds, pathOf, appendedOf};
 
 // Document 01's label. Its number puts the kind before the index, so that labels stand in the order of their numbers.
 pub enum Label {
@@ -21,9 +21,11 @@ pub enum Ordering {
     Greater,
 }
 
-// Up to eight labels, by their numbers. What lies from `len` on is free; a `len` beyond eight reads as eight.
+// Up to eight labels: their indices, and their kinds (0 for Local, 1 for Global, 2 for Field) in two bits each, the first label's
+// lowest. What lies from `len` on is free; a `len` beyond eight reads as eight.
 pub struct Path {
-    pub labels: [u32; MAX_LABELS],
+    pub labels: [u16; MAX_LABELS],
+    pub kinds: u16,
     pub len: u8,
 }
 
@@ -57,6 +59,59 @@ impl Label {
         }
         Label::Field(i)
     }
+
+    fn kind(self) -> u16
+        ensures { λ r. ⌜ r ≡ kindOf (labelOf self) ⌝ }
+    {
+        match self {
+            Label::Local(_) => 0,
+            Label::Global(_) => 1,
+            Label::Field(_) => 2,
+        }
+    }
+
+    fn index(self) -> u16
+        ensures { λ r. ⌜ r ≡ indexOf (labelOf self) ⌝ }
+    {
+        match self {
+            Label::Local(i) => i,
+            Label::Global(i) => i,
+            Label::Field(i) => i,
+        }
+    }
+}
+
+// The number of the label with this index and the first of these kinds.
+pub fn first_number(kinds: u16, index: u16) -> u32
+    ensures { λ r. ⌜ (r ≡ firstNumber kinds index) × (r < 262144) ⌝ }
+{
+    (kinds % 4) as u32 * 65536 + index as u32
+}
+
+// The kinds without the first i.
+fn kinds_from(kinds: u16, i: usize) -> u16
+    requires { ⌜ i ≤ 8 ⌝ }
+    ensures { λ r. ⌜ r ≡ kindsFrom i kinds ⌝ }
+{
+    (kinds as u64 >> (2 * i)) as u16
+}
+
+// What the kind of label n is counted in.
+fn kinds_unit(n: usize) -> u64
+    requires { ⌜ n ≤ 8 ⌝ }
+    ensures { λ r. ⌜ (r ≡ 2 ^ (2 * n)) × (0 < r) × (r ≤ 65536) ⌝ }
+{
+    1 << (2 * n)
+}
+
+// The first n of some kinds and then others, as many as there is room for.
+fn join_kinds(first: u16, n: usize, then: u16) -> u16
+    requires { ⌜ n ≤ 8 ⌝ }
+    ensures { λ r. ⌜ r ≡ joinedKinds n first then ⌝ }
+{
+    let unit = kinds_unit(n);
+    let k = first as u64 % unit + then as u64 * unit;
+    (k % 65536) as u16
 }
 
 impl Path {
@@ -65,6 +120,7 @@ impl Path {
     {
         Self {
             labels: [0; MAX_LABELS],
+            kinds: 0,
             len: 0,
         }
     }
@@ -72,10 +128,11 @@ impl Path {
     pub fn single(label: Label) -> Self
         ensures { λ r. ⌜ pathOf r ≡ numberOf (labelOf label) ∷ [] ⌝ }
     {
-        let mut labels = [0u32; MAX_LABELS];
-        labels[0] = label.number();
+        let mut labels = [0u16; MAX_LABELS];
+        labels[0] = label.index();
         Self {
             labels: labels,
+            kinds: label.kind(),
             len: 1,
         }
     }
@@ -93,19 +150,23 @@ pub fn cmp(lhs: Path, rhs: Path) -> Ordering
 {
     let n = lhs.len();
     let m = rhs.len();
+    let mut j = lhs.kinds;
+    let mut k = rhs.kinds;
     let mut i: usize = 0;
     while i < n {
         if m <= i {
             return Ordering::Greater;
         }
-        let x = lhs.labels[i];
-        let y = rhs.labels[i];
+        let x = first_number(j, lhs.labels[i]);
+        let y = first_number(k, rhs.labels[i]);
         if x < y {
             return Ordering::Less;
         }
         if y < x {
             return Ordering::Greater;
         }
+        j /= 4;
+        k /= 4;
         i += 1;
     }
     if i < m {
@@ -121,16 +182,20 @@ pub fn leq(lhs: Path, rhs: Path) -> bool
 {
     let n = lhs.len();
     let m = rhs.len();
+    let mut j = lhs.kinds;
+    let mut k = rhs.kinds;
     let mut i: usize = 0;
     while i < n {
         if m <= i {
             return false;
         }
-        let x = lhs.labels[i];
-        let y = rhs.labels[i];
+        let x = first_number(j, lhs.labels[i]);
+        let y = first_number(k, rhs.labels[i]);
         if x != y {
             return false;
         }
+        j /= 4;
+        k /= 4;
         i += 1;
     }
     true
@@ -142,7 +207,7 @@ pub fn factor(lhs: Path, rhs: Path) -> Path
 {
     let k = lhs.len();
     let n = rhs.len();
-    let mut out = [0u32; MAX_LABELS];
+    let mut out = [0u16; MAX_LABELS];
     let mut i = k;
     let mut j: usize = 0;
     while i < n {
@@ -153,6 +218,7 @@ pub fn factor(lhs: Path, rhs: Path) -> Path
     }
     Path {
         labels: out,
+        kinds: kinds_from(rhs.kinds, k),
         len: j as u8,
     }
 }
@@ -179,6 +245,7 @@ pub fn append(lhs: Path, rhs: Path) -> Appended
         fits: true,
         path: Path {
             labels: out,
+            kinds: join_kinds(lhs.kinds, n, rhs.kinds),
             len: (n + m) as u8,
         },
     }

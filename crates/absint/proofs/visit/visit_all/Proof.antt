@@ -1,10 +1,9 @@
 use borrow.Author.Needs.{needs}
-use mathlib.Core.Path.{refl, ap, _∙_}
+use mathlib.Core.Path.{refl, _∙_}
 use Prim.Native.Nat.{_-_, _≤_}
 use mathlib.Core.List.{map}
-use lib.ListN.{length, take, drop}
+use lib.ListN.{length, take}
 use borrow.Author.Tests.{ltb-true}
-use Rattle.meaning.specs.AreaLaws.{cleared-beyond}
 use Rattle.meaning.specs.Listing.{tokenAs}
 use Rattle.meaning.specs.Verify.{mostVisits}
 use Rattle.listing.specs.Models.{routineOf}
@@ -22,8 +21,8 @@ abbrev μ-loop : tie.MeasureT-loop
 new-requires : tie.Need-new-requires Inv-loop μ-loop
 new-requires c κs = search needs
 
-clear-requires : tie.Need-clear-requires Inv-loop μ-loop
-clear-requires c κs = search needs
+forget-requires : tie.Need-forget-requires Inv-loop μ-loop
+forget-requires c κs = search needs
 
 store-requires : tie.Need-store-requires Inv-loop μ-loop
 store-requires c κs = search needs
@@ -39,8 +38,8 @@ loop-holds c =
     record {
       read = ((c .before .before .before .before .before .before .before .before .before .before .before .before .before .pre) .0);
       long = refl;
-      going = Law.goes-again ((c .before .before .before .before .before .before .before .before .before .before .before .before .before .args) .listing .now) ((c .before .before .before .before .before .before .before .before .before .before .before .before .before .args) .routine) (((c .before .before .before .before .before .before .before .before .before .before .before .before .before .pre) .0) .promise) (((c .before .before .before .before .before .before .before .before .before .before .before .before .before .pre) .0) .count) ((c .before .before .before .before .before .before .before .before .before .before .before .before .before .args) .area .now) ((c .before .before .before .before .before .before .before .clear) .last .0) ((c .before .before .before .store) .last .0) ((c .start) .result) area ((c .before .before .before .before .before .before .before .clear) .ensures) ((c .before .before .before .before .before .before .before .clear) .kept .0)
-          (Law.stored-as ((c .before .before .before .before .before .before .before .before .before .new) .result .«num_locals») ((c .before .before .before .before .before .before .before .before .before .before .before .before .before .args) .routine .locals) _ _ ((c .before .before .before .before .before .before .before .clear) .last .0) ((c .before .before .before .store) .last .0) (made .0) (made .1) ((c .before .before .before .store) .ensures)) ((c .start) .ensures);
+      going = Law.goes-again ((c .before .before .before .before .before .before .before .before .before .before .before .before .before .args) .listing .now) ((c .before .before .before .before .before .before .before .before .before .before .before .before .before .args) .routine) (((c .before .before .before .before .before .before .before .before .before .before .before .before .before .pre) .0) .promise) (((c .before .before .before .before .before .before .before .before .before .before .before .before .before .pre) .0) .count) ((c .before .before .before .before .before .before .before .before .before .before .before .before .before .args) .area .now) ((c .before .before .before .before .before .before .before .forget) .last .0) ((c .before .before .before .store) .last .0) ((c .start) .result) area ((c .before .before .before .before .before .before .before .forget) .ensures)
+          (Law.stored-as ((c .before .before .before .before .before .before .before .before .before .new) .result .«num_locals») ((c .before .before .before .before .before .before .before .before .before .before .before .before .before .args) .routine .locals) _ _ ((c .before .before .before .before .before .before .before .forget) .last .0) ((c .before .before .before .store) .last .0) (made .0) (made .1) ((c .before .before .before .store) .ensures)) ((c .start) .ensures);
     }
 
 visit-requires : tie.Need-visit-requires Inv-loop μ-loop
@@ -50,7 +49,7 @@ visit-requires c κs =
     let few = ((c .before .before .before .before .before .before .before .before .before .before .before .before .before .before .before .before .before .before .before .pre) .0) .blocks in
     let long = (c .before .before .before .before .before .loop) .inv .long in
     let a = (c .before .before .before .before .before .before .before .before .before .store) .kept .0 in
-    let b = (c .before .before .before .before .before .before .before .before .before .before .before .before .before .clear) .kept .0 in
+    let b = (c .before .before .before .before .before .before .before .before .before .before .before .before .before .forget) .kept .0 in
     let wide : 16384 ≤ length ((c .before .before .before .before .before .before .before .before .before .before .before .before .before .before .before .before .before .before .before .args) .area .now) = (c .before .before .before .before .before .before .before .before .before .before .before .before .before .before .before .before .before .before .before .pre) .1 in
     Law.ready ((c .before .before .before .before .before .before .before .before .before .before .before .before .before .before .before .before .before .before .before .args) .listing .now) ((c .before .before .before .before .before .before .before .before .before .before .before .before .before .before .before .before .before .before .before .args) .routine) ((c .before .before .before .before .before .loop) .inv .read .promise) ((c .before .before .before .before .before .loop) .inv .read .count) _ ((c .before .before .before .before .before .loop) .area) ((c .before .before .before .before .before .loop) .t) g (on .0) (ltb-true _ _ (on .1)) few (Law.promised-small (routineOf ((c .before .before .before .before .before .before .before .before .before .before .before .before .before .before .before .before .before .before .before .args) .listing .now) ((c .before .before .before .before .before .before .before .before .before .before .before .before .before .before .before .before .before .before .before .args) .routine)) (((c .before .before .before .before .before .before .before .before .before .before .before .before .before .before .before .before .before .before .before .pre) .0) .promise)) (omega (arith, long, a, b, wide))
 
@@ -71,11 +70,11 @@ loop-again c =
     }
 
 same-length : tie.Need-same-length Inv-loop μ-loop
-same-length c = (c .before .before .before .before .loop) .inv .long ∙ (c .before .before .before .before .before .before .before .before .store) .kept .0 ∙ (c .before .before .before .before .before .before .before .before .before .before .before .before .clear) .kept .0
+same-length c = (c .before .before .before .before .loop) .inv .long ∙ (c .before .before .before .before .before .before .before .before .store) .kept .0 ∙ (c .before .before .before .before .before .before .before .before .before .before .before .before .forget) .kept .0
 
 returns : tie.Need-returns Inv-loop μ-loop
 returns c =
-    Law.from ((c .before .before .before .before .before .before .before .before .before .before .before .before .before .before .before .before .before .before .args) .listing .now) ((c .before .before .before .before .before .before .before .before .before .before .before .before .before .before .before .before .before .before .args) .routine) ((c .before .before .before .before .before .before .before .before .before .before .before .before .before .before .before .before .before .before .args) .area .now) ((c .before .before .before .before .before .before .before .before .store) .last .0) ((c .before .before .before .before .loop) .area) ((c .before .before .before .before .loop) .t) ((c .before .before .before .before .before .before .before .before .store) .ensures .beyond ∙ ap (λ ws. drop 16384 ws) ((c .before .before .before .before .before .before .before .before .before .before .before .before .clear) .ensures) ∙ cleared-beyond ((c .before .before .before .before .before .before .before .before .before .before .before .before .before .before .before .before .before .before .args) .area .now) ((c .before .before .before .before .before .before .before .before .before .before .before .before .before .before .before .before .before .before .pre) .1)) (Law.ends ((c .before .before .before .before .before .before .before .before .before .before .before .before .before .before .before .before .before .before .args) .listing .now) ((c .before .before .before .before .before .before .before .before .before .before .before .before .before .before .before .before .before .before .args) .routine) ((c .before .before .before .before .loop) .inv .read .promise) ((c .before .before .before .before .loop) .inv .read .count) _ ((c .before .before .before .before .loop) .area) ((c .before .before .before .before .loop) .t) ((c .before .before .before .before .loop) .inv .going) (Law.test-off ((c .before .before .before .before .loop) .t .stopped) _ _ ((c .if1) .left)))
+    Law.from ((c .before .before .before .before .before .before .before .before .before .before .before .before .before .before .before .before .before .before .args) .listing .now) ((c .before .before .before .before .before .before .before .before .before .before .before .before .before .before .before .before .before .before .args) .routine) ((c .before .before .before .before .before .before .before .before .before .before .before .before .before .before .before .before .before .before .args) .area .now) ((c .before .before .before .before .before .before .before .before .store) .last .0) ((c .before .before .before .before .loop) .area) ((c .before .before .before .before .loop) .t) ((c .before .before .before .before .before .before .before .before .store) .ensures .beyond ∙ (c .before .before .before .before .before .before .before .before .before .before .before .before .forget) .ensures .beyond) (Law.ends ((c .before .before .before .before .before .before .before .before .before .before .before .before .before .before .before .before .before .before .args) .listing .now) ((c .before .before .before .before .before .before .before .before .before .before .before .before .before .before .before .before .before .before .args) .routine) ((c .before .before .before .before .loop) .inv .read .promise) ((c .before .before .before .before .loop) .inv .read .count) _ ((c .before .before .before .before .loop) .area) ((c .before .before .before .before .loop) .t) ((c .before .before .before .before .loop) .inv .going) (Law.test-off ((c .before .before .before .before .loop) .t .stopped) _ _ ((c .if1) .left)))
 
 pub visit-all-spec : {M : Type 1} → statement M
 visit-all-spec =
@@ -84,7 +83,7 @@ visit-all-spec =
     Inv-loop
     μ-loop
     new-requires
-    clear-requires
+    forget-requires
     store-requires
     start-requires
     loop-holds

@@ -1,112 +1,86 @@
-use Rattle.meaning.specs.AreaLaws.{labels-read}
-use Rattle.meaning.specs.Area.{from}
-use Rattle.kept_states.specs.ModelLaws.{path-filled}
+use Prim.Native.Nat.{_+_, _-_, _≤_}
+use mathlib.Core.Path.{refl}
+use lib.ListN.{getD}
+use Rattle.meaning.specs.Area.{labelIn, from}
+use Rattle.references.specs.ModelLaws.{unit-le}
+use Rattle.kept_states.specs.ModelLaws.{Labels, labels-none, labels-one, unit-room, path-filled}
 use native.Mathlib.Omega.{arith}
-use borrow.Author.Needs.{needs}
 use Rattle.kept_states.proofs.read.get_path.Statement.{statement}
 use Rattle.kept_states.proofs.read.get_path.Tie as tie
 
-mul-t5 : tie.Need-mul-t5
-mul-t5 c = search needs
+abbrev Inv-loop : tie.InvT-loop
+Inv-loop ws at n labels₀ kinds₀ unit₀ i₀ labels kinds unit i = (i ≤ n) × Labels (λ j. labelIn (from ws at j)) i kinds unit labels
 
-shared-slice-read-t7 : tie.Need-shared-slice-read-t7
-shared-slice-read-t7 c = search needs
+abbrev μ-loop : tie.MeasureT-loop
+μ-loop ws at n labels₀ kinds₀ unit₀ i₀ labels kinds unit i = n - i
 
-add-t8 : tie.Need-add-t8
-add-t8 c = search needs
+loop-holds : tie.Need-loop-holds Inv-loop μ-loop
+loop-holds c = (omega arith, labels-none _ _ refl)
 
-mul-t9 : tie.Need-mul-t9
-mul-t9 c = search needs
+add-w : tie.Need-add-w Inv-loop μ-loop
+add-w c = omega arith
 
-shared-slice-read-t11 : tie.Need-shared-slice-read-t11
-shared-slice-read-t11 c = search needs
+mul-w : tie.Need-mul-w Inv-loop μ-loop
+mul-w c = omega arith
 
-add-t12 : tie.Need-add-t12
-add-t12 c = search needs
+shared-slice-read-w : tie.Need-shared-slice-read-w Inv-loop μ-loop
+shared-slice-read-w c = omega arith
 
-mul-t13 : tie.Need-mul-t13
-mul-t13 c = search needs
+cast-labels : tie.Need-cast-labels Inv-loop μ-loop
+cast-labels c = omega arith
 
-shared-slice-read-t15 : tie.Need-shared-slice-read-t15
-shared-slice-read-t15 c = search needs
+mul-labels : tie.Need-mul-labels Inv-loop μ-loop
+mul-labels c = omega arith
 
-add-t16 : tie.Need-add-t16
-add-t16 c = search needs
+array-write-labels : tie.Need-array-write-labels Inv-loop μ-loop
+array-write-labels c = omega (arith, (c .before .before .loop) .inv .1 .size)
 
-mul-t17 : tie.Need-mul-t17
-mul-t17 c = search needs
+mul-kinds : tie.Need-mul-kinds Inv-loop μ-loop
+mul-kinds c = omega (arith, unit-room _ _ _ _ (getD ((c .before .before .before .args) .ws .now) ((c .before .before .before .args) .at + (c .before .before .loop) .i) 0) _ (omega arith) ((c .before .before .loop) .inv .1))
 
-shared-slice-read-t19 : tie.Need-shared-slice-read-t19
-shared-slice-read-t19 c = search needs
+add-kinds : tie.Need-add-kinds Inv-loop μ-loop
+add-kinds c = omega (arith, unit-room _ _ _ _ (getD ((c .before .before .before .args) .ws .now) ((c .before .before .before .args) .at + (c .before .before .loop) .i) 0) _ (omega arith) ((c .before .before .loop) .inv .1))
 
-add-t20 : tie.Need-add-t20
-add-t20 c = search needs
+mul-unit : tie.Need-mul-unit Inv-loop μ-loop
+mul-unit c = omega (arith, unit-room _ _ _ _ (getD ((c .before .before .before .args) .ws .now) ((c .before .before .before .args) .at + (c .before .before .loop) .i) 0) _ (omega arith) ((c .before .before .loop) .inv .1))
 
-mul-t21 : tie.Need-mul-t21
-mul-t21 c = search needs
+add-i : tie.Need-add-i Inv-loop μ-loop
+add-i c = omega arith
 
-shared-slice-read-t23 : tie.Need-shared-slice-read-t23
-shared-slice-read-t23 c = search needs
+loop-less : tie.Need-loop-less Inv-loop μ-loop
+loop-less c = omega arith
 
-add-t24 : tie.Need-add-t24
-add-t24 c = search needs
+loop-again : tie.Need-loop-again Inv-loop μ-loop
+loop-again c = (omega arith, labels-one _ ((c .before .before .loop) .i) ((c .before .before .loop) .kinds) ((c .before .before .loop) .unit) (getD ((c .before .before .before .args) .ws .now) ((c .before .before .before .args) .at + (c .before .before .loop) .i) 0) ((c .before .before .loop) .labels) (omega arith) refl ((c .before .before .loop) .inv .1))
 
-mul-t25 : tie.Need-mul-t25
-mul-t25 c = search needs
+cast-t20 : tie.Need-cast-t20 Inv-loop μ-loop
+cast-t20 c = omega (arith, (c .before .loop) .inv .1 .few, (c .before .loop) .inv .1 .unit-is, unit-le ((c .before .loop) .i) (omega arith))
 
-shared-slice-read-t27 : tie.Need-shared-slice-read-t27
-shared-slice-read-t27 c = search needs
+cast-t21 : tie.Need-cast-t21 Inv-loop μ-loop
+cast-t21 c = omega arith
 
-add-t28 : tie.Need-add-t28
-add-t28 c = search needs
-
-mul-t29 : tie.Need-mul-t29
-mul-t29 c = search needs
-
-shared-slice-read-t31 : tie.Need-shared-slice-read-t31
-shared-slice-read-t31 c = search needs
-
-add-t32 : tie.Need-add-t32
-add-t32 c = search needs
-
-mul-t33 : tie.Need-mul-t33
-mul-t33 c = search needs
-
-shared-slice-read-t35 : tie.Need-shared-slice-read-t35
-shared-slice-read-t35 c = search needs
-
-cast-t36 : tie.Need-cast-t36
-cast-t36 c = search needs
-
-returns : tie.Need-returns
-returns c = path-filled (from (c .before .before .before .before .before .before .before .before .args .ws .now) (c .before .before .before .before .before .before .before .before .args .at)) _ (c .before .before .before .before .before .before .before .before .args .n) (omega arith) (labels-read (c .before .before .before .before .before .before .before .before .args .ws .now) (c .before .before .before .before .before .before .before .before .args .at))
+returns : tie.Need-returns Inv-loop μ-loop
+returns c = path-filled _ ((c .before .loop) .i) ((c .before .before .args) .n) ((c .before .loop) .kinds) ((c .before .loop) .unit) ((c .before .loop) .labels) (omega arith) ((c .before .loop) .inv .1)
 
 pub get-path-spec : {M : Type 1} → statement M
 get-path-spec =
     tie.close
     (tie.spec
-    mul-t5
-    shared-slice-read-t7
-    add-t8
-    mul-t9
-    shared-slice-read-t11
-    add-t12
-    mul-t13
-    shared-slice-read-t15
-    add-t16
-    mul-t17
-    shared-slice-read-t19
-    add-t20
-    mul-t21
-    shared-slice-read-t23
-    add-t24
-    mul-t25
-    shared-slice-read-t27
-    add-t28
-    mul-t29
-    shared-slice-read-t31
-    add-t32
-    mul-t33
-    shared-slice-read-t35
-    cast-t36
+    Inv-loop
+    μ-loop
+    loop-holds
+    add-w
+    mul-w
+    shared-slice-read-w
+    cast-labels
+    mul-labels
+    array-write-labels
+    mul-kinds
+    add-kinds
+    mul-unit
+    add-i
+    loop-less
+    loop-again
+    cast-t20
+    cast-t21
     returns)

@@ -76,7 +76,7 @@ returns c =
     let x = c .before .before .before .before .before .before .before .before .before .before .before .before .before .before .before .before .args .x in
     let u : ℕ = x .parent .0 * 65536 + x .child .0 in
     let v : ℕ = c .before .before .before .before .before .before .before .bit-of .result * 32 + c .before .before .before .before .before .before .bit-of2 .result * 16 + c .before .before .before .before .before .before .before .before .lesser .result in
-    let f = labelAt (x .edge .path .labels) in
+    let f = labelAt (x .edge .path .kinds) (x .edge .path .labels) in
     let h : length (x .edge .path .labels) ≡ 8 = search needs in
     let d = path-made (x .edge .path) (c .before .before .before .before .before .before .before .before .lesser .result) h (c .before .before .before .before .before .before .before .before .lesser .ensures) in (
       edge-frame (c .before .before .before .before .before .before .before .before .before .before .before .before .before .before .before .before .args .ws .now) _ (c .before .before .before .before .before .before .before .before .before .before .before .before .before .before .before .before .args .at) u v (c .before .before .before .before .before .before .before .before .lesser .result) f (omega arith) (omega arith) (c .before .before .put-labels .ensures),

@@ -1,26 +1,24 @@
-use mathlib.Core.List.{List}
-use Rattle.meaning.specs.Base.{Ans}
-use mathlib.Core.Path.{_≡_, refl, sym, ap, _∙_}
-use mathlib.Core.List.{_∷_, _++_, append-nil}
+use mathlib.Core.Path.{_≡_, ap, _∙_}
+use mathlib.Core.List.{List, _++_, append-nil}
 use native.Mathlib.Nat.{add-zero}
 use borrow.Author.Tests.{lt-leb, le-leb}
 use Prim.Native.Nat.{ℕ, _+_, _-_, _<_, _≤_}
 use lib.ListN.{length, take, drop, length-set, length-append}
-use Rattle.meaning.specs.Base.{ok}
+use Rattle.meaning.specs.Base.{Ans, ok}
 use Rattle.meaning.specs.Sets.{within}
 use Rattle.meaning.specs.ArrayLaws.{push}
-use Rattle.references.specs.Models.{pathOf}
-use Rattle.references.specs.ModelLaws.{path-step, path-end, path-front, path-made}
+use Rattle.references.specs.Models.{numbered, indicesOf, pathOf}
+use Rattle.references.specs.ModelLaws.{path-made, path-joined, indices-front, indices-step, indices-end}
 use native.Mathlib.Omega.{arith}
 use borrow.Author.Needs.{needs}
 use Rattle.references.proofs.paths.append.Statement.{statement}
 use Rattle.references.proofs.paths.append.Tie as tie
 
 abbrev Inv-loop : tie.InvT-loop
-Inv-loop rhs n m out₀ i₀ out i = (i ≤ m) × (length out ≡ 8) × (take (n + i) out ++ drop i (pathOf rhs) ≡ take n out₀ ++ pathOf rhs)
+Inv-loop lhs rhs n m out₀ i₀ out i = (i ≤ m) × (length out ≡ 8) × (take (n + i) out ++ drop i (indicesOf rhs) ≡ take n out₀ ++ indicesOf rhs)
 
 abbrev μ-loop : tie.MeasureT-loop
-μ-loop rhs n m out₀ i₀ out i = m - i
+μ-loop lhs rhs n m out₀ i₀ out i = m - i
 
 len-requires : tie.Need-len-requires Inv-loop μ-loop
 len-requires c κs = search needs
@@ -34,7 +32,7 @@ add-if1 c = omega arith
 returns : tie.Need-returns Inv-loop μ-loop
 unfolding within
 returns c =
-    let h : 8 < length (pathOf (c .before .before .before .args .lhs) ++ pathOf (c .before .before .before .args .t2)) = simp length-append (omega arith) in
+    let h : 8 < length (pathOf ((c .before .before .before .args) .lhs) ++ pathOf ((c .before .before .before .args) .t2)) = simp length-append (omega arith) in
     rw (lt-leb _ _ h)
 
 loop-holds : tie.Need-loop-holds Inv-loop μ-loop
@@ -63,29 +61,32 @@ loop-less c = omega arith
 
 loop-again : tie.Need-loop-again Inv-loop μ-loop
 loop-again c =
-    let l = c .before .before .loop in
-    let n = c .before .before .before .before .before .before .len .result in
+    let l = (c .before .before .loop) in
+    let n = (c .before .before .before .before .before .before .len) .result in
     let h : n + l .i < length (l .out) = omega arith in
-    (omega arith, simp length-set (l .inv .1), push (l .out) (n + l .i) (n + (l .i + 1)) _ _ (omega arith) h ∙ rw (path-step (c .before .before .before .before .before .before .before .args .t2) (l .i) (omega arith)) at (l .inv .2))
+    (omega arith, simp length-set (l .inv .1), push (l .out) (n + l .i) (n + (l .i + 1)) _ _ (omega arith) h ∙ rw (indices-step ((c .before .before .before .before .before .before .before .args) .t2) (l .i) (omega arith)) at (l .inv .2))
+
+join-kinds-requires : tie.Need-join-kinds-requires Inv-loop μ-loop
+join-kinds-requires c κs = omega arith
 
 add-t10 : tie.Need-add-t10 Inv-loop μ-loop
 add-t10 c = omega arith
 
-cast-t21 : tie.Need-cast-t21 Inv-loop μ-loop
-cast-t21 c = omega arith
+cast-t23 : tie.Need-cast-t23 Inv-loop μ-loop
+cast-t23 c = omega arith
 
 returns-2 : tie.Need-returns-2 Inv-loop μ-loop
 unfolding within
 returns-2 c =
-    let l = c .before .loop in
-    let a = c .before .before .before .before .before .before .args .lhs in
-    let b = c .before .before .before .before .before .before .args .t2 in
-    let n = c .before .before .before .before .before .len .result in
-    let m = c .before .before .before .before .len2 .result in
+    let l = (c .before .before .loop) in
+    let a = (c .before .before .before .before .before .before .before .args) .lhs in
+    let b = (c .before .before .before .before .before .before .before .args) .t2 in
+    let n = (c .before .before .before .before .before .before .len) .result in
+    let m = (c .before .before .before .before .before .len2) .result in
     let e : n + l .i ≡ n + m = omega arith in
-    let q = rw (path-end b (l .i) (omega arith), append-nil, e, path-front a n (omega arith)) at (l .inv .2) in
+    let q = rw (indices-end b (l .i) (omega arith), append-nil, e, indices-front a n (omega arith)) at (l .inv .2) in
     let h : length (pathOf a ++ pathOf b) ≤ 8 = simp length-append (omega arith) in
-    rw (le-leb _ _ h) (ap {B = Ans (List ℕ)} ok (path-made (l .out) (n + m) ∙ q))
+    rw (le-leb _ _ h) (ap {B = Ans (List ℕ)} ok (path-made (l .out) ((c .join-kinds) .result) (n + m) ∙ (λ t. numbered ((c .join-kinds) .ensures t) (q t)) ∙ path-joined a b n (omega arith) h))
 
 pub append-spec : {M : Type 1} → statement M
 append-spec =
@@ -106,6 +107,7 @@ append-spec =
     add-i
     loop-less
     loop-again
+    join-kinds-requires
     add-t10
-    cast-t21
+    cast-t23
     returns-2)

@@ -1,18 +1,17 @@
-use Rattle.references.specs.ModelLaws.{path-made}
+use Rattle.references.specs.ModelLaws.{path-made, path-dropped, indices-step, indices-end}
 use mathlib.Core.Path.{_≡_, refl, sym, _∙_}
 use mathlib.Core.List.{_++_, append-nil}
 use Prim.Native.Nat.{_+_, _-_, _<_, _≤_}
 use lib.ListN.{length, take, drop, length-set}
 use Rattle.meaning.specs.ArrayLaws.{push}
-use Rattle.references.specs.Models.{pathOf}
-use Rattle.references.specs.ModelLaws.{path-step, path-end}
+use Rattle.references.specs.Models.{numbered, indicesOf}
 use native.Mathlib.Omega.{arith}
 use borrow.Author.Needs.{needs}
 use Rattle.references.proofs.paths.factor.Statement.{statement}
 use Rattle.references.proofs.paths.factor.Tie as tie
 
 abbrev Inv-loop : tie.InvT-loop
-Inv-loop rhs k n out₀ i₀ j₀ out i j = (i ≡ k + j) × (j ≤ 8) × (length out ≡ 8) × (take j out ++ drop i (pathOf rhs) ≡ drop k (pathOf rhs))
+Inv-loop rhs k n out₀ i₀ j₀ out i j = (i ≡ k + j) × (j ≤ 8) × (length out ≡ 8) × (take j out ++ drop i (indicesOf rhs) ≡ drop k (indicesOf rhs))
 
 abbrev μ-loop : tie.MeasureT-loop
 μ-loop rhs k n out₀ i₀ j₀ out i j = n - i
@@ -49,18 +48,24 @@ loop-less c = omega arith
 
 loop-again : tie.Need-loop-again Inv-loop μ-loop
 loop-again c =
-    let l = c .before .before .loop in
+    let l = (c .before .before .loop) in
     let h : l .j < length (l .out) = omega arith in
-    (omega arith, omega arith, simp length-set (l .inv .2), push (l .out) (l .j) _ _ _ refl h ∙ rw (path-step (c .before .before .before .before .before .args .t2) (l .i) (omega arith)) at (l .inv .3))
+    (omega arith, omega arith, simp length-set (l .inv .2), push (l .out) (l .j) _ _ _ refl h ∙ rw (indices-step ((c .before .before .before .before .before .args) .t2) (l .i) (omega arith)) at (l .inv .3))
 
-cast-t19 : tie.Need-cast-t19 Inv-loop μ-loop
-cast-t19 c = omega arith
+kinds-from-requires : tie.Need-kinds-from-requires Inv-loop μ-loop
+kinds-from-requires c κs = omega arith
+
+cast-t21 : tie.Need-cast-t21 Inv-loop μ-loop
+cast-t21 c = omega arith
 
 returns : tie.Need-returns Inv-loop μ-loop
 returns c =
-    let l = c .before .loop in
-    let b = c .before .before .before .before .args .t2 in
-    path-made (l .out) (l .j) ∙ sym (append-nil (take (l .j) (l .out))) ∙ rw (path-end b (l .i) (omega arith)) at (l .inv .3) ∙ rw (c .before .before .before .len .ensures .0) refl
+    let l = (c .before .before .loop) in
+    let b = (c .before .before .before .before .before .args) .t2 in
+    let e : take (l .j) (l .out) ≡ drop ((c .before .before .before .before .len) .result) (indicesOf b) = sym (append-nil (take (l .j) (l .out))) ∙ rw (indices-end b (l .i) (omega arith)) at (l .inv .3) in
+    path-made (l .out) ((c .kinds-from) .result) (l .j)
+    ∙ (λ t. numbered ((c .kinds-from) .ensures t) (e t))
+    ∙ sym (path-dropped b ((c .before .before .before .before .len) .result)) ∙ rw ((c .before .before .before .before .len) .ensures .0) refl
 
 pub factor-spec : {M : Type 1} → statement M
 factor-spec =
@@ -79,5 +84,6 @@ factor-spec =
     add-i
     loop-less
     loop-again
-    cast-t19
+    kinds-from-requires
+    cast-t21
     returns)

@@ -1,34 +1,33 @@
 use mathlib.Core.Path.{_≡_, refl}
 use mathlib.Core.Bool.{_&&_}
-use Prim.Native.Nat.{_+_, _-_}
+use Prim.Native.Nat.{_+_, _-_, _/_}
 use lib.ListN.{drop, getD}
 use lib.Dec.{eqb}
 use borrow.Author.Tests.{eq-eqb, ne-eqb}
 use Rattle.meaning.specs.Sets.{prefix}
-use Rattle.references.specs.Models.{pathOf}
-use Rattle.references.specs.ModelLaws.{path-step, path-end}
+use Rattle.references.specs.Models.{firstNumber, numbered, indicesOf, pathOf}
+use Rattle.references.specs.ModelLaws.{rest-step, rest-end}
 use native.Mathlib.Omega.{arith}
 use borrow.Author.Needs.{needs}
 use Rattle.references.proofs.paths.leq.Statement.{statement}
 use Rattle.references.proofs.paths.leq.Tie as tie
 
 abbrev Inv-loop : tie.InvT-loop
-Inv-loop lhs rhs n m i₀ i = prefix (drop i (pathOf lhs)) (drop i (pathOf rhs)) ≡ prefix (pathOf lhs) (pathOf rhs)
+Inv-loop lhs rhs n m j₀ k₀ i₀ j k i = prefix (numbered j (drop i (indicesOf lhs))) (numbered k (drop i (indicesOf rhs))) ≡ prefix (pathOf lhs) (pathOf rhs)
 
 abbrev μ-loop : tie.MeasureT-loop
-μ-loop lhs rhs n m i₀ i = n - i
+μ-loop lhs rhs n m j₀ k₀ i₀ j k i = n - i
 
 -- the labels at i are equal, and what follows is a prefix
 turn : (c : tie.Else1 Inv-loop μ-loop) →
     let s = c .before .before .before .before .before .args in
-    let i = c .before .before .loop .i in
-    (eqb (getD (s .t1 .labels) i 0) (getD (s .t2 .labels) i 0) && prefix (drop (i + 1) (pathOf (s .t1))) (drop (i + 1) (pathOf (s .t2)))) ≡ prefix (pathOf (s .t1)) (pathOf (s .t2))
+    let l = c .before .before .loop in
+    (eqb (firstNumber (l .j) (getD (s .t1 .labels) (l .i) 0)) (firstNumber (l .k) (getD (s .t2 .labels) (l .i) 0)) && prefix (numbered (l .j / 4) (drop (l .i + 1) (indicesOf (s .t1)))) (numbered (l .k / 4) (drop (l .i + 1) (indicesOf (s .t2))))) ≡ prefix (pathOf (s .t1)) (pathOf (s .t2))
 unfolding prefix
 turn c =
     let s = c .before .before .before .before .before .args in
-    let h = path-step (s .t1) (c .before .before .loop .i) (omega arith) in
-    let k = path-step (s .t2) (c .before .before .loop .i) (omega arith) in
-    rw (h, k) at (c .before .before .loop .inv)
+    let l = c .before .before .loop in
+    rw (rest-step (s .t1) (l .i) (l .j) (omega arith), rest-step (s .t2) (l .i) (l .k) (omega arith)) at (l .inv)
 
 len-requires : tie.Need-len-requires Inv-loop μ-loop
 len-requires c κs = search needs
@@ -37,30 +36,33 @@ len-requires-2 : tie.Need-len-requires-2 Inv-loop μ-loop
 len-requires-2 c κs = search needs
 
 loop-holds : tie.Need-loop-holds Inv-loop μ-loop
+unfolding pathOf
 loop-holds c = refl
 
 returns : tie.Need-returns Inv-loop μ-loop
 unfolding prefix
-returns c =
-    let s = c .before .before .before .before .before .args in
-    let h = path-step (s .t1) (c .before .before .loop .i) (omega arith) in
-    let k = path-end (s .t2) (c .before .before .loop .i) (omega arith) in
-    rw (h, k) at (c .before .before .loop .inv)
+returns c = rw (rest-step ((c .before .before .before .before .before .args) .t1) ((c .before .before .loop) .i) ((c .before .before .loop) .j) (omega arith), rest-end ((c .before .before .before .before .before .args) .t2) ((c .before .before .loop) .i) ((c .before .before .loop) .k) (omega arith)) at ((c .before .before .loop) .inv)
 
-mul-x : tie.Need-mul-x Inv-loop μ-loop
-mul-x c = omega arith
+mul-first-number : tie.Need-mul-first-number Inv-loop μ-loop
+mul-first-number c = omega arith
 
-element-copy-out-x : tie.Need-element-copy-out-x Inv-loop μ-loop
-element-copy-out-x c = omega arith
+element-copy-out-first-number : tie.Need-element-copy-out-first-number Inv-loop μ-loop
+element-copy-out-first-number c = omega arith
 
-mul-y : tie.Need-mul-y Inv-loop μ-loop
-mul-y c = omega arith
+first-number-requires : tie.Need-first-number-requires Inv-loop μ-loop
+first-number-requires c κs = search needs
 
-element-copy-out-y : tie.Need-element-copy-out-y Inv-loop μ-loop
-element-copy-out-y c = omega arith
+mul-first-number-2 : tie.Need-mul-first-number-2 Inv-loop μ-loop
+mul-first-number-2 c = omega arith
+
+element-copy-out-first-number-2 : tie.Need-element-copy-out-first-number-2 Inv-loop μ-loop
+element-copy-out-first-number-2 c = omega arith
+
+first-number-requires-2 : tie.Need-first-number-requires-2 Inv-loop μ-loop
+first-number-requires-2 c κs = search needs
 
 returns-2 : tie.Need-returns-2 Inv-loop μ-loop
-returns-2 c = rw (ne-eqb _ _ (c .if2 .taken)) at (turn (c .before .before .before))
+returns-2 c = rw (ne-eqb _ _ (rw ((c .before .before .before .first-number) .ensures .0, (c .before .first-number2) .ensures .0) at ((c .if2) .taken))) at (turn (c .before .before .before .before .before))
 
 add-i : tie.Need-add-i Inv-loop μ-loop
 add-i c = omega arith
@@ -69,13 +71,11 @@ loop-less : tie.Need-loop-less Inv-loop μ-loop
 loop-less c = omega arith
 
 loop-again : tie.Need-loop-again Inv-loop μ-loop
-loop-again c = rw (eq-eqb _ _ (c .if2 .left)) at (turn (c .before .before .before))
+loop-again c = rw (eq-eqb _ _ (rw ((c .before .before .before .first-number) .ensures .0, (c .before .first-number2) .ensures .0) at ((c .if2) .left))) at (turn (c .before .before .before .before .before))
 
 returns-3 : tie.Need-returns-3 Inv-loop μ-loop
 unfolding prefix
-returns-3 c =
-    let h = path-end (c .before .before .before .before .args .t1) (c .before .loop .i) (omega arith) in
-    rw h at (c .before .loop .inv)
+returns-3 c = rw (rest-end ((c .before .before .before .before .args) .t1) ((c .before .loop) .i) ((c .before .loop) .j) (omega arith)) at ((c .before .loop) .inv)
 
 pub leq-spec : {M : Type 1} → statement M
 leq-spec =
@@ -87,10 +87,12 @@ leq-spec =
     len-requires-2
     loop-holds
     returns
-    mul-x
-    element-copy-out-x
-    mul-y
-    element-copy-out-y
+    mul-first-number
+    element-copy-out-first-number
+    first-number-requires
+    mul-first-number-2
+    element-copy-out-first-number-2
+    first-number-requires-2
     returns-2
     add-i
     loop-less

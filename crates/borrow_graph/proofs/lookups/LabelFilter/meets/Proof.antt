@@ -1,5 +1,4 @@
-use mathlib.Core.Path.{refl}
-use Rattle.references.specs.ModelLaws.{path-step, path-end}
+use Rattle.references.specs.ModelLaws.{path-first, path-end}
 use native.Mathlib.Omega.{arith}
 use borrow.Author.Needs.{needs}
 use Rattle.borrow_graph.proofs.lookups.LabelFilter.meets.Statement.{statement}
@@ -14,14 +13,17 @@ enum-known-self c = search needs
 len-requires : tie.Need-len-requires
 len-requires c κs = search needs
 
-element-copy-out-first : tie.Need-element-copy-out-first
-element-copy-out-first c = search needs
+element-copy-out-first-number : tie.Need-element-copy-out-first-number
+element-copy-out-first-number c = search needs
+
+first-number-requires : tie.Need-first-number-requires
+first-number-requires c κs = search needs
 
 number-requires : tie.Need-number-requires
 number-requires c κs = search needs
 
 returns : tie.Need-returns
-returns c = rw ((c .before .before .before .before .before .self) .given .1, path-step ((c .before .before .before .before .before .before .before .args) .t2) 0 (omega arith), (c .number) .ensures)
+returns c = rw ((c .before .before .before .before .before .before .self) .given .1, path-first ((c .before .before .before .before .before .before .before .before .args) .t2) (omega arith), (c .number) .ensures, (c .before .first-number) .ensures .0)
 
 returns-2 : tie.Need-returns-2
 returns-2 c = search needs
@@ -36,7 +38,8 @@ meets-spec =
     enum-told
     enum-known-self
     len-requires
-    element-copy-out-first
+    element-copy-out-first-number
+    first-number-requires
     number-requires
     returns
     returns-2

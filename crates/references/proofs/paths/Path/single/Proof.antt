@@ -1,19 +1,24 @@
-use mathlib.Core.Path.{refl}
+use mathlib.Core.Path.{ap}
+use mathlib.Core.List.{[], _∷_}
+use Prim.Native.Nat.{ℕ}
+use Rattle.references.specs.ModelLaws.{label-number}
 use Rattle.references.specs.Models.{pathOf}
-use native.Mathlib.Omega.{arith}
 use borrow.Author.Needs.{needs}
 use Rattle.references.proofs.paths.Path.single.Statement.{statement}
 use Rattle.references.proofs.paths.Path.single.Tie as tie
 
-number-requires : tie.Need-number-requires
-number-requires c κs = search needs
+index-requires : tie.Need-index-requires
+index-requires c κs = search needs
 
 array-write-labels : tie.Need-array-write-labels
 array-write-labels c = search needs
 
+kind-requires : tie.Need-kind-requires
+kind-requires c κs = search needs
+
 returns : tie.Need-returns
 unfolding pathOf
-returns c = rw (c .number .ensures)
+returns c = ap (λ (x : ℕ). x ∷ []) (label-number ((c .before .before .args) .label) _ _ ((c .kind) .ensures) ((c .before .index) .ensures))
 
 pub single-spec : {M : Type 1} → statement M
-single-spec = tie.close (tie.spec number-requires array-write-labels returns)
+single-spec = tie.close (tie.spec index-requires array-write-labels kind-requires returns)
