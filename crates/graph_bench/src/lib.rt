@@ -6,10 +6,15 @@ use borrow_calls::release::release;
 use borrow_graph::graph::BorrowGraph;
 use references::paths::Label;
 use references::references::RefID;
-ghost use Prim.Native.Nat.{_≤_};
+ghost use mathlib.Core.Path.{_≡_};
+ghost use Rattle.meaning.specs.Graph as G;
+ghost use Rattle.borrow_graph.specs.Models.{graphOf};
+ghost use Rattle.graph_bench.specs.Bench as B;
 
 // An edge from p to p + d, where both are below n.
-fn linked(g: BorrowGraph, p: u16, d: u16, n: u16) -> BorrowGraph {
+fn linked(g: BorrowGraph, p: u16, d: u16, n: u16) -> BorrowGraph
+    ensures { λ r. ⌜ graphOf r ≡ B.linked n p d (graphOf g) ⌝ }
+{
     if d < n {
         if p < n - d {
             let a = add_weak_field_borrow(g, RefID(p), Label::Field(d), RefID(p + d));
@@ -20,7 +25,9 @@ fn linked(g: BorrowGraph, p: u16, d: u16, n: u16) -> BorrowGraph {
 }
 
 // Names 0 to n - 1.
-fn named(n: u16) -> BorrowGraph {
+fn named(n: u16) -> BorrowGraph
+    ensures { λ r. ⌜ graphOf r ≡ B.named n ⌝ }
+{
     let mut g = BorrowGraph::new();
     let mut i: u16 = 0;
     while i < n {
@@ -32,7 +39,9 @@ fn named(n: u16) -> BorrowGraph {
 }
 
 // Names 0 to n - 1, and an edge from each to each of the next three: 3 names have 3 edges, 20 names 54.
-fn sample(n: u16) -> BorrowGraph {
+fn sample(n: u16) -> BorrowGraph
+    ensures { λ r. ⌜ graphOf r ≡ B.sample n ⌝ }
+{
     let mut g = named(n);
     let mut p: u16 = 0;
     while p < n {
@@ -44,10 +53,10 @@ fn sample(n: u16) -> BorrowGraph {
     g
 }
 
-// A new name, a borrow of it and its release, `rounds` times. Answers how often a call was refused.
+// A new name, a borrow of it and its release, `rounds` times. Answers in how many rounds a call was refused.
 #[no_mangle]
 pub extern "C" fn bench_calls(n: u16, rounds: u32) -> u32
-    ensures { λ r. ⌜ r ≤ rounds ⌝ }
+    ensures { λ r. ⌜ r ≡ B.roundsOn (B.sample n) rounds .refused ⌝ }
 {
     let mut g = sample(n);
     let mut refused: u32 = 0;
@@ -69,10 +78,10 @@ pub extern "C" fn bench_calls(n: u16, rounds: u32) -> u32
     refused
 }
 
-// The release of a name between others, each time from the same graph.
+// The release of a name between others, each time from the same graph. Answers how often it was refused.
 #[no_mangle]
 pub extern "C" fn bench_release(n: u16, id: u16, rounds: u32) -> u32
-    ensures { λ r. ⌜ r ≤ rounds ⌝ }
+    ensures { λ r. ⌜ r ≡ B.refusals (G.release (B.sample n) id) rounds ⌝ }
 {
     let g = sample(n);
     let mut refused: u32 = 0;
@@ -89,10 +98,10 @@ pub extern "C" fn bench_release(n: u16, id: u16, rounds: u32) -> u32
     refused
 }
 
-// The join of a graph with itself.
+// The join of a graph with itself. Answers how often it was refused.
 #[no_mangle]
 pub extern "C" fn bench_join(n: u16, rounds: u32) -> u32
-    ensures { λ r. ⌜ r ≤ rounds ⌝ }
+    ensures { λ r. ⌜ r ≡ B.refusals (G.joinGraphs (B.sample n) (B.sample n)) rounds ⌝ }
 {
     let g = sample(n);
     let mut refused: u32 = 0;

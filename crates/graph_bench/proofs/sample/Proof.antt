@@ -1,11 +1,15 @@
+use mathlib.Core.Path.{_≡_, ap, _∙_}
 use Prim.Native.Nat.{_≤_, _-_}
+use Rattle.borrow_graph.specs.Models.{graphOf}
+use Rattle.graph_bench.specs.Bench.{sampleTo, sample}
+use Rattle.graph_bench.specs.BenchLaws.{sample-on}
 use native.Mathlib.Omega.{arith}
 use borrow.Author.Needs.{needs}
 use Rattle.graph_bench.proofs.sample.Statement.{statement}
 use Rattle.graph_bench.proofs.sample.Tie as tie
 
 abbrev Inv-loop : tie.InvT-loop
-Inv-loop n g₀ p₀ g p = p ≤ n
+Inv-loop n g₀ p₀ g p = (graphOf g ≡ sampleTo n p) × (p ≤ n)
 
 abbrev μ-loop : tie.MeasureT-loop
 μ-loop n g₀ p₀ g p = n - p
@@ -14,7 +18,8 @@ named-requires : tie.Need-named-requires Inv-loop μ-loop
 named-requires c κs = search needs
 
 loop-holds : tie.Need-loop-holds Inv-loop μ-loop
-loop-holds c = omega arith
+unfolding sampleTo
+loop-holds c = (c .named .ensures, omega arith)
 
 linked-requires : tie.Need-linked-requires Inv-loop μ-loop
 linked-requires c κs = search needs
@@ -32,10 +37,17 @@ loop-less : tie.Need-loop-less Inv-loop μ-loop
 loop-less c = omega arith
 
 loop-again : tie.Need-loop-again Inv-loop μ-loop
-loop-again c = omega (arith, (c .before .before .before .loop-test) .taken)
+loop-again c =
+    let l = c .before .before .before .before .loop in
+    (sample-on _ (l .p) (graphOf (l .g)) _ _ _ (l .inv .0) (c .before .before .linked .ensures) (c .before .linked2 .ensures) (c .linked3 .ensures), omega (arith, c .before .before .before .loop-test .taken))
 
 returns : tie.Need-returns Inv-loop μ-loop
-returns c = search needs
+unfolding sample
+returns c =
+    let l = c .before .loop in
+    let n = c .before .before .before .args .n in
+    let e : l .p ≡ n = omega (arith, l .inv .1, c .loop-test .left) in
+    l .inv .0 ∙ ap (sampleTo n) e
 
 pub sample-spec : {M : Type 1} → statement M
 sample-spec =
