@@ -16,6 +16,7 @@ use meaning::MAX_BLOCKS;
 use meaning::MAX_EDGES;
 use meaning::MAX_LABELS;
 use meaning::MAX_NAMES;
+use meaning::lesser;
 use references::paths::first_number;
 ghost use mathlib.Core.Path.{_≡_};
 ghost use mathlib.Core.Option.{some};
@@ -31,12 +32,6 @@ ghost use Rattle.kept_states.specs.ModelLaws.{labelAt, localAt, refAt, e
 const VALUE: u32 = 65536;
 
 const REFERENCE: u32 = 131072;
-
-pub(crate) fn lesser(a: usize, b: usize) -> usize
-    ensures { λ r. ⌜ r ≡ min a b ⌝ }
-{
-    if a < b { a } else { b }
-}
 
 fn bit_of(b: bool) -> u32
     ensures { λ r. ⌜ (r ≡ bit b) × (r ≤ 1) ⌝ }

@@ -11,6 +11,7 @@ use listing::decode::Decoded;
 use listing::decode::Instruction;
 use listing::decode::decode;
 use meaning::MAX_INSTRUCTIONS;
+use meaning::lesser;
 use operand_stack::depth;
 use operand_stack::empty;
 use state_join::canonical::construct_canonical_state;
@@ -75,15 +76,6 @@ pub fn execute(m: Machine, d: Decoded, returns: u8) -> Machine
         }
         Instruction::BorrowElement(mutable) => steps::borrow_element(state, stack, mutable),
     }
-}
-
-fn lesser(a: usize, b: usize) -> usize
-    ensures { λ r. ⌜ r ≡ min a b ⌝ }
-{
-    if a < b {
-        return a;
-    }
-    b
 }
 
 // How many instructions a routine has.

@@ -9,6 +9,7 @@ use abstract_state::state::AbstractValue;
 use abstract_state::state::Operand;
 use abstract_state::state::Operands;
 use borrow_graph::graph::Told;
+use meaning::lesser;
 ghost use mathlib.Core.Path.{_≡_};
 ghost use mathlib.Core.List.{[], _∷_, map};
 ghost use Prim.Native.Nat.{min};
@@ -23,12 +24,6 @@ ghost use Rattle.state_calls.specs.Models.{idsOf, oneOf, calledOf};
 pub struct Called {
     pub state: AbstractState,
     pub values: Operands,
-}
-
-pub(crate) fn lesser(a: usize, b: usize) -> usize
-    ensures { λ r. ⌜ r ≡ min a b ⌝ }
-{
-    if a < b { a } else { b }
 }
 
 // The acquired numbers come in any order, with repeats; the tokens are 0 a value, 1 a reference, 2 a mutable reference.

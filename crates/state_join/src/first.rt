@@ -1,11 +1,11 @@
 // The state of a routine's start: the parameters present, the root held, no edges.
 use crate::locals;
 use crate::locals::absent;
-use crate::locals::lesser;
 use abstract_state::state::AbstractState;
 use abstract_state::state::AbstractValue;
 use abstract_state::state::Local;
 use borrow_graph::graph::BorrowGraph;
+use meaning::lesser;
 use references::references::RefID;
 ghost use mathlib.Core.Path.{_≡_};
 ghost use mathlib.Core.List.{[], map};

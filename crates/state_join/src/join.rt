@@ -1,13 +1,13 @@
 // The join of two states.
 use crate::locals::absent;
 use crate::locals::count;
-use crate::locals::lesser;
 use crate::locals::value_of;
 use abstract_state::state::AbstractState;
 use abstract_state::state::AbstractValue;
 use abstract_state::state::Local;
 use borrow_calls::release::release;
 use borrow_graph::graph::BorrowGraph;
+use meaning::lesser;
 use references::references::RefID;
 ghost use mathlib.Core.Path.{_≡_};
 ghost use Rattle.meaning.specs.Graph.{Graph};

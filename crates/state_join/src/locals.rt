@@ -2,17 +2,12 @@
 use abstract_state::state::AbstractValue;
 use abstract_state::state::Local;
 use meaning::MAX_LOCALS;
+use meaning::lesser;
 ghost use mathlib.Core.Path.{_≡_};
 ghost use Prim.Native.Nat.{min};
 ghost use Rattle.meaning.specs.State as S;
 ghost use Rattle.abstract_state.specs.Models.{operandOf, localOf};
 ghost use Rattle.state_join.specs.Models.{heldBy};
-
-pub(crate) fn lesser(a: usize, b: usize) -> usize
-    ensures { λ r. ⌜ r ≡ min a b ⌝ }
-{
-    if a < b { a } else { b }
-}
 
 // How many locals a state has: a number beyond 16 reads as 16.
 pub(crate) fn count(num_locals: u8) -> usize
