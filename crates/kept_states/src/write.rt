@@ -20,7 +20,7 @@ use meaning::lesser;
 use references::paths::first_number;
 ghost use mathlib.Core.Path.{_≡_};
 ghost use mathlib.Core.Option.{some};
-ghost use Prim.Native.Nat.{ℕ, _+_, _*_, _≤_, _<_, min};
+ghost use Prim.Native.Nat.{ℕ, _+_, _*_, _≤_, _<_};
 ghost use lib.ListN.{length};
 ghost use Rattle.meaning.specs.Area.{localIn, nameIn, edgeIn, decode, word, from, Forgotten};
 ghost use Rattle.meaning.specs.AreaLaws.{bit, Frame, Written, WrittenEdges, IsLabel, IsLocal, IsName, IsZero, aboveLocal};

@@ -12,7 +12,6 @@ use borrow_graph::graph::Told;
 use meaning::lesser;
 ghost use mathlib.Core.Path.{_≡_};
 ghost use mathlib.Core.List.{[], _∷_, map};
-ghost use Prim.Native.Nat.{min};
 ghost use lib.ListN.{take};
 ghost use Rattle.meaning.specs.Listing.{tokenAs};
 ghost use Rattle.meaning.specs.Running as R;
