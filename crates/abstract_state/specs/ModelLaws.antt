@@ -1,12 +1,13 @@
 -- Laws of states that stop, and of locals read and written.
-use Prim.Native.Nat.{ℕ, zero, suc, _+_, _≤_, _<_}
+use Prim.Native.Nat.{ℕ, zero, suc, _+_, _≤_, _<_, min}
 use mathlib.Core.Path.{_≡_, refl, sym, ap, _∙_}
 use mathlib.Core.Bool.{Bool, true, false, not, _&&_, cond, true≢false}
 use mathlib.Core.List.{List, [], _∷_}
 use native.Mathlib.Nat.{not-suc-le-zero, le-of-suc-le-suc}
 use native.Mathlib.Numerals.{add-one}
 use lib.Dec.{eqb, ltb}
-use lib.ListN.{length, getD, set}
+use lib.ListN.{length, drop, getD, set, length-map, length-take}
+use Rattle.meaning.specs.ArrayLaws.{front-map-step}
 use Rattle.meaning.specs.Base.{Ans, ok, refuse, guard, ok-inj, refuse≢ok}
 use Rattle.meaning.specs.Graph.{Graph, wellFormed, held}
 use Rattle.meaning.specs.State as S
@@ -15,7 +16,7 @@ use Rattle.meaning.specs.Lookups as L
 use Rattle.meaning.specs.Borrow.{newName}
 use Rattle.borrow_graph.specs.Models.{told}
 use Rattle.abstract_state.specs.Models.{halted, heeding, failing, needing, localOf, localsIn}
-use Rattle.abstract_state.specs.declared.state.AbstractValue.the-variants.{NonReference}
+use Rattle.abstract_state.specs.declared.state.AbstractValue.the-variants.{Reference, NonReference}
 use Rattle.abstract_state.specs.declared.state.Local.{Local}
 
 -- ---- states that stop
@@ -217,3 +218,17 @@ local-unset [] (suc n) i x h = refl
 local-unset (y ∷ xs) zero i x h = refl
 local-unset (y ∷ xs) (suc n) zero x h = absurd (not-suc-le-zero h)
 local-unset (y ∷ xs) (suc n) (suc i) x h = ap (λ (l : List S.Local). localOf y ∷ l) (local-unset xs n i x (le-of-suc-le-suc h))
+
+-- ---- locals one by one
+
+-- what lies past the end of an array
+abbrev pub no-local : Local
+no-local = record { present = false; value = Reference (record { 0 = 0 }) }
+
+pub locals-step : (xs : List Local) (n i : ℕ) → i < length (localsIn xs n) → drop i (localsIn xs n) ≡ localOf (getD xs i no-local) ∷ drop (i + 1) (localsIn xs n)
+unfolding localsIn
+locals-step xs n i h = front-map-step localOf n xs no-local i h
+
+pub locals-count : (xs : List Local) (n : ℕ) → length xs ≡ 16 → length (localsIn xs n) ≡ min n 16
+unfolding localsIn
+locals-count xs n e = simp (length-map, length-take, e)

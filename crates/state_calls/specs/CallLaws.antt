@@ -14,7 +14,8 @@ use Rattle.abstract_state.specs.Models.{halted, heeding, failing}
 use Rattle.abstract_state.specs.ModelLaws.{here, halted-then, then-then}
 use Rattle.state_calls.specs.Models.{knownMutable}
 use Rattle.state_calls.specs.IdLaws.{mutable-known}
-use Rattle.state_calls.specs.LoopLaws.{link, then-done, under, beside, heeding-at, failing-at, known-fails-then, made}
+use Rattle.abstract_state.specs.OutcomeLaws.{link, then-done, made}
+use Rattle.state_calls.specs.LoopLaws.{under, beside, heeding-at, failing-at, known-fails-then}
 
 -- ---- the steps of each loop
 

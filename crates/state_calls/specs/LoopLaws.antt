@@ -13,14 +13,6 @@ use Rattle.meaning.specs.Running.{Outcome, done, violated, refused, then, lift,
 use Rattle.abstract_state.specs.Models.{halted, heeding, failing}
 use Rattle.abstract_state.specs.ModelLaws.{here, halted-then, then-then}
 
-pub link : {A B C : Type 0} (h : Outcome A) (o : Outcome B) (p : Outcome C) (f : A → Outcome B) (g : B → Outcome C) → o ≡ then h f → p ≡ then o g → p ≡ then h (λ s. then (f s) g)
-link {A} {B} {C} h o p f g d e = e ∙ ap (λ (x : Outcome B). then x g) d ∙ then-then h f g
-
-pub then-done : {A : Type 0} (o : Outcome A) → o ≡ then o done
-then-done (done a) = refl
-then-done (violated c) = refl
-then-done (refused n) = refl
-
 pub under : {A B : Type 0} (o : Outcome A) (f g : A → Outcome B) → ((a : A) → f a ≡ g a) → then o f ≡ then o g
 under (done a) f g h = h a
 under (violated c) f g h = refl
@@ -59,18 +51,6 @@ known-fails-then {A} {B} g n b c o k = go (wellFormed g && held g n) b
     go true true = refl
     go true false = refl
     go false y = refl
-
--- ---- a new name
-
--- the name that the code foresees is the one that a new reference gets
-pub made : {A : Type 0} (m : Bool) (r : Running) (x : ℕ) (k : ℕ → Running → Outcome A) → x ≡ cond (ltb (r .next) 65536) (r .next) 0 → then (newRef m r) (k x) ≡ then (newRef m r) (k (r .next))
-unfolding newRef
-made {A} m r x k e = ap (λ (y : ℕ). then (newRef m r) (k y)) e ∙ go (ltb (r .next) 65536)
-  where
-    go : (b : Bool) → then (needs b 9 (then (lift (newName (r .graph) (r .next) m)) (λ g. done (record { locals = r .locals; graph = g; next = suc (r .next); root = r .root })))) (k (cond b (r .next) 0))
-        ≡ then (needs b 9 (then (lift (newName (r .graph) (r .next) m)) (λ g. done (record { locals = r .locals; graph = g; next = suc (r .next); root = r .root })))) (k (r .next))
-    go true = refl
-    go false = refl
 
 -- ---- a loop that takes a step for each element
 

@@ -1,14 +1,12 @@
 -- The models read and written one element at a time.
 use Prim.Native.Nat.{ℕ, _+_, _≤_, _<_, min}
 use mathlib.Core.Path.{_≡_, refl, sym, _∙_}
-use mathlib.Core.Bool.{false}
 use mathlib.Core.List.{List, [], _∷_, _++_, map, append-nil}
 use lib.ListN.{length, take, drop, getD, set, drop-of-length-le, length-map, length-take}
 use Rattle.meaning.specs.ArrayLaws.{front-map-step, push-map}
 use Rattle.references.specs.declared.references.RefID.{RefID}
-use Rattle.abstract_state.specs.Models.{operandOf, operandsIn, localOf, localsIn}
+use Rattle.abstract_state.specs.Models.{operandOf, operandsIn}
 use Rattle.abstract_state.specs.declared.state.AbstractValue.the-variants.{Reference}
-use Rattle.abstract_state.specs.declared.state.Local.{Local}
 use Rattle.abstract_state.specs.declared.state.Operand as D
 use Rattle.state_calls.specs.Models.{idOf, idsOf}
 use Rattle.state_calls.specs.declared.ids.Ids.{Ids}
@@ -35,9 +33,6 @@ front-count f n l e = simp (length-map, length-take, e)
 abbrev pub past-operand : D.Operand
 past-operand = record { 0 = Reference (record { 0 = 0 }) }
 
-abbrev pub past-local : Local
-past-local = record { present = false; value = Reference (record { 0 = 0 }) }
-
 pub operands-step : (xs : List D.Operand) (n i : ℕ) → i < length (operandsIn xs n) → drop i (operandsIn xs n) ≡ operandOf (getD xs i past-operand .0) ∷ drop (i + 1) (operandsIn xs n)
 unfolding operandsIn
 operands-step xs n i h = front-map-step (λ (x : D.Operand). operandOf (x .0)) n xs past-operand i h
@@ -53,11 +48,3 @@ operands-none xs = refl
 pub operands-push : (xs : List D.Operand) (i : ℕ) (x : D.Operand) → i < length xs → operandsIn (set xs i x) (i + 1) ≡ operandsIn xs i ++ (operandOf (x .0) ∷ [])
 unfolding operandsIn
 operands-push xs i x h = sym (append-nil (operandsIn (set xs i x) (i + 1))) ∙ push-map (λ (y : D.Operand). operandOf (y .0)) xs i (i + 1) x [] refl h
-
-pub locals-step : (xs : List Local) (n i : ℕ) → i < length (localsIn xs n) → drop i (localsIn xs n) ≡ localOf (getD xs i past-local) ∷ drop (i + 1) (localsIn xs n)
-unfolding localsIn
-locals-step xs n i h = front-map-step localOf n xs past-local i h
-
-pub locals-count : (xs : List Local) (n : ℕ) → length xs ≡ 16 → length (localsIn xs n) ≡ min n 16
-unfolding localsIn
-locals-count xs n e = front-count localOf n xs e

@@ -17,17 +17,8 @@ use Rattle.abstract_state.specs.Models as M
 use Rattle.abstract_state.specs.Models.{halted, heeding, failing, needing, operandOf}
 use Rattle.abstract_state.specs.declared.state.AbstractValue.{AbstractValue}
 use Rattle.abstract_state.specs.declared.state.Local as D
+use Rattle.abstract_state.specs.OutcomeLaws.{link, then-done, made}
 use Rattle.abstract_state.specs.ModelLaws.{here, then-then}
-
--- ---- calls in a row
-
-pub link : {A B C : Type 0} (h : Outcome A) (o : Outcome B) (p : Outcome C) (f : A → Outcome B) (g : B → Outcome C) → o ≡ then h f → p ≡ then o g → p ≡ then h (λ s. then (f s) g)
-link {A} {B} {C} h o p f g d e = e ∙ ap (λ (x : Outcome B). then x g) d ∙ then-then h f g
-
-pub then-done : {A : Type 0} (o : Outcome A) → o ≡ then o done
-then-done (done a) = refl
-then-done (violated c) = refl
-then-done (refused n) = refl
 
 -- ---- questions of a name, on the state that was asked
 
@@ -108,16 +99,6 @@ pub needs-under : {A : Type 0} (b : Bool) (c : ℕ) (k l : Outcome A) → k ≡ 
 needs-under {A} b c k l e = ap (λ (o : Outcome A). needs b c o) e
 
 -- ---- a new name, and what is done with it
-
--- the name that the code foresees is the one that a new reference gets
-pub made : {A : Type 0} (m : Bool) (r : Running) (x : ℕ) (k : ℕ → Running → Outcome A) → x ≡ cond (ltb (r .next) 65536) (r .next) 0 → then (newRef m r) (k x) ≡ then (newRef m r) (k (r .next))
-unfolding newRef
-made {A} m r x k e = ap (λ (y : ℕ). then (newRef m r) (k y)) e ∙ go (ltb (r .next) 65536)
-  where
-    go : (b : Bool) → then (needs b 9 (then (lift (newName (r .graph) (r .next) m)) (λ g. done (record { locals = r .locals; graph = g; next = suc (r .next); root = r .root })))) (k (cond b (r .next) 0))
-        ≡ then (needs b 9 (then (lift (newName (r .graph) (r .next) m)) (λ g. done (record { locals = r .locals; graph = g; next = suc (r .next); root = r .root })))) (k (r .next))
-    go true = refl
-    go false = refl
 
 -- a new reference x borrows as `f` says, and is the answer
 abbrev pub lend : (ℕ → Running → Outcome Running) → ℕ → Running → Outcome Answer

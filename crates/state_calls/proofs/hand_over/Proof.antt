@@ -6,7 +6,8 @@ use Rattle.meaning.specs.ArrayLaws.{length-of-map}
 use Rattle.meaning.specs.Running.{Operand, then, handOver}
 use Rattle.abstract_state.specs.Models.{operandsOf, outcomeOf}
 use Rattle.state_calls.specs.ModelLaws.{operands-step, operands-count}
-use Rattle.state_calls.specs.LoopLaws.{then-done, each-turn, each-done}
+use Rattle.abstract_state.specs.OutcomeLaws.{then-done}
+use Rattle.state_calls.specs.LoopLaws.{each-turn, each-done}
 use Rattle.state_calls.specs.CallLaws.{handing, hand-step}
 use native.Mathlib.Omega.{arith}
 use borrow.Author.Needs.{needs}

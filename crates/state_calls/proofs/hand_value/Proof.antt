@@ -6,7 +6,8 @@ use Rattle.meaning.specs.Running.{reference, isMutable, writable, handOver}
 use Rattle.borrow_graph.specs.Models.{told, graphOf}
 use Rattle.abstract_state.specs.Models.{runningOf, outcomeOf, failing}
 use Rattle.abstract_state.specs.ModelLaws.{told-both}
-use Rattle.state_calls.specs.LoopLaws.{then-done, asked}
+use Rattle.abstract_state.specs.OutcomeLaws.{then-done}
+use Rattle.state_calls.specs.LoopLaws.{asked}
 use Rattle.state_calls.specs.CallLaws.{handing, hand-one}
 use borrow.Author.Needs.{needs}
 use Rattle.state_calls.proofs.hand_value.Statement.{statement}

@@ -1,6 +1,6 @@
 use Rattle.meaning.specs.Running as R
 use Rattle.abstract_state.specs.Models.{outcomeOf}
-use Rattle.state_steps.specs.EntryLaws as E
+use Rattle.abstract_state.specs.OutcomeLaws as O
 use borrow.Author.Needs.{needs}
 use Rattle.state_steps.proofs.release_value.Statement.{statement}
 use Rattle.state_steps.proofs.release_value.Tie as tie
@@ -20,7 +20,7 @@ returns c = rw ((c .before .before .value) .given .1) ((c .release) .ensures)
 
 returns-2 : tie.Need-returns-2
 unfolding R.releaseValue
-returns-2 c = rw ((c .enum-told) .given .1) (E.then-done (outcomeOf ((c .before .before .args) .state)))
+returns-2 c = rw ((c .enum-told) .given .1) (O.then-done (outcomeOf ((c .before .before .args) .state)))
 
 pub release-value-spec : {M : Type 1} → statement M
 release-value-spec =

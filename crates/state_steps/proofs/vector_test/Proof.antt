@@ -9,6 +9,7 @@ use Rattle.meaning.specs.Running.{then, done}
 use Rattle.borrow_graph.specs.Models.{graphOf}
 use Rattle.abstract_state.specs.Models.{runningOf, outcomeOf, heeding, failing, needing}
 use Rattle.abstract_state.specs.ModelLaws.{here}
+use Rattle.abstract_state.specs.OutcomeLaws as O
 use Rattle.state_steps.specs.EntryLaws as E
 use borrow.Author.Needs.{needs}
 use Rattle.state_steps.proofs.vector_test.Statement.{statement}
@@ -36,7 +37,7 @@ heed-requires : tie.Need-heed-requires
 heed-requires c κs = search needs
 
 returns-2 : tie.Need-returns-2
-returns-2 c = rw ((c .before .if1) .left) ((c .heed) .ensures ∙ ap (λ (t : Ans Bool). then (outcomeOf ((c .before .before .before .args) .state)) (heeding t)) ((c .before .before .is-mutable) .ensures) ∙ here ((c .before .before .before .args) .state .violation) ((c .before .before .before .args) .state .refusal) (runningOf ((c .before .before .before .args) .state)) (heeding (L.known (graphOf ((c .before .before .before .args) .state .«borrow_graph»)) ((c .before .before .before .args) .id .0) (R.isMutable (graphOf ((c .before .before .before .args) .state .«borrow_graph»)) ((c .before .before .before .args) .id .0)))) (λ s. R.known (s .graph) ((c .before .before .before .args) .id .0) (done s)) (E.then-done (heeding (L.known (graphOf ((c .before .before .before .args) .state .«borrow_graph»)) ((c .before .before .before .args) .id .0) (R.isMutable (graphOf ((c .before .before .before .args) .state .«borrow_graph»)) ((c .before .before .before .args) .id .0))) (runningOf ((c .before .before .before .args) .state))) ∙ E.heed-at (graphOf ((c .before .before .before .args) .state .«borrow_graph»)) ((c .before .before .before .args) .id .0) (R.isMutable (graphOf ((c .before .before .before .args) .state .«borrow_graph»)) ((c .before .before .before .args) .id .0)) (runningOf ((c .before .before .before .args) .state)) done))
+returns-2 c = rw ((c .before .if1) .left) ((c .heed) .ensures ∙ ap (λ (t : Ans Bool). then (outcomeOf ((c .before .before .before .args) .state)) (heeding t)) ((c .before .before .is-mutable) .ensures) ∙ here ((c .before .before .before .args) .state .violation) ((c .before .before .before .args) .state .refusal) (runningOf ((c .before .before .before .args) .state)) (heeding (L.known (graphOf ((c .before .before .before .args) .state .«borrow_graph»)) ((c .before .before .before .args) .id .0) (R.isMutable (graphOf ((c .before .before .before .args) .state .«borrow_graph»)) ((c .before .before .before .args) .id .0)))) (λ s. R.known (s .graph) ((c .before .before .before .args) .id .0) (done s)) (O.then-done (heeding (L.known (graphOf ((c .before .before .before .args) .state .«borrow_graph»)) ((c .before .before .before .args) .id .0) (R.isMutable (graphOf ((c .before .before .before .args) .state .«borrow_graph»)) ((c .before .before .before .args) .id .0))) (runningOf ((c .before .before .before .args) .state))) ∙ E.heed-at (graphOf ((c .before .before .before .args) .state .«borrow_graph»)) ((c .before .before .before .args) .id .0) (R.isMutable (graphOf ((c .before .before .before .args) .state .«borrow_graph»)) ((c .before .before .before .args) .id .0)) (runningOf ((c .before .before .before .args) .state)) done))
 
 pub vector-test-spec : {M : Type 1} → statement M
 vector-test-spec =

@@ -5,7 +5,7 @@ use Rattle.meaning.specs.Rename.{renamed}
 use Rattle.borrow_graph.specs.Models.{graphOf}
 use Rattle.abstract_state.specs.Models.{runningOf, stateOf}
 use Rattle.state_join.specs.Models.{canonicalEnd}
-use Rattle.state_join.specs.LocalLaws.{stopped}
+use Rattle.abstract_state.specs.ModelLaws.{stays}
 use Rattle.state_join.specs.CanonicalLaws.{canonical-16, canonical-ok, end-16, end-ok}
 use borrow.Author.Needs.{needs}
 use Rattle.state_join.proofs.canonical.construct_canonical_state.Statement.{statement}
@@ -47,7 +47,7 @@ returns-2 c =
 returns-3 : tie.Need-returns-3
 returns-3 c =
     let s = (c .before .before .before .args) .state in
-    stopped (s .violation) (s .refusal) (runningOf s) (runningOf s) canonicalEnd ((c .if1) .left)
+    stays (s .violation) (s .refusal) (runningOf s) (runningOf s) canonicalEnd ((c .if1) .left)
 
 pub construct-canonical-state-spec : {M : Type 1} → statement M
 construct-canonical-state-spec =

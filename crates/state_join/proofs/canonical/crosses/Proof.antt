@@ -7,7 +7,8 @@ use Rattle.meaning.specs.ArrayLaws.{length-of-map}
 use Rattle.meaning.specs.State as S
 use Rattle.meaning.specs.Rename as R
 use Rattle.abstract_state.specs.Models.{localsIn, localOf}
-use Rattle.state_join.specs.LocalLaws.{no-local, locals-step, locals-end}
+use Rattle.abstract_state.specs.ModelLaws.{no-local}
+use Rattle.state_join.specs.LocalLaws.{local-next, locals-end}
 use Rattle.state_join.specs.CanonicalLaws.{crosses-step, crosses-end}
 use native.Mathlib.Omega.{arith}
 use borrow.Author.Needs.{needs}
@@ -26,7 +27,7 @@ turn c b e =
     let h : length ((c .before .before .before .args) .t1) ≡ 16 = search length-of-map in
     let xs = localsIn ((c .before .before .before .args) .t1) ((c .before .before .before .args) .n) in
     ap (λ (x : Bool). x || R.crosses xs (l .i + 1) (drop (l .i + 1) xs)) (sym e)
-    ∙ sym (ap (λ (ys : List S.Local). R.crosses xs (l .i) ys) (locals-step ((c .before .before .before .args) .t1) ((c .before .before .before .args) .n) ((c .before .before .count) .result) h ((c .before .before .count) .ensures) (l .i) (omega arith)) ∙ crosses-step xs (l .i) (localOf (getD ((c .before .before .before .args) .t1) (l .i) no-local)) (drop (l .i + 1) xs)) ∙ l .inv
+    ∙ sym (ap (λ (ys : List S.Local). R.crosses xs (l .i) ys) (local-next ((c .before .before .before .args) .t1) ((c .before .before .before .args) .n) ((c .before .before .count) .result) h ((c .before .before .count) .ensures) (l .i) (omega arith)) ∙ crosses-step xs (l .i) (localOf (getD ((c .before .before .before .args) .t1) (l .i) no-local)) (drop (l .i + 1) xs)) ∙ l .inv
 
 count-requires : tie.Need-count-requires Inv-loop μ-loop
 count-requires c κs = search needs

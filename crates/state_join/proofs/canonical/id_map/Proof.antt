@@ -7,7 +7,8 @@ use Rattle.meaning.specs.Remap.{Change}
 use Rattle.borrow_graph.specs.Models.{changeOf, mapOf}
 use Rattle.abstract_state.specs.Models.{localOf, localsIn, operandOf}
 use Rattle.state_join.specs.Models.{renames}
-use Rattle.state_join.specs.LocalLaws.{no-local, locals-step, locals-end}
+use Rattle.abstract_state.specs.ModelLaws.{no-local}
+use Rattle.state_join.specs.LocalLaws.{local-next, locals-end}
 use Rattle.state_join.specs.CanonicalLaws.{renames-held, renames-none, renames-end}
 use native.Mathlib.Omega.{arith}
 use borrow.Author.Needs.{needs}
@@ -66,7 +67,7 @@ loop-again c =
       omega arith,
       simp length-set (l .inv .2),
       push-map changeOf (l .list) (l .len) (l .len + 1) _ (renames (l .i + 1) xs) refl (omega arith)
-          ∙ ap (λ (ms : List Change). map changeOf (take (l .len) (l .list)) ++ ms) (sym (ap (renames (l .i)) (locals-step (a .t1) (a .n) ((c .before .before .before .before .before .before .before .count) .result) h ((c .before .before .before .before .before .before .before .count) .ensures) (l .i) (omega arith)) ∙ renames-held (l .i) (localOf (getD (a .t1) (l .i) no-local)) _ xs (sym (ap operandOf ((c .before .v) .given .1)) ∙ (c .before .before .before .value-of) .ensures)))
+          ∙ ap (λ (ms : List Change). map changeOf (take (l .len) (l .list)) ++ ms) (sym (ap (renames (l .i)) (local-next (a .t1) (a .n) ((c .before .before .before .before .before .before .before .count) .result) h ((c .before .before .before .before .before .before .before .count) .ensures) (l .i) (omega arith)) ∙ renames-held (l .i) (localOf (getD (a .t1) (l .i) no-local)) _ xs (sym (ap operandOf ((c .before .v) .given .1)) ∙ (c .before .before .before .value-of) .ensures)))
           ∙ l .inv .3,
     )
 
@@ -88,7 +89,7 @@ loop-again-2 c =
       omega arith,
       omega arith,
       l .inv .2,
-      ap (λ (ms : List Change). map changeOf (take (l .len) (l .list)) ++ ms) (sym (ap (renames (l .i)) (locals-step (a .t1) (a .n) ((c .before .before .before .before .before .before .count) .result) h ((c .before .before .before .before .before .before .count) .ensures) (l .i) (omega arith)) ∙ renames-none (l .i) (localOf (getD (a .t1) (l .i) no-local)) xs (sym (ap operandOf ((c .enum-told) .given .1)) ∙ (c .before .before .value-of) .ensures)))
+      ap (λ (ms : List Change). map changeOf (take (l .len) (l .list)) ++ ms) (sym (ap (renames (l .i)) (local-next (a .t1) (a .n) ((c .before .before .before .before .before .before .count) .result) h ((c .before .before .before .before .before .before .count) .ensures) (l .i) (omega arith)) ∙ renames-none (l .i) (localOf (getD (a .t1) (l .i) no-local)) xs (sym (ap operandOf ((c .enum-told) .given .1)) ∙ (c .before .before .value-of) .ensures)))
           ∙ l .inv .3,
     )
 

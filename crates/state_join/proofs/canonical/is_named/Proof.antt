@@ -9,7 +9,8 @@ use Rattle.meaning.specs.Base.{any}
 use Rattle.meaning.specs.State.{eqLocal}
 use Rattle.meaning.specs.State as S
 use Rattle.abstract_state.specs.Models.{localsIn, localOf, operandOf}
-use Rattle.state_join.specs.LocalLaws.{no-local, locals-step, locals-end}
+use Rattle.abstract_state.specs.ModelLaws.{no-local}
+use Rattle.state_join.specs.LocalLaws.{local-next, locals-end}
 use Rattle.state_join.specs.CanonicalLaws.{named-held, named-none}
 use native.Mathlib.Omega.{arith}
 use borrow.Author.Needs.{needs}
@@ -28,7 +29,7 @@ turn c b e =
     let l = (c .before .loop) in
     let h : length (a .t1) ≡ 16 = search length-of-map in
     ap (λ (x : Bool). x || any (λ y. eqLocal y (S.Local.ref (a .id .0))) (drop (l .i + 1) (localsIn (a .t1) (a .n)))) (sym e)
-    ∙ ap (λ (xs : List S.Local). any (λ y. eqLocal y (S.Local.ref (a .id .0))) xs) (sym (locals-step (a .t1) (a .n) ((c .before .before .count) .result) h ((c .before .before .count) .ensures) (l .i) (omega arith))) ∙ l .inv
+    ∙ ap (λ (xs : List S.Local). any (λ y. eqLocal y (S.Local.ref (a .id .0))) xs) (sym (local-next (a .t1) (a .n) ((c .before .before .count) .result) h ((c .before .before .count) .ensures) (l .i) (omega arith))) ∙ l .inv
 
 count-requires : tie.Need-count-requires Inv-loop μ-loop
 count-requires c κs = search needs

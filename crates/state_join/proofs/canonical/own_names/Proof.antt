@@ -6,7 +6,8 @@ use Rattle.meaning.specs.ArrayLaws.{length-of-map}
 use Rattle.meaning.specs.State as S
 use Rattle.meaning.specs.Rename.{ownNames}
 use Rattle.abstract_state.specs.Models.{localOf, localsIn}
-use Rattle.state_join.specs.LocalLaws.{no-local, locals-step, locals-end, written, all-written}
+use Rattle.abstract_state.specs.ModelLaws.{no-local}
+use Rattle.state_join.specs.LocalLaws.{local-next, locals-end, written, all-written}
 use Rattle.state_join.specs.CanonicalLaws.{own-step, own-end}
 use native.Mathlib.Omega.{arith}
 use borrow.Author.Needs.{needs}
@@ -57,7 +58,7 @@ loop-again c =
       omega arith,
       simp length-set (l .inv .1),
       written (l .out) (l .i) _ _ (l .inv .2) ((c .own-name) .result) (ownNames (l .i + 1) xs) (omega arith)
-          (ap (ownNames (l .i)) (locals-step (a .t1) (a .n) ((c .before .before .before .before .count) .result) h ((c .before .before .before .before .count) .ensures) (l .i) (omega arith)) ∙ own-step (l .i) (localOf (getD (a .t1) (l .i) no-local)) xs ∙ ap (λ (y : S.Local). y ∷ ownNames (l .i + 1) xs) (sym ((c .own-name) .ensures))),
+          (ap (ownNames (l .i)) (local-next (a .t1) (a .n) ((c .before .before .before .before .count) .result) h ((c .before .before .before .before .count) .ensures) (l .i) (omega arith)) ∙ own-step (l .i) (localOf (getD (a .t1) (l .i) no-local)) xs ∙ ap (λ (y : S.Local). y ∷ ownNames (l .i + 1) xs) (sym ((c .own-name) .ensures))),
     )
 
 returns : tie.Need-returns Inv-loop μ-loop

@@ -14,7 +14,8 @@ use Rattle.borrow_graph.specs.ModelLaws.{told-yes}
 use Rattle.abstract_state.specs.Models.{localOf, localsIn}
 use Rattle.abstract_state.specs.declared.state.Local.{Local}
 use Rattle.state_join.specs.Models.{stepBy, partsOf}
-use Rattle.state_join.specs.LocalLaws.{no-local, locals-count, locals-step, locals-end, locals-all}
+use Rattle.abstract_state.specs.ModelLaws.{no-local}
+use Rattle.state_join.specs.LocalLaws.{locals-are, local-next, locals-end, locals-all}
 use Rattle.state_join.specs.JoinLaws.{after, start, front-next, turn-on, turn-off, idle-step, busy-step, end-equal, end-unequal}
 use native.Mathlib.Omega.{arith}
 use borrow.Author.Needs.{needs}
@@ -43,8 +44,8 @@ goes-on c n g h out e z q =
     let l = (c .before .before .before .before .before .loop) in
     let i : l .i < (c .before .before .before .before .before .before .before .before .before .lesser) .result = (c .before .before .before .before .loop-test) .taken in
     turn-on _ _ (localOf (getD (a .t1 .locals) (l .i) no-local)) (localOf (getD (a .t2 .locals) (l .i) no-local)) _ _ (graphOf (l .p .ours)) (graphOf (l .p .theirs)) (map localOf (take (l .i) (l .p .locals))) _
-    (locals-step (a .t1 .locals) (a .t1 .«num_locals») ((c .before .before .before .before .before .before .before .before .before .before .before .count) .result) (l .inv .2) ((c .before .before .before .before .before .before .before .before .before .before .before .count) .ensures) (l .i) (omega (arith, (c .before .before .before .before .before .before .before .before .before .lesser) .ensures)))
-    (locals-step (a .t2 .locals) (a .t2 .«num_locals») ((c .before .before .before .before .before .before .before .before .before .before .count2) .result) (l .inv .3) ((c .before .before .before .before .before .before .before .before .before .before .count2) .ensures) (l .i) (omega (arith, (c .before .before .before .before .before .before .before .before .before .lesser) .ensures)))
+    (local-next (a .t1 .locals) (a .t1 .«num_locals») ((c .before .before .before .before .before .before .before .before .before .before .before .count) .result) (l .inv .2) ((c .before .before .before .before .before .before .before .before .before .before .before .count) .ensures) (l .i) (omega (arith, (c .before .before .before .before .before .before .before .before .before .lesser) .ensures)))
+    (local-next (a .t2 .locals) (a .t2 .«num_locals») ((c .before .before .before .before .before .before .before .before .before .before .count2) .result) (l .inv .3) ((c .before .before .before .before .before .before .before .before .before .before .count2) .ensures) (l .i) (omega (arith, (c .before .before .before .before .before .before .before .before .before .lesser) .ensures)))
     (l .inv .5) n (record { local = localOf ((c .before .meet) .result .local); ours = g; theirs = h }) (e ∙ (c .before .meet) .ensures (graphOf (l .p .ours)) (graphOf (l .p .theirs))) z (map localOf (take (l .i + 1) out))
     (ap (λ (xs : List Local). map localOf (take (l .i + 1) xs)) q ∙ front-next (l .p .locals) (l .i) ((c .before .meet) .result .local) (omega (arith, l .inv .1, (c .before .before .before .before .before .before .before .before .before .lesser) .ensures, (c .before .before .before .before .before .before .before .before .before .before .before .count) .ensures)))
 
@@ -55,8 +56,8 @@ ends c n g h e z p =
     let l = (c .before .before .before .before .before .loop) in
     let i : l .i < (c .before .before .before .before .before .before .before .before .before .lesser) .result = (c .before .before .before .before .loop-test) .taken in
     turn-off _ _ (localOf (getD (a .t1 .locals) (l .i) no-local)) (localOf (getD (a .t2 .locals) (l .i) no-local)) _ _ (graphOf (l .p .ours)) (graphOf (l .p .theirs)) (map localOf (take (l .i) (l .p .locals))) _
-    (locals-step (a .t1 .locals) (a .t1 .«num_locals») ((c .before .before .before .before .before .before .before .before .before .before .before .count) .result) (l .inv .2) ((c .before .before .before .before .before .before .before .before .before .before .before .count) .ensures) (l .i) (omega (arith, (c .before .before .before .before .before .before .before .before .before .lesser) .ensures)))
-    (locals-step (a .t2 .locals) (a .t2 .«num_locals») ((c .before .before .before .before .before .before .before .before .before .before .count2) .result) (l .inv .3) ((c .before .before .before .before .before .before .before .before .before .before .count2) .ensures) (l .i) (omega (arith, (c .before .before .before .before .before .before .before .before .before .lesser) .ensures)))
+    (local-next (a .t1 .locals) (a .t1 .«num_locals») ((c .before .before .before .before .before .before .before .before .before .before .before .count) .result) (l .inv .2) ((c .before .before .before .before .before .before .before .before .before .before .before .count) .ensures) (l .i) (omega (arith, (c .before .before .before .before .before .before .before .before .before .lesser) .ensures)))
+    (local-next (a .t2 .locals) (a .t2 .«num_locals») ((c .before .before .before .before .before .before .before .before .before .before .count2) .result) (l .inv .3) ((c .before .before .before .before .before .before .before .before .before .before .count2) .ensures) (l .i) (omega (arith, (c .before .before .before .before .before .before .before .before .before .lesser) .ensures)))
     (l .inv .5) n (record { local = localOf ((c .before .meet) .result .local); ours = g; theirs = h }) (e ∙ (c .before .meet) .ensures (graphOf (l .p .ours)) (graphOf (l .p .theirs))) z p
 
 count-requires : tie.Need-count-requires Inv-loop μ-loop
@@ -153,8 +154,8 @@ returns-3 c =
     let ys = localsIn (a .t2 .locals) (a .t2 .«num_locals») in
     let n : ℕ = (c .before .before .before .before .before .before .before .before .count) .result in
     let m : ℕ = (c .before .before .before .before .before .before .before .count2) .result in
-    let p : length (drop (l .i) xs) ≡ n - l .i = length-drop (l .i) xs ∙ ap (λ (k : ℕ). k - l .i) (locals-count (a .t1 .locals) (a .t1 .«num_locals») n (l .inv .2) ((c .before .before .before .before .before .before .before .before .count) .ensures)) in
-    let q : length (drop (l .i) ys) ≡ m - l .i = length-drop (l .i) ys ∙ ap (λ (k : ℕ). k - l .i) (locals-count (a .t2 .locals) (a .t2 .«num_locals») m (l .inv .3) ((c .before .before .before .before .before .before .before .count2) .ensures)) in
+    let p : length (drop (l .i) xs) ≡ n - l .i = length-drop (l .i) xs ∙ ap (λ (k : ℕ). k - l .i) (locals-are (a .t1 .locals) (a .t1 .«num_locals») n (l .inv .2) ((c .before .before .before .before .before .before .before .before .count) .ensures)) in
+    let q : length (drop (l .i) ys) ≡ m - l .i = length-drop (l .i) ys ∙ ap (λ (k : ℕ). k - l .i) (locals-are (a .t2 .locals) (a .t2 .«num_locals») m (l .inv .3) ((c .before .before .before .before .before .before .before .count2) .ensures)) in
     let i : l .i ≡ min n m = omega (arith, (c .before .before .before .before .before .before .lesser) .ensures) in
     let d : (length (drop (l .i) xs) ≡ 0) ⊎ (length (drop (l .i) ys) ≡ 0) = decide (leb n m)
     (λ t. let k : n ≤ m = leb-le t in inl (omega (arith, p, i))) (λ t. let k : m < n = leb-gt t in inr (omega (arith, q, i))) in

@@ -5,7 +5,8 @@ use lib.ListN.{length, drop, getD}
 use Rattle.meaning.specs.ArrayLaws.{length-of-map}
 use Rattle.meaning.specs.State.{eqLocal, eqLocals}
 use Rattle.abstract_state.specs.Models.{localOf, localsIn}
-use Rattle.state_join.specs.LocalLaws.{no-local, locals-step, locals-end}
+use Rattle.abstract_state.specs.ModelLaws.{no-local}
+use Rattle.state_join.specs.LocalLaws.{local-next, locals-end}
 use Rattle.state_join.specs.JoinLaws.{eqLocals-step, eqLocals-end}
 use native.Mathlib.Omega.{arith}
 use borrow.Author.Needs.{needs}
@@ -28,7 +29,7 @@ turn c b e =
     let xs = drop (l .i + 1) (localsIn (a .t1) (a .n)) in
     let ys = drop (l .i + 1) (localsIn (a .t2) (a .n)) in
     ap (λ (x : Bool). x && eqLocals xs ys) e
-    ∙ sym ((λ j. eqLocals (locals-step (a .t1) (a .n) ((c .before .before .count) .result) ha ((c .before .before .count) .ensures) (l .i) (omega arith) j) (locals-step (a .t2) (a .n) ((c .before .before .count) .result) hb ((c .before .before .count) .ensures) (l .i) (omega arith) j)) ∙ eqLocals-step (localOf (getD (a .t1) (l .i) no-local)) (localOf (getD (a .t2) (l .i) no-local)) xs ys) ∙ l .inv
+    ∙ sym ((λ j. eqLocals (local-next (a .t1) (a .n) ((c .before .before .count) .result) ha ((c .before .before .count) .ensures) (l .i) (omega arith) j) (local-next (a .t2) (a .n) ((c .before .before .count) .result) hb ((c .before .before .count) .ensures) (l .i) (omega arith) j)) ∙ eqLocals-step (localOf (getD (a .t1) (l .i) no-local)) (localOf (getD (a .t2) (l .i) no-local)) xs ys) ∙ l .inv
 
 count-requires : tie.Need-count-requires Inv-loop μ-loop
 count-requires c κs = search needs
