@@ -16,7 +16,7 @@ use Rattle.meaning.specs.Lookups as L
 use Rattle.meaning.specs.Borrow.{newName}
 use Rattle.borrow_graph.specs.Models.{told}
 use Rattle.abstract_state.specs.Models.{halted, heeding, failing, needing, localOf, localsIn}
-use Rattle.abstract_state.specs.declared.state.AbstractValue.the-variants.{Reference, NonReference}
+use Rattle.abstract_state.specs.declared.state.AbstractValue.the-variants.{Reference}
 use Rattle.abstract_state.specs.declared.state.Local.{Local}
 
 -- ---- states that stop
@@ -174,9 +174,6 @@ next-named m r a e h = rw (e, sym h) (go a)
     go (refuse k) = refl
 
 -- ---- locals
-
-abbrev pub no-local : Local
-no-local = record { present = false; value = NonReference }
 
 pub local-in : (xs : List Local) (n i : ℕ) (d : Local) → i < n → i < length xs → localOf (getD xs i d) ≡ getD (localsIn xs n) i S.Local.absent
 unfolding localsIn
