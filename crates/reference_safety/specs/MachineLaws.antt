@@ -9,7 +9,7 @@ use Rattle.meaning.specs.Running.{Outcome, done, violated, refused, then, Opera
 use Rattle.meaning.specs.Steps.{Machine, pop, popRef, popValues, popMany, pushed, pushAll, pushNew, unchanged}
 use Rattle.abstract_state.specs.Models.{halted}
 use Rattle.abstract_state.specs.ModelLaws.{halted-then, stays, then-then}
-use Rattle.state_steps.specs.EntryLaws.{link}
+use Rattle.abstract_state.specs.OutcomeLaws.{link}
 use Rattle.operand_stack.specs.Models.{Taken, popOne, popOneRef, popSome, popRest, popUnder, pushEach}
 use Rattle.operand_stack.specs.StackLaws.{stopped-then, went-then, pop-then, ref-then, rest-then, under-then, many-then, each-then, one-then, new-values}
 use Rattle.reference_safety.specs.Models.{with}

@@ -3,7 +3,7 @@ use Rattle.abstract_state.specs.Models.{outcomeOf, runningOf, answerOf}
 use Rattle.operand_stack.specs.Models.{stackOf}
 use Rattle.reference_safety.specs.Models.{machineOf}
 use Rattle.meaning.specs.Steps.{push}
-use Rattle.state_steps.specs.EntryLaws.{link}
+use Rattle.abstract_state.specs.OutcomeLaws.{link}
 use Rattle.reference_safety.specs.BlockLaws.{stepped}
 use borrow.Author.Needs.{needs}
 use Rattle.reference_safety.proofs.block.execute.Statement.{statement}

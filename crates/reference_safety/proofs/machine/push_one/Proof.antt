@@ -2,7 +2,7 @@
 use mathlib.Core.Path.{_∙_}
 use Rattle.abstract_state.specs.Models.{outcomeOf, runningOf, answerOf}
 use Rattle.operand_stack.specs.Models.{stackOf}
-use Rattle.state_steps.specs.EntryLaws.{link}
+use Rattle.abstract_state.specs.OutcomeLaws.{link}
 use Rattle.reference_safety.specs.Models.{machineOf}
 use Rattle.meaning.specs.Running.{valueFor}
 use Rattle.meaning.specs.Steps.{push, pushed}

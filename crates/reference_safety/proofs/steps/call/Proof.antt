@@ -9,7 +9,7 @@ use Rattle.reference_safety.specs.MachineLaws.{many-out, many-on, answer
 use mathlib.Core.List.{map}
 use lib.ListN.{take}
 use Rattle.meaning.specs.Listing.{tokenAs}
-use Rattle.state_steps.specs.EntryLaws.{link}
+use Rattle.abstract_state.specs.OutcomeLaws.{link}
 use Rattle.state_calls.specs.Models.{calledOf}
 use borrow.Author.Needs.{needs}
 use Rattle.reference_safety.proofs.steps.call.Statement.{statement}

@@ -5,7 +5,7 @@ use Rattle.abstract_state.specs.Models.{outcomeOf, answerOf}
 use Rattle.operand_stack.specs.Models.{stackOf}
 use Rattle.reference_safety.specs.Models.{with, machineOf}
 use Rattle.reference_safety.specs.MachineLaws.{ref-out, ref-on}
-use Rattle.state_steps.specs.EntryLaws.{link}
+use Rattle.abstract_state.specs.OutcomeLaws.{link}
 use borrow.Author.Needs.{needs}
 use Rattle.reference_safety.proofs.steps.freeze_ref.Statement.{statement}
 use Rattle.reference_safety.proofs.steps.freeze_ref.Tie as tie

@@ -6,7 +6,7 @@ use Rattle.operand_stack.specs.Models.{stackOf}
 use Rattle.reference_safety.specs.Models.{with, machineOf}
 use Rattle.reference_safety.specs.MachineLaws.{under-out, under-on}
 use Rattle.file_format.specs.Models.{tokenOf}
-use Rattle.state_steps.specs.EntryLaws.{link}
+use Rattle.abstract_state.specs.OutcomeLaws.{link}
 use borrow.Author.Needs.{needs}
 use Rattle.reference_safety.proofs.steps.vector_op.Statement.{statement}
 use Rattle.reference_safety.proofs.steps.vector_op.Tie as tie
