@@ -1,23 +1,14 @@
 //! Our own `verify`, linked as a static library.
 
-use crate::{
-    answer::Answer,
-    kept::{Edge, State},
-    listing,
-};
+use crate::answer::Answer;
+
+#[cfg(feature = "watched")]
+pub use shown::kept_states;
 
 type Function = unsafe extern "C" fn(*const u8, usize, *mut u32, usize, *mut u32, usize) -> bool;
 
 extern "C" {
     fn reference_safety_verify(
-        listing: *const u8,
-        n: usize,
-        area: *mut u32,
-        m: usize,
-        answer: *mut u32,
-        k: usize,
-    ) -> bool;
-    fn reference_safety_analyze(
         listing: *const u8,
         n: usize,
         area: *mut u32,
@@ -77,40 +68,60 @@ fn answered(listing: &[u8], area: &mut [u32]) -> Result<Answer, &'static str> {
     Ok(Answer::of(words))
 }
 
-/// The kept states by entry, of a listing that is read.
-pub fn kept_states(listing: &[u8]) -> Vec<(u16, State)> {
-    let routine = listing::read(listing).expect("a listing that is read");
-    let mut area = vec![USED; AREA];
-    called(reference_safety_analyze, listing, &mut area, &mut [0; 4]);
-    let blocks = routine.blocks.iter().zip(area.chunks(1_024));
-    let mut kept: Vec<(u16, State)> = blocks
-        .filter(|(_, words)| words[0] >> 18 != 0)
-        .map(|(b, words)| (b.entry, state(words, routine.locals)))
-        .collect();
-    kept.sort_by_key(|(entry, _)| *entry);
-    kept
-}
+#[cfg(feature = "watched")]
+mod shown {
+    use super::{called, AREA, USED};
+    use crate::{
+        kept::{Edge, State},
+        listing,
+    };
 
-/// A block's words, as docs/ARCHITECTURE.md has them.
-fn state(words: &[u32], locals: u8) -> State {
-    let mut state = State::default();
-    for local in 0..locals {
-        let word = words[local as usize];
-        match word >> 16 & 3 {
-            0 => continue,
-            1 => state.locals.insert(local, None),
-            _ => state.locals.insert(local, Some((word & 0xFFFF) as usize)),
-        };
+    extern "C" {
+        fn reference_safety_analyze(
+            listing: *const u8,
+            n: usize,
+            area: *mut u32,
+            m: usize,
+            answer: *mut u32,
+            k: usize,
+        ) -> bool;
     }
-    for word in &words[16..][..(words[1] >> 18) as usize] {
-        state.graph.names.insert((word & 0xFFFF) as usize, word >> 16 == 1);
+
+    /// The kept states by entry, of a listing that is read.
+    pub fn kept_states(listing: &[u8]) -> Vec<(u16, State)> {
+        let routine = listing::read(listing).expect("a listing that is read");
+        let mut area = vec![USED; AREA];
+        called(reference_safety_analyze, listing, &mut area, &mut [0; 4]);
+        let blocks = routine.blocks.iter().zip(area.chunks(1_024));
+        let mut kept: Vec<(u16, State)> = blocks
+            .filter(|(_, words)| words[0] >> 18 != 0)
+            .map(|(b, words)| (b.entry, state(words, routine.locals)))
+            .collect();
+        kept.sort_by_key(|(entry, _)| *entry);
+        kept
     }
-    for edge in words[64..].chunks(10).take((words[2] >> 18) as usize) {
-        let pair = ((edge[0] >> 16) as usize, (edge[0] & 0xFFFF) as usize);
-        let set = state.graph.sets.entry(pair).or_default();
-        set.blurred = edge[1] & 32 != 0;
-        let path = edge[2..][..(edge[1] & 15) as usize].to_vec();
-        set.edges.push(Edge { strong: edge[1] & 16 != 0, path })
+
+    /// A block's words, as docs/ARCHITECTURE.md has them.
+    fn state(words: &[u32], locals: u8) -> State {
+        let mut state = State::default();
+        for local in 0..locals {
+            let word = words[local as usize];
+            match word >> 16 & 3 {
+                0 => continue,
+                1 => state.locals.insert(local, None),
+                _ => state.locals.insert(local, Some((word & 0xFFFF) as usize)),
+            };
+        }
+        for word in &words[16..][..(words[1] >> 18) as usize] {
+            state.graph.names.insert((word & 0xFFFF) as usize, word >> 16 == 1);
+        }
+        for edge in words[64..].chunks(10).take((words[2] >> 18) as usize) {
+            let pair = ((edge[0] >> 16) as usize, (edge[0] & 0xFFFF) as usize);
+            let set = state.graph.sets.entry(pair).or_default();
+            set.blurred = edge[1] & 32 != 0;
+            let path = edge[2..][..(edge[1] & 15) as usize].to_vec();
+            set.edges.push(Edge { strong: edge[1] & 16 != 0, path })
+        }
+        state
     }
-    state
 }

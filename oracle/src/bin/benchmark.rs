@@ -20,7 +20,7 @@ const LOOPS: usize = 100;
 type Side<'a> = (&'static str, Box<dyn Fn(usize) + 'a>);
 
 fn main() {
-    let rounds = env::args().nth(1).map_or(15, |a| a.parse().expect("a number"));
+    let rounds = env::args().nth(1).map_or(40, |a| a.parse().expect("a number"));
     let loads: Vec<Vec<u8>> = (0..10_000).map(|start| load::listing(start, 100)).collect();
     whole("(a) A7's routines, starts 0 to 9,999, 100 draws", &loads, rounds);
     whole("(b) accepted routines with loops in loops", &loops(), rounds);
