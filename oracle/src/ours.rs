@@ -7,16 +7,23 @@ pub use shown::kept_states;
 
 type Function = unsafe extern "C" fn(*const u8, usize, *mut u32, usize, *mut u32, usize) -> bool;
 
-extern "C" {
-    fn reference_safety_verify(
-        listing: *const u8,
-        n: usize,
-        area: *mut u32,
-        m: usize,
-        answer: *mut u32,
-        k: usize,
-    ) -> bool;
+/// Both functions of the library take the listing, the area and the answer, each with its length.
+macro_rules! exported {
+    ($name:ident) => {
+        extern "C" {
+            fn $name(
+                listing: *const u8,
+                n: usize,
+                area: *mut u32,
+                m: usize,
+                answer: *mut u32,
+                k: usize,
+            ) -> bool;
+        }
+    };
 }
+
+exported!(reference_safety_verify);
 
 pub const AREA: usize = 16_384;
 const BEYOND: usize = 16;
@@ -76,16 +83,7 @@ mod shown {
         listing,
     };
 
-    extern "C" {
-        fn reference_safety_analyze(
-            listing: *const u8,
-            n: usize,
-            area: *mut u32,
-            m: usize,
-            answer: *mut u32,
-            k: usize,
-        ) -> bool;
-    }
+    exported!(reference_safety_analyze);
 
     /// The kept states by entry, of a listing that is read.
     pub fn kept_states(listing: &[u8]) -> Vec<(u16, State)> {
