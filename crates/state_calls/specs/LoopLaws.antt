@@ -1,15 +1,14 @@
 -- Calls in a row, each on the state that the last one left.
-use Prim.Native.Nat.{ℕ, suc, _+_}
+use Prim.Native.Nat.{ℕ, _+_}
 use mathlib.Core.Path.{_≡_, refl, sym, ap, _∙_}
-use mathlib.Core.Bool.{Bool, true, false, _&&_, cond}
+use mathlib.Core.Bool.{Bool, true, false, _&&_}
 use mathlib.Core.List.{List, [], _∷_}
-use lib.Dec.{eqb, ltb}
+use lib.Dec.{eqb}
 use lib.ListN.{drop}
 use Rattle.meaning.specs.Base.{Ans, ok, guard}
 use Rattle.meaning.specs.Graph.{Graph, wellFormed, held}
 use Rattle.meaning.specs.Lookups as L
-use Rattle.meaning.specs.Borrow.{newName}
-use Rattle.meaning.specs.Running.{Outcome, done, violated, refused, then, lift, fails, needs, known, Running, newRef}
+use Rattle.meaning.specs.Running.{Outcome, done, violated, refused, then, fails, needs, known, Running}
 use Rattle.abstract_state.specs.Models.{halted, heeding, failing}
 use Rattle.abstract_state.specs.ModelLaws.{here, halted-then, then-then}
 

@@ -1,5 +1,5 @@
 -- The entry points as the code makes them: one call after the other, each on the state that the last one left.
-use Prim.Native.Nat.{ℕ, suc}
+use Prim.Native.Nat.{ℕ}
 use mathlib.Core.Path.{_≡_, refl, sym, ap, _∙_}
 use mathlib.Core.Bool.{Bool, true, false, not, _&&_, _||_, cond}
 use mathlib.Core.Option.{Option, none, some}
@@ -9,9 +9,8 @@ use Rattle.meaning.specs.Base.{Ans, ok, refuse, guard, ok-inj, refuse≢ok}
 use Rattle.meaning.specs.Labels.{localLabel, globalLabel, fieldLabel}
 use Rattle.meaning.specs.Graph.{Graph, wellFormed, held}
 use Rattle.meaning.specs.Lookups as L
-use Rattle.meaning.specs.Borrow.{newName}
 use Rattle.meaning.specs.State.{Local, absent, value, ref}
-use Rattle.meaning.specs.Running.{Outcome, done, violated, refused, then, lift, fails, needs, known, Operand, nonRef, reference, ofRef, Running, Answer, answer, withLocal, isMutable, fullyBorrowed, borrowed, mutablyBorrowed, writable, readable, newRef, addCopy, addBorrow, addFieldBorrow, addLocalBorrow, addResourceBorrow, releaseName, valueFor, copyOf, copyLoc, moveOf, moveLoc, localOf, overwrite, stLoc, freezeRef, comparison, readRef, writeRef, borrowLoc, borrowField, borrowGlobal, moveFrom, vectorTest, vectorOp, vectorElementBorrow}
+use Rattle.meaning.specs.Running.{Outcome, done, violated, refused, then, fails, needs, known, Operand, nonRef, reference, ofRef, Running, Answer, answer, withLocal, isMutable, fullyBorrowed, borrowed, mutablyBorrowed, writable, readable, newRef, addCopy, addBorrow, addFieldBorrow, addLocalBorrow, addResourceBorrow, releaseName, valueFor, copyOf, copyLoc, moveOf, moveLoc, localOf, overwrite, stLoc, freezeRef, comparison, readRef, writeRef, borrowLoc, borrowField, borrowGlobal, moveFrom, vectorTest, vectorOp, vectorElementBorrow}
 use Rattle.borrow_graph.specs.Models.{told}
 use Rattle.abstract_state.specs.Models as M
 use Rattle.abstract_state.specs.Models.{halted, heeding, failing, needing, operandOf}
