@@ -9,7 +9,7 @@ use Rattle.meaning.specs.Area.{keptOf}
 use Rattle.meaning.specs.State.{State, join, changed}
 use Rattle.meaning.specs.Blocks.{Routine, exec, Strong, promised}
 use Rattle.meaning.specs.Loop as M
-use Rattle.meaning.specs.Loop.{Result, Status, fine, failed, Next, at, stopped, Run, blank, step, Verdict, accept, violation, refusal, toNext}
+use Rattle.meaning.specs.Loop.{Result, Status, fine, failed, Next, at, stopped, Run, blank, turn, Verdict, accept, violation, refusal, toNext}
 use Rattle.meaning.specs.Listing.{readListing, read, refused}
 use Rattle.meaning.specs.Verify.{Answered, runOf}
 use Rattle.meaning.specs.FitLaws.{Does, Reached, spreadTo, lowestBy}
@@ -102,7 +102,7 @@ module _ (s : List ℕ) (d : D.Routine) where
     pub fewer : t .visits ≤ t .turns
 
   pub record Turned (ws ws′ : List ℕ) (t r : Tally) : Type 0 where
-    pub step : (x : Run State) → At x ws t → At (step State join changed (exec theRoutine) (theRoutine .blocks) x) ws′ r
+    pub step : (x : Run State) → At x ws t → At (turn State join changed (exec theRoutine) (theRoutine .blocks) x) ws′ r
     pub turns : r .turns ≡ t .turns + 1
     pub fewer : r .visits ≤ r .turns
     pub beyond : drop 16384 ws′ ≡ drop 16384 ws

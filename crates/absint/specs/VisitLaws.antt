@@ -17,10 +17,10 @@ use Rattle.meaning.specs.State.{State, join, changed}
 use Rattle.meaning.specs.Running as R
 use Rattle.meaning.specs.Running.{Outcome, done, Running}
 use Rattle.meaning.specs.Base.{and-l, leb-le, all}
-use Rattle.meaning.specs.Blocks.{Routine, exec, runBlock, firstState, promised, fits, instrsOf, placed as placed-rets}
+use Rattle.meaning.specs.Blocks.{Routine, exec, runBlock, firstState, promised, withinFrame, instrsOf, retsPlaced as placed-rets}
 use Rattle.meaning.specs.BlockLaws.{exec-keeps}
 use Rattle.meaning.specs.Loop as M
-use Rattle.meaning.specs.Loop.{Result, Status, fine, failed, Next, at, stopped, Run, noBlock, step, steps, run, hasEnded}
+use Rattle.meaning.specs.Loop.{Result, Status, fine, failed, Next, at, stopped, Run, noBlock, turn, turns, run, hasEnded}
 use Rattle.meaning.specs.FitLaws as F
 use Rattle.meaning.specs.FitLaws.{Reached}
 use Rattle.meaning.specs.RunLaws as RunLaws
@@ -121,7 +121,7 @@ module _ (s : List ℕ) (d : D.Routine) (count : length (routineOf s d .blocks) 
   pub turned-over : (r : Tally) → keptOf (d .locals) ws i ≡ none → statusesOf r ≡ statusesOf t → nextOf r ≡ at (suc i) → r .visits ≡ t .visits → r .turns ≡ t .turns + 1 → Turned s d ws ws t r
   turned-over r e a b c k =
       record {
-        step = λ x h. moved (step State join changed (exec q) (q .blocks) x) ws r (statusesOf t) (at (suc i)) (t .visits) a b c (F.step-over State join changed (exec q) (q .blocks) x (keptOf (d .locals) ws) (statusesOf t) i (t .visits) (at-next x h) inside e);
+        step = λ x h. moved (turn State join changed (exec q) (q .blocks) x) ws r (statusesOf t) (at (suc i)) (t .visits) a b c (F.step-over State join changed (exec q) (q .blocks) x (keptOf (d .locals) ws) (statusesOf t) i (t .visits) (at-next x h) inside e);
         turns = k;
         fewer = let z : t .visits ≤ t .turns = p .fewer in omega (arith, c, k, z);
         beyond = refl;
@@ -134,7 +134,7 @@ module _ (s : List ℕ) (d : D.Routine) (count : length (routineOf s d .blocks) 
     pub turned-violated : (r : Tally) (c o : ℕ) → exec q i k ≡ Result.violated c o → statusesOf r ≡ set (statusesOf t) i (failed c o) → nextOf r ≡ at (suc i) → r .visits ≡ suc (t .visits) → r .turns ≡ t .turns + 1 → Turned s d ws ws t r
     turned-violated r c o e a b v m =
         record {
-          step = λ x h. moved (step State join changed (exec q) (q .blocks) x) ws r (set (statusesOf t) i (failed c o)) (at (suc i)) (suc (t .visits)) a b v (F.step-violated State join changed (exec q) (q .blocks) x (keptOf (d .locals) ws) (statusesOf t) i (t .visits) (at-next x h) inside k old c o room e);
+          step = λ x h. moved (turn State join changed (exec q) (q .blocks) x) ws r (set (statusesOf t) i (failed c o)) (at (suc i)) (suc (t .visits)) a b v (F.step-violated State join changed (exec q) (q .blocks) x (keptOf (d .locals) ws) (statusesOf t) i (t .visits) (at-next x h) inside k old c o room e);
           turns = m;
           fewer = let z : t .visits ≤ t .turns = p .fewer in omega (arith, v, m, z);
           beyond = refl;
@@ -143,7 +143,7 @@ module _ (s : List ℕ) (d : D.Routine) (count : length (routineOf s d .blocks) 
     pub turned-refused : (r : Tally) (n o : ℕ) → exec q i k ≡ Result.refused n o → statusesOf r ≡ statusesOf t → nextOf r ≡ stopped n o → r .visits ≡ suc (t .visits) → r .turns ≡ t .turns + 1 → Turned s d ws ws t r
     turned-refused r n o e a b v m =
         record {
-          step = λ x h. moved (step State join changed (exec q) (q .blocks) x) ws r (statusesOf t) (stopped n o) (suc (t .visits)) a b v (F.step-refused State join changed (exec q) (q .blocks) x (keptOf (d .locals) ws) (statusesOf t) i (t .visits) (at-next x h) inside k old n o e);
+          step = λ x h. moved (turn State join changed (exec q) (q .blocks) x) ws r (statusesOf t) (stopped n o) (suc (t .visits)) a b v (F.step-refused State join changed (exec q) (q .blocks) x (keptOf (d .locals) ws) (statusesOf t) i (t .visits) (at-next x h) inside k old n o e);
           turns = m;
           fewer = let z : t .visits ≤ t .turns = p .fewer in omega (arith, v, m, z);
           beyond = refl;
@@ -154,7 +154,7 @@ module _ (s : List ℕ) (d : D.Routine) (count : length (routineOf s d .blocks) 
         → SpreadOut (q .blocks) (d .locals) b e ws ws′ u r → Turned s d ws ws′ t r
     turned-ended e b ws′ u r ran same a c v m h =
         record {
-          step = λ x y. moved (step State join changed (exec q) (q .blocks) x) ws′ r (statusesOf r) (nextOf r) (suc (t .visits)) refl refl (h .counts .visits ∙ v)
+          step = λ x y. moved (turn State join changed (exec q) (q .blocks) x) ws′ r (statusesOf r) (nextOf r) (suc (t .visits)) refl refl (h .counts .visits ∙ v)
               (F.step-ended State join changed (exec q) (q .blocks) x (keptOf (d .locals) ws) (statusesOf t) i (t .visits) (at-next x y) inside k old e (keptOf (d .locals) ws′) (statusesOf r) (nextOf r) room ran
               (subst (λ (f : M.Block). F.Does State join changed (exec q) (q .blocks) (F.spreadTo State join changed (exec q) (q .blocks) f e (f .successors)) (keptOf (d .locals) ws) (set (statusesOf t) i fine) (at (suc i)) (keptOf (d .locals) ws′) (statusesOf r) (nextOf r)) same
               (subst (λ (n : Next). F.Does State join changed (exec q) (q .blocks) (F.spreadTo State join changed (exec q) (q .blocks) b e (b .successors)) (keptOf (d .locals) ws) (set (statusesOf t) i fine) n (keptOf (d .locals) ws′) (statusesOf r) (nextOf r)) c
@@ -193,17 +193,17 @@ module _ (s : List ℕ) (d : D.Routine) (promise : promised (routineOf s d) ≡ 
   abbrev r : Routine
   r = routineOf s d
 
-  begun : (k : ℕ) → whole k ≡ steps State join changed (exec r) (r .blocks) k (F.first State join changed (exec r) (r .blocks) (firstState (r .locals) (r .params)))
+  begun : (k : ℕ) → whole k ≡ turns State join changed (exec r) (r .blocks) k (F.first State join changed (exec r) (r .blocks) (firstState (r .locals) (r .params)))
   unfolding run
   begun k = refl
 
-  more : (k : ℕ) → whole (suc k) ≡ step State join changed (exec r) (r .blocks) (whole k)
+  more : (k : ℕ) → whole (suc k) ≡ turn State join changed (exec r) (r .blocks) (whole k)
   unfolding run
   more k = F.steps-more State join changed (exec r) (r .blocks) k (F.first State join changed (exec r) (r .blocks) (firstState (r .locals) (r .params)))
 
   -- the first block has the first state, no other one has any
   pub goes : (ws₀ ws₁ ws : List ℕ) (t : Tally) → 16384 ≤ length ws₀ → Forgotten ws₀ ws₁ → Stored (d .locals) (firstState (r .locals) (r .params)) 0 ws₁ ws → Started t → Going ws₀ ws t
-  unfolding steps
+  unfolding turns
   goes ws₀ ws₁ ws t area f w p =
       record {
         here = subst (λ (n : ℕ). At s d (whole n) ws t) (sym (p .turns))
@@ -278,7 +278,7 @@ pub record Loops (s : List ℕ) (d : D.Routine) (ws₀ ws : List ℕ) (t : Tally
 
 pub promised-small : (q : Routine) → promised q ≡ true → q .locals ≤ 16
 unfolding promised
-promised-small q e = leb-le (and-l (leb (q .locals) 16) (leb (length (q .code)) 512) (and-l (leb (q .locals) 16 && leb (length (q .code)) 512) (all (fits (q .locals)) (q .code) && all (λ b. placed-rets (b .successors) (instrsOf b (q .code))) (q .blocks)) e))
+promised-small q e = leb-le (and-l (leb (q .locals) 16) (leb (length (q .code)) 512) (and-l (leb (q .locals) 16 && leb (length (q .code)) 512) (all (withinFrame (q .locals)) (q .code) && all (λ b. placed-rets (b .successors) (instrsOf b (q .code))) (q .blocks)) e))
 
 -- the loop's test
 pub test-on : (a b : Bool) → (not a && b) ≡ true → (a ≡ false) × (b ≡ true)

@@ -126,7 +126,7 @@ module _ (v n : ℕ) (a : Running) (m : ℕ) (b : Bool) (e : (eqb v 0 && eqb n 0
 
 -- an answer made of another one's, or of two
 module _ {A B : Type 0} (g : Graph) (n : ℕ) where
-  pub told-map : (m : ℕ) (x a : A) (f : A → B) → told m x ≡ L.known g n a → told m (f x) ≡ L.known g n (f a)
+  pub told-map : (m : ℕ) (x a : A) (f : A → B) → told m x ≡ L.ofName g n a → told m (f x) ≡ L.ofName g n (f a)
   told-map m x a f e = inner (eqb m 0) ∙ ap mapped e ∙ outer (wellFormed g && held g n)
     where
       mapped : Ans A → Ans B
@@ -142,10 +142,10 @@ module _ {A B : Type 0} (g : Graph) (n : ℕ) where
       outer false = refl
 
 module _ {A B C : Type 0} (g : Graph) (n : ℕ) where
-  pub told-both : (m k : ℕ) (x a : A) (y b : B) (f : A → B → C) → told m x ≡ L.known g n a → told k y ≡ L.known g n b → told k (f x y) ≡ L.known g n (f a b)
+  pub told-both : (m k : ℕ) (x a : A) (y b : B) (f : A → B → C) → told m x ≡ L.ofName g n a → told k y ≡ L.ofName g n b → told k (f x y) ≡ L.ofName g n (f a b)
   told-both m k x a y b f e h = mapped ∙ go (wellFormed g && held g n) (eqb m 0) e
     where
-      mapped : told k (f x y) ≡ L.known g n (f x b)
+      mapped : told k (f x y) ≡ L.ofName g n (f x b)
       mapped = told-map g n k y b (f x) h
 
       go : (p q : Bool) → cond q (ok x) (refuse m) ≡ guard p 9 (ok a) → guard p 9 (ok (f x b)) ≡ guard p 9 (ok (f a b))

@@ -10,7 +10,7 @@ use Rattle.meaning.specs.Base.{Ans, ok, refuse, andThen, guard, leaves, keep, e
 use Rattle.meaning.specs.Sets.{Edge}
 use Rattle.meaning.specs.Graph.{GEdge, Graph, held, setAt, setTo, between, splice, spliced, without, wellFormed, addEdge, addAll, limit, release}
 use Rattle.meaning.specs.GraphLaws.{wf→inv, room}
-use Rattle.meaning.specs.Flat.{meet, row, rowIf, rows}
+use Rattle.meaning.specs.Flat.{meet, splicedRow, rowIf, splicedRows}
 use Rattle.meaning.specs.SplicedLaws.{spliced-rows}
 use Rattle.meaning.specs.AddLaws.{limit-pass, without-formed, keep-few}
 use Rattle.meaning.specs.PutLaws.{insert-short, add-fits, made-length}
@@ -110,7 +110,7 @@ meet-through n x y = go (eqb n (y .parent))
     go false = refl
 
 spliced-ways : (g : Graph) (n : ℕ) → wellFormed g ≡ true → spliced g n ≡ ways (keep (entering n) (g .edges)) (keep (leaving n) (g .edges))
-unfolding rows row
+unfolding splicedRows splicedRow
 spliced-ways g n w =
     spliced-rows g n (wf→inv g w) ∙ each-kept (entering n) (rowIf n (g .edges)) (λ x. each (keep (leaving n) (g .edges)) (through x))
     (λ x. ap (λ (l : List GEdge). cond (entering n x) l []) (each-kept (leaving n) (meet n x) (through x) (meet-through n x) (g .edges))) (g .edges)

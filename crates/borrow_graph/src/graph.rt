@@ -13,7 +13,7 @@ ghost use Rattle.meaning.specs.Base.{leaves};
 ghost use Rattle.meaning.specs.Graph.{emptyGraph, wellFormed};
 ghost use mathlib.Core.Bool.{cond};
 ghost use Rattle.meaning.specs.Chain as C;
-ghost use Rattle.meaning.specs.Chain.{start, nextCount};
+ghost use Rattle.meaning.specs.Chain.{noEdge, nextCount};
 ghost use Rattle.meaning.specs.Borrow.{newName};
 ghost use Rattle.meaning.specs.Lookups.{mutableOf, containsId, allRefs};
 ghost use Rattle.borrow_graph.specs.Models.{gedgeOf, graphOf, answerOf, toldOf, namesOf};
@@ -73,7 +73,7 @@ pub struct Names {
 impl GraphEdge {
     // What stands before the first edge: no edge joins a name to itself.
     pub(crate) fn none() -> Self
-        ensures { λ r. ⌜ gedgeOf r ≡ start ⌝ }
+        ensures { λ r. ⌜ gedgeOf r ≡ noEdge ⌝ }
     {
         let e = BorrowEdge::weakest();
         Self {

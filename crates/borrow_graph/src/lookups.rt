@@ -10,7 +10,7 @@ use references::references::RefID;
 ghost use mathlib.Core.Path.{_≡_};
 ghost use Rattle.meaning.specs.Base.{keep};
 ghost use Rattle.meaning.specs.Running.{meetsLabel};
-ghost use Rattle.meaning.specs.Lookups.{known, borrowedBy, outEdges, inEdges, betweenEdges};
+ghost use Rattle.meaning.specs.Lookups.{ofName, borrowedBy, outEdges, inEdges, betweenEdges};
 ghost use Rattle.references.specs.Models.{pathOf};
 ghost use Rattle.borrow_graph.specs.Models.{filterOf, gedgeOf, refsOf, edgesOf, heldOf, graphOf, borrowsOf, borrowedOf, listOf};
 ghost use Rattle.borrow_graph.specs.Models as M;
@@ -163,7 +163,7 @@ impl BorrowGraph {
 
     // The edges at a name.
     pub(crate) fn edges_at(self, id: RefID, ends: Ends) -> Edges
-        ensures { λ r. ⌜ listOf r ≡ known (graphOf self) (id .0) (keep (λ x. M.picks ends (x .parent) (x .child)) (heldOf self)) ⌝ }
+        ensures { λ r. ⌜ listOf r ≡ ofName (graphOf self) (id .0) (keep (λ x. M.picks ends (x .parent) (x .child)) (heldOf self)) ⌝ }
     {
         let rs = self.refs;
         let w = self.well_formed();

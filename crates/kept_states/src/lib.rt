@@ -10,7 +10,7 @@ ghost use mathlib.Core.Path.{_≡_};
 ghost use Prim.Native.Nat.{ℕ};
 ghost use Rattle.meaning.specs.Area.{hasBlock, isKept, keptOf, Stored, Forgotten, cleared};
 ghost use Rattle.meaning.specs.Running.{done};
-ghost use Rattle.meaning.specs.Blocks.{start};
+ghost use Rattle.meaning.specs.Blocks.{startMachine};
 ghost use Rattle.abstract_state.specs.Models.{stateOf, outcomeOf};
 ghost use Rattle.kept_states.specs.Models.{loadedOf};
 
@@ -77,7 +77,7 @@ pub fn is_kept(area: &[u32], b: usize) -> bool
 
 // The kept state as a block starts from it: fresh names from L + 1 on.
 pub fn load(area: &[u32], b: usize, num_locals: u8) -> Kept
-    ensures { λ r. ⌜ (loadedOf r ≡ keptOf «num_locals» (now (area .entry)) b) × (outcomeOf (r .state) ≡ done (start «num_locals» (stateOf (r .state)) .state)) ⌝ }
+    ensures { λ r. ⌜ (loadedOf r ≡ keptOf «num_locals» (now (area .entry)) b) × (outcomeOf (r .state) ≡ done (startMachine «num_locals» (stateOf (r .state)) .state)) ⌝ }
 {
     if has_block(area.len(), b) {
         return read::get_kept(area, BLOCK_WORDS * b, num_locals);

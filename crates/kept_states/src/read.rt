@@ -22,9 +22,9 @@ use references::references::RefID;
 ghost use mathlib.Core.Path.{_≡_};
 ghost use Prim.Native.Nat.{_+_, _*_, _≤_, min};
 ghost use lib.ListN.{length};
-ghost use Rattle.meaning.specs.Area.{upTo, localIn, nameIn, labelIn, edgeIn, decode, word, from};
+ghost use Rattle.meaning.specs.Area.{upTo, localIn, nameIn, labelIn, edgeIn, decode, wordAt, wordsFrom};
 ghost use Rattle.meaning.specs.Running.{done};
-ghost use Rattle.meaning.specs.Blocks.{start};
+ghost use Rattle.meaning.specs.Blocks.{startMachine};
 ghost use Rattle.references.specs.Models.{pathOf};
 ghost use Rattle.borrow_graph.specs.Models.{refOf, refsOf, gedgeOf, graphOf};
 ghost use Rattle.abstract_state.specs.Models.{localOf, localsIn, stateOf, outcomeOf};
@@ -79,7 +79,7 @@ fn get_local(w: u32) -> Local
 
 fn get_locals(ws: &[u32], at: usize, num_locals: u8) -> [Local; 16]
     requires { ⌜ at + 16 ≤ length (now ws) ⌝ }
-    ensures { λ r. ⌜ localsIn r «num_locals» ≡ upTo (min «num_locals» 16) (λ i. localIn (from (now (ws .entry)) at i)) ⌝ }
+    ensures { λ r. ⌜ localsIn r «num_locals» ≡ upTo (min «num_locals» 16) (λ i. localIn (wordsFrom (now (ws .entry)) at i)) ⌝ }
 {
     let n = lesser(num_locals as usize, 16);
     let mut out = NO_LOCALS;
@@ -104,7 +104,7 @@ fn get_ref(w: u32) -> Ref
 
 fn get_refs(ws: &[u32], at: usize, n: usize) -> Refs
     requires { ⌜ (at + 48 ≤ length (now ws)) × (n ≤ 48) ⌝ }
-    ensures { λ r. ⌜ refsOf r ≡ upTo n (λ i. nameIn (from (now (ws .entry)) at i)) ⌝ }
+    ensures { λ r. ⌜ refsOf r ≡ upTo n (λ i. nameIn (wordsFrom (now (ws .entry)) at i)) ⌝ }
 {
     let mut out = NO_REFS;
     let mut i: usize = 0;
@@ -121,7 +121,7 @@ fn get_refs(ws: &[u32], at: usize, n: usize) -> Refs
 
 fn get_path(ws: &[u32], at: usize, n: usize) -> Path
     requires { ⌜ (at + 8 ≤ length (now ws)) × (n ≤ 8) ⌝ }
-    ensures { λ r. ⌜ pathOf r ≡ upTo n (λ i. labelIn (from (now (ws .entry)) at i)) ⌝ }
+    ensures { λ r. ⌜ pathOf r ≡ upTo n (λ i. labelIn (wordsFrom (now (ws .entry)) at i)) ⌝ }
 {
     let mut labels = [0u16; MAX_LABELS];
     let mut kinds: u32 = 0;
@@ -143,7 +143,7 @@ fn get_path(ws: &[u32], at: usize, n: usize) -> Path
 
 fn get_edge(ws: &[u32], at: usize) -> GraphEdge
     requires { ⌜ at + 10 ≤ length (now ws) ⌝ }
-    ensures { λ r. ⌜ gedgeOf r ≡ edgeIn (word (now (ws .entry))) at ⌝ }
+    ensures { λ r. ⌜ gedgeOf r ≡ edgeIn (wordAt (now (ws .entry))) at ⌝ }
 {
     let ends = ws[at];
     let marks = ws[at + 1];
@@ -165,7 +165,7 @@ fn get_edge(ws: &[u32], at: usize) -> GraphEdge
 
 fn get_graph(ws: &[u32], at: usize, refs: Refs, n: usize) -> BorrowGraph
     requires { ⌜ (at + 960 ≤ length (now ws)) × (n ≤ 96) ⌝ }
-    ensures { λ r. ⌜ graphOf r ≡ record { names = refsOf refs; edges = upTo n (λ i. edgeIn (word (now (ws .entry))) (at + 10 * i)) } ⌝ }
+    ensures { λ r. ⌜ graphOf r ≡ record { names = refsOf refs; edges = upTo n (λ i. edgeIn (wordAt (now (ws .entry))) (at + 10 * i)) } ⌝ }
 {
     let mut g = BorrowGraph {
         refs: refs,
@@ -182,7 +182,7 @@ fn get_graph(ws: &[u32], at: usize, refs: Refs, n: usize) -> BorrowGraph
 }
 
 fn state_at(locals: [Local; 16], graph: BorrowGraph, num_locals: u8) -> AbstractState
-    ensures { λ r. ⌜ (stateOf r ≡ record { locals = localsIn locals «num_locals»; graph = graphOf graph }) × (outcomeOf r ≡ done (start «num_locals» (stateOf r) .state)) ⌝ }
+    ensures { λ r. ⌜ (stateOf r ≡ record { locals = localsIn locals «num_locals»; graph = graphOf graph }) × (outcomeOf r ≡ done (startMachine «num_locals» (stateOf r) .state)) ⌝ }
 {
     AbstractState {
         violation: 0,
@@ -196,7 +196,7 @@ fn state_at(locals: [Local; 16], graph: BorrowGraph, num_locals: u8) -> Abstract
 }
 
 pub(crate) fn no_state(num_locals: u8) -> AbstractState
-    ensures { λ r. ⌜ outcomeOf r ≡ done (start «num_locals» (stateOf r) .state) ⌝ }
+    ensures { λ r. ⌜ outcomeOf r ≡ done (startMachine «num_locals» (stateOf r) .state) ⌝ }
 {
     let locals = NO_LOCALS;
     let refs = Refs {
@@ -213,7 +213,7 @@ pub(crate) fn no_state(num_locals: u8) -> AbstractState
 
 pub(crate) fn get_kept(ws: &[u32], at: usize, num_locals: u8) -> Kept
     requires { ⌜ at + 1024 ≤ length (now ws) ⌝ }
-    ensures { λ r. ⌜ (loadedOf r ≡ decode «num_locals» (from (now (ws .entry)) at)) × (outcomeOf (r .state) ≡ done (start «num_locals» (stateOf (r .state)) .state)) ⌝ }
+    ensures { λ r. ⌜ (loadedOf r ≡ decode «num_locals» (wordsFrom (now (ws .entry)) at)) × (outcomeOf (r .state) ≡ done (startMachine «num_locals» (stateOf (r .state)) .state)) ⌝ }
 {
     let w = ws[at];
     let n = lesser((ws[at + 1] / LOCAL_END) as usize, MAX_NAMES);

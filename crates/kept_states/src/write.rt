@@ -22,7 +22,7 @@ ghost use mathlib.Core.Path.{_≡_};
 ghost use mathlib.Core.Option.{some};
 ghost use Prim.Native.Nat.{ℕ, _+_, _*_, _≤_, _<_};
 ghost use lib.ListN.{length};
-ghost use Rattle.meaning.specs.Area.{localIn, nameIn, edgeIn, decode, word, from, Forgotten};
+ghost use Rattle.meaning.specs.Area.{localIn, nameIn, edgeIn, decode, wordAt, wordsFrom, Forgotten};
 ghost use Rattle.meaning.specs.AreaLaws.{bit, Frame, Written, WrittenEdges, IsLabel, IsLocal, IsName, IsZero, aboveLocal};
 ghost use Rattle.borrow_graph.specs.Models.{refOf, gedgeOf};
 ghost use Rattle.abstract_state.specs.Models.{localOf, stateOf};
@@ -139,7 +139,7 @@ fn put_labels(ws: &mut [u32], at: usize, labels: [u16; 8], kinds: u16, n: usize)
 
 fn put_edge(ws: &mut [u32], at: usize, x: GraphEdge)
     requires { ⌜ at + 10 ≤ length (now ws) ⌝ }
-    ensures { λ _. ⌜ Frame at 10 (now (ws .entry)) (now (ws .exit)) × (edgeIn (word (now (ws .exit))) at ≡ gedgeOf x) ⌝ }
+    ensures { λ _. ⌜ Frame at 10 (now (ws .entry)) (now (ws .exit)) × (edgeIn (wordAt (now (ws .exit))) at ≡ gedgeOf x) ⌝ }
 {
     let p = x.parent;
     let c = x.child;
@@ -168,7 +168,7 @@ fn put_edges(ws: &mut [u32], at: usize, g: BorrowGraph, n: usize)
 
 pub(crate) fn put_state(ws: &mut [u32], at: usize, s: AbstractState)
     requires { ⌜ at + 1024 ≤ length (now ws) ⌝ }
-    ensures { λ _. ⌜ Frame at 1024 (now (ws .entry)) (now (ws .exit)) × (decode (s .«num_locals») (from (now (ws .exit)) at) ≡ some (stateOf s)) ⌝ }
+    ensures { λ _. ⌜ Frame at 1024 (now (ws .entry)) (now (ws .exit)) × (decode (s .«num_locals») (wordsFrom (now (ws .exit)) at) ≡ some (stateOf s)) ⌝ }
 {
     let locals = s.locals;
     let g = s.borrow_graph;

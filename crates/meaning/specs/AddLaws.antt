@@ -10,7 +10,7 @@ use Rattle.meaning.specs.Base.{Ans, ok, refuse, andThen, keep, decide, a
 use Rattle.meaning.specs.Graph.{Name, GEdge, Graph, held, pairOk, between, addEdge, addAll, limit, without, wellFormed}
 use Rattle.meaning.specs.GraphLaws.{wf→inv, inv→wf, limit-ok, addAll-names, addAll-inv}
 use Rattle.meaning.specs.CallLaws.{without-inv}
-use Rattle.meaning.specs.Borrow.{placeName}
+use Rattle.meaning.specs.Borrow.{putName}
 
 pub limit-pass : (g : Graph) → length (g .edges) ≤ 96 → limit g ≡ ok g
 unfolding limit
@@ -34,13 +34,13 @@ abbrev pub placeAt : ℕ → List Name → ℕ
 placeAt n [] = 0
 placeAt n (b ∷ bs) = cond (ltb n (b .id)) 0 (placeAt n bs + 1)
 
-pub place-name : (a : Name) (ns : List Name) → placeName a ns ≡ take (placeAt (a .id) ns) ns ++ a ∷ drop (placeAt (a .id) ns) ns
-unfolding placeName
+pub place-name : (a : Name) (ns : List Name) → putName a ns ≡ take (placeAt (a .id) ns) ns ++ a ∷ drop (placeAt (a .id) ns) ns
+unfolding putName
 place-name a [] = refl
 place-name a (b ∷ bs) = go (ltb (a .id) (b .id)) (place-name a bs)
   where
-    go : (d : Bool) → placeName a bs ≡ take (placeAt (a .id) bs) bs ++ a ∷ drop (placeAt (a .id) bs) bs
-        → cond d (a ∷ b ∷ bs) (b ∷ placeName a bs) ≡ take (cond d 0 (placeAt (a .id) bs + 1)) (b ∷ bs) ++ a ∷ drop (cond d 0 (placeAt (a .id) bs + 1)) (b ∷ bs)
+    go : (d : Bool) → putName a bs ≡ take (placeAt (a .id) bs) bs ++ a ∷ drop (placeAt (a .id) bs) bs
+        → cond d (a ∷ b ∷ bs) (b ∷ putName a bs) ≡ take (cond d 0 (placeAt (a .id) bs + 1)) (b ∷ bs) ++ a ∷ drop (cond d 0 (placeAt (a .id) bs + 1)) (b ∷ bs)
     go true r = refl
     go false r =
         let z : suc (placeAt (a .id) bs) ≡ placeAt (a .id) bs + 1 = omega arith in

@@ -13,9 +13,9 @@ use Rattle.meaning.specs.State.{State, join, changed}
 use Rattle.meaning.specs.Running.{Outcome, done, violated, refused, Operand, Running}
 use Rattle.meaning.specs.Steps.{Instr, Machine, step}
 use Rattle.meaning.specs.Rename.{canonical}
-use Rattle.meaning.specs.Blocks.{Routine, exec, runFrom, runBlock, instrsOf, start, finish, settle, handOn, renamedEnd, promised}
+use Rattle.meaning.specs.Blocks.{Routine, exec, runFrom, runBlock, instrsOf, startMachine, finish, settle, handOn, renamedEnd, promised}
 use Rattle.meaning.specs.Loop as L
-use Rattle.meaning.specs.Loop.{Result, Block, noBlock, Next, at, stopped, Run, Slot, Spread, spread, afterChange, afterJoin, toKept, toNext, afterBlock, stepAt, steps, run, blank, Verdict, accept, violation, refusal, verdictAt, verdict, lowest}
+use Rattle.meaning.specs.Loop.{Result, Block, noBlock, Next, at, stopped, Run, Slot, Spread, spread, afterChange, afterJoin, toKept, toNext, afterBlock, turnAt, turns, run, blank, Verdict, accept, violation, refusal, verdictAt, verdict, lowest}
 use Rattle.meaning.specs.Listing as S
 use Rattle.meaning.specs.Listing.{Listed, read, Places, noPlaces, ifFine, ifNot, putAt, fullFor, placesFrom, faultAt, faultyBlock, strayRet, firstOf, kindAt, nextAt, bodyAt, localsOf, routineAt, ruled, afterRecords, readPlaces, readListing}
 use Rattle.meaning.specs.ListingLaws.{Ruled, ruled-block, first-none-below, Accepted, accepted, accepted-promised}
@@ -138,7 +138,7 @@ low-exec : (q : Routine) (m i : ℕ) (s : State) → Ruled (length (q .code)) (q
 unfolding exec runBlock instrsOf
 low-exec q m i s r h =
     let b : Block = getD (q .blocks) i noBlock in
-    low-run (q .returns) b s m (omega (arith, r .inside, h)) (take (suc (b .exit - b .entry)) (drop (b .entry) (q .code))) (b .entry) (start (q .locals) s)
+    low-run (q .returns) b s m (omega (arith, r .inside, h)) (take (suc (b .exit - b .entry)) (drop (b .entry) (q .code))) (b .entry) (startMachine (q .locals) s)
     (simp (length-take, length-drop) (omega (arith, r .inside, r .forth, h)))
 
 -- ---- the run
@@ -176,21 +176,21 @@ module _ (ex : ℕ → State → Result State) (bs : List Block) (m : ℕ) (exit
   low-block r i (Result.violated c o) h l = tt
   low-block r i (Result.refused n p) h l = l
 
-  low-ran : (r : Run State) (i : ℕ) (x : Option State) → i < length bs → LowNext m (L.runBlock State join changed ex bs r i x .next)
+  low-ran : (r : Run State) (i : ℕ) (x : Option State) → i < length bs → LowNext m (L.visitBlock State join changed ex bs r i x .next)
   low-ran r i none h = tt
   low-ran r i (some s) h = low-block r i (ex i s) h (results i s h)
 
-  low-at : (r : Run State) (x : Next) → r .next ≡ x → LowNext m x → LowNext m (stepAt State join changed ex bs r x .next)
+  low-at : (r : Run State) (x : Next) → r .next ≡ x → LowNext m x → LowNext m (turnAt State join changed ex bs r x .next)
   low-at r (at i) e l =
       decide (ltb i (length bs))
       (λ d. rw d (low-ran r i (getD (r .slots) i blank .kept) (ltb-true _ _ d)))
       (λ d. rw d (subst (LowNext m) (sym e) l))
   low-at r (stopped n p) e l = subst (LowNext m) (sym e) l
 
-  low-steps : (f : ℕ) (r : Run State) → LowNext m (r .next) → LowNext m (steps State join changed ex bs f r .next)
-  unfolding steps L.step
+  low-steps : (f : ℕ) (r : Run State) → LowNext m (r .next) → LowNext m (turns State join changed ex bs f r .next)
+  unfolding turns L.turn
   low-steps zero r l = l
-  low-steps (suc f) r l = low-steps f (stepAt State join changed ex bs r (r .next)) (low-at r (r .next) refl l)
+  low-steps (suc f) r l = low-steps f (turnAt State join changed ex bs r (r .next)) (low-at r (r .next) refl l)
 
 -- ---- the answer
 

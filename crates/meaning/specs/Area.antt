@@ -20,11 +20,11 @@ upTo zero f = []
 upTo (suc n) f = f 0 ∷ upTo n (λ i. f (suc i))
 
 -- in units of 65,536 the kind, and below that the name of a reference
-abbrev pub localOf : ℕ → ℕ → Local
-localOf kind n = cond (eqb kind 0) absent (cond (eqb kind 1) value (ref n))
+abbrev pub localAs : ℕ → ℕ → Local
+localAs kind n = cond (eqb kind 0) absent (cond (eqb kind 1) value (ref n))
 
 abbrev pub localIn : ℕ → Local
-localIn w = localOf (w / 65536 % 4) (w % 65536)
+localIn w = localAs (w / 65536 % 4) (w % 65536)
 
 -- in units of 65,536 whether it is mutable
 abbrev pub nameIn : ℕ → Name
@@ -71,16 +71,16 @@ abbrev pub hasBlock : ℕ → ℕ → Bool
 hasBlock n b = leb 16384 n && ltb b 16
 
 -- the words, and those from a place on
-abbrev pub word : List ℕ → ℕ → ℕ
-word ws k = getD ws k 0
+abbrev pub wordAt : List ℕ → ℕ → ℕ
+wordAt ws k = getD ws k 0
 
-abbrev pub from : List ℕ → ℕ → ℕ → ℕ
-from ws at k = getD ws (at + k) 0
+abbrev pub wordsFrom : List ℕ → ℕ → ℕ → ℕ
+wordsFrom ws at k = getD ws (at + k) 0
 
 -- the kept state of the block at position b of the list
 unfoldable pub keptOf : ℕ → List ℕ → ℕ → Option State
 unfolding decode
-keptOf l ws b = cond (hasBlock (length ws) b) (decode l (from ws (1024 * b))) none
+keptOf l ws b = cond (hasBlock (length ws) b) (decode l (wordsFrom ws (1024 * b))) none
 
 -- the state s stored for block b: an area without that block stays as it is
 pub record Stored (l : ℕ) (s : State) (b : ℕ) (ws ws′ : List ℕ) : Type 0 where

@@ -15,7 +15,7 @@ use lib.Seq.{getD-set-same, getD-set-other, getD-drop, getD-append-add, ext-getD
 use Rattle.meaning.specs.Base.{decide, both, and-l, and-r, eqb-no, leb-le, le-leb, leb-gt}
 use Rattle.meaning.specs.Graph.{Name, GEdge}
 use Rattle.meaning.specs.State.{State, Local, absent, value, ref}
-use Rattle.meaning.specs.Area.{upTo, localOf, localIn, nameIn, labelIn, edgeOf, edgeIn, stateIn, decode, isKept, hasBlock, word, from, keptOf, Stored, Forgotten, zeros, cleared}
+use Rattle.meaning.specs.Area.{upTo, localAs, localIn, nameIn, labelIn, edgeOf, edgeIn, stateIn, decode, isKept, hasBlock, wordAt, wordsFrom, keptOf, Stored, Forgotten, zeros, cleared}
 
 -- ---- lists given by their elements
 
@@ -129,8 +129,8 @@ bit-back : (n : ℕ) (b : Bool) → n ≡ bit b → eqb n 1 ≡ b
 bit-back n true e = ap (λ (m : ℕ). eqb m 1) e
 bit-back n false e = ap (λ (m : ℕ). eqb m 1) e
 
-pub local-word : (w k n : ℕ) → w / 65536 % 4 ≡ k → w % 65536 ≡ n → localIn w ≡ localOf k n
-local-word w k n p q = λ i. localOf (p i) (q i)
+pub local-word : (w k n : ℕ) → w / 65536 % 4 ≡ k → w % 65536 ≡ n → localIn w ≡ localAs k n
+local-word w k n p q = λ i. localAs (p i) (q i)
 
 pub local-ref : (w : ℕ) → (w / 65536 % 4 ≡ 0 → ⊥) → (w / 65536 % 4 ≡ 1 → ⊥) → localIn w ≡ ref (w % 65536)
 local-ref w a b =
@@ -168,7 +168,7 @@ edge-ext w v at h =
     λ i. record { parent = e i / 65536; child = e i % 65536; blurred = eqb (m i / 32) 1; edge = record { strong = eqb (m i / 16 % 2) 1; path = p i } }
 
 -- an edge of the words from a place on
-pub edge-from : (ws : List ℕ) (at k : ℕ) → edgeIn (from ws at) k ≡ edgeIn (word ws) (at + k)
+pub edge-from : (ws : List ℕ) (at k : ℕ) → edgeIn (wordsFrom ws at) k ≡ edgeIn (wordAt ws) (at + k)
 unfolding edgeIn
 edge-from ws at k =
     let m : at + (k + 1) ≡ at + k + 1 = omega arith in
@@ -190,7 +190,7 @@ module _ (ws us : List ℕ) (at u v n : ℕ) (f : ℕ → ℕ) (h : at + 10 ≤ 
   edge-put-next = q .frame .below (at + 1) (omega arith) ∙ getD-set-same (set ws at u) (at + 1) v 0 (omega (arith, length-set ws at u))
 
   pub edge-put : (p c : ℕ) (b s : Bool) → u ≡ p * 65536 + c → c < 65536 → v ≡ bit b * 32 + bit s * 16 + n
-      → edgeIn (word us) at ≡ record { parent = p; child = c; blurred = b; edge = record { strong = s; path = upTo n f } }
+      → edgeIn (wordAt us) at ≡ record { parent = p; child = c; blurred = b; edge = record { strong = s; path = upTo n f } }
   unfolding edgeIn
   edge-put p c b s e l d =
       edge-words (getD us at 0) (getD us (at + 1) 0) p c n b s (λ i. labelIn (getD us (at + 2 + i) 0)) (edge-put-at ∙ e) l (edge-put-next ∙ d) k
@@ -205,17 +205,17 @@ edge-read w at ls e = λ i. record { parent = w at / 65536; child = w at % 65536
 -- of n edges from `at` on the first i are written
 pub record WrittenEdges (f : ℕ → GEdge) (at n i : ℕ) (ws ws′ : List ℕ) : Type 0 where
   pub frame : Frame at (10 * n) ws ws′
-  pub within : (j : ℕ) → j < i → edgeIn (word ws′) (at + 10 * j) ≡ f j
+  pub within : (j : ℕ) → j < i → edgeIn (wordAt ws′) (at + 10 * j) ≡ f j
 
 module _ (f : ℕ → GEdge) (at n : ℕ) (ws : List ℕ) where
   pub edges-none : WrittenEdges f at n 0 ws ws
-  edges-none = record { frame = frame-none at (10 * n) ws; within = below-none (λ j. edgeIn (word ws) (at + 10 * j) ≡ f j) }
+  edges-none = record { frame = frame-none at (10 * n) ws; within = below-none (λ j. edgeIn (wordAt ws) (at + 10 * j) ≡ f j) }
 
-  pub edges-one : (i : ℕ) (us vs : List ℕ) → i < n → Frame (at + 10 * i) 10 us vs → edgeIn (word vs) (at + 10 * i) ≡ f i → WrittenEdges f at n i ws us → WrittenEdges f at n (i + 1) ws vs
+  pub edges-one : (i : ℕ) (us vs : List ℕ) → i < n → Frame (at + 10 * i) 10 us vs → edgeIn (wordAt vs) (at + 10 * i) ≡ f i → WrittenEdges f at n i ws us → WrittenEdges f at n (i + 1) ws vs
   edges-one i us vs h q e p = record {
     frame = frame-then (omega arith) (omega arith) (p .frame) q;
-    within = below-more (λ j. edgeIn (word vs) (at + 10 * j) ≡ f j) i
-        (λ j k. edge-ext (word vs) (word us) (at + 10 * j) (λ m a b. q .below m (omega arith)) ∙ p .within j k)
+    within = below-more (λ j. edgeIn (wordAt vs) (at + 10 * j) ≡ f j) i
+        (λ j k. edge-ext (wordAt vs) (wordAt us) (at + 10 * j) (λ m a b. q .below m (omega arith)) ∙ p .within j k)
         e;
   }
 
@@ -240,19 +240,19 @@ decode-ext l w v h =
 -- a block's words, read
 pub kept-read : (l at n m : ℕ) (ws : List ℕ) → n ≡ min (getD ws (at + 1) 0 / 262144) 48 → m ≡ min (getD ws (at + 2) 0 / 262144) 96
     → cond (not (eqb (getD ws at 0 / 262144) 0))
-    (some (record { locals = upTo (min l 16) (λ i. localIn (from ws at i)); graph = record { names = upTo n (λ i. nameIn (from ws (at + 16) i)); edges = upTo m (λ i. edgeIn (word ws) (at + 64 + 10 * i)) } }))
-    none ≡ decode l (from ws at)
+    (some (record { locals = upTo (min l 16) (λ i. localIn (wordsFrom ws at i)); graph = record { names = upTo n (λ i. nameIn (wordsFrom ws (at + 16) i)); edges = upTo m (λ i. edgeIn (wordAt ws) (at + 64 + 10 * i)) } }))
+    none ≡ decode l (wordsFrom ws at)
 unfolding decode
 kept-read l at n m ws en em =
-    let a : List Local = upTo (min l 16) (λ i. localIn (from ws at i)) in
+    let a : List Local = upTo (min l 16) (λ i. localIn (wordsFrom ws at i)) in
     let z : at ≡ at + 0 = omega arith in
-    let b : upTo n (λ i. nameIn (from ws (at + 16) i)) ≡ upTo (min (from ws at 1 / 262144) 48) (λ i. nameIn (from ws at (16 + i))) =
-    upTo-same n (min (from ws at 1 / 262144) 48) (λ i. nameIn (from ws (at + 16) i)) (λ i. nameIn (from ws at (16 + i))) en
+    let b : upTo n (λ i. nameIn (wordsFrom ws (at + 16) i)) ≡ upTo (min (wordsFrom ws at 1 / 262144) 48) (λ i. nameIn (wordsFrom ws at (16 + i))) =
+    upTo-same n (min (wordsFrom ws at 1 / 262144) 48) (λ i. nameIn (wordsFrom ws (at + 16) i)) (λ i. nameIn (wordsFrom ws at (16 + i))) en
     (λ i k. let e : at + 16 + i ≡ at + (16 + i) = omega arith in ap (λ (j : ℕ). nameIn (getD ws j 0)) e) in
-    let c : upTo m (λ i. edgeIn (word ws) (at + 64 + 10 * i)) ≡ upTo (min (from ws at 2 / 262144) 96) (λ i. edgeIn (from ws at) (64 + 10 * i)) =
-    upTo-same m (min (from ws at 2 / 262144) 96) (λ i. edgeIn (word ws) (at + 64 + 10 * i)) (λ i. edgeIn (from ws at) (64 + 10 * i)) em
-    (λ i k. let e : at + 64 + 10 * i ≡ at + (64 + 10 * i) = omega arith in ap (λ (j : ℕ). edgeIn (word ws) j) e ∙ sym (edge-from ws at (64 + 10 * i))) in
-    flip (eqb (getD ws at 0 / 262144) 0) (some (record { locals = a; graph = record { names = upTo n (λ i. nameIn (from ws (at + 16) i)); edges = upTo m (λ i. edgeIn (word ws) (at + 64 + 10 * i)) } }))
+    let c : upTo m (λ i. edgeIn (wordAt ws) (at + 64 + 10 * i)) ≡ upTo (min (wordsFrom ws at 2 / 262144) 96) (λ i. edgeIn (wordsFrom ws at) (64 + 10 * i)) =
+    upTo-same m (min (wordsFrom ws at 2 / 262144) 96) (λ i. edgeIn (wordAt ws) (at + 64 + 10 * i)) (λ i. edgeIn (wordsFrom ws at) (64 + 10 * i)) em
+    (λ i k. let e : at + 64 + 10 * i ≡ at + (64 + 10 * i) = omega arith in ap (λ (j : ℕ). edgeIn (wordAt ws) j) e ∙ sym (edge-from ws at (64 + 10 * i))) in
+    flip (eqb (getD ws at 0 / 262144) 0) (some (record { locals = a; graph = record { names = upTo n (λ i. nameIn (wordsFrom ws (at + 16) i)); edges = upTo m (λ i. edgeIn (wordAt ws) (at + 64 + 10 * i)) } }))
     ∙ (λ i. cond (eqb (getD ws (z i) 0 / 262144) 0) none (some (record { locals = a; graph = record { names = b i; edges = c i } })))
   where
     flip : (b : Bool) (x : Option State) → cond (not b) x none ≡ cond b none x
@@ -293,23 +293,23 @@ module _ (f : ℕ → Local) (g : ℕ → Name) (h : ℕ → GEdge) (at n m : �
       let e : at + (16 + k) ≡ at + 16 + k = omega arith in
       ap (λ (j : ℕ). getD us j 0) e ∙ r .frame .below (at + 16 + k) (omega arith)
 
-  upper : (k : ℕ) → k < 16 → from us at k / 262144 ≡ aboveLocal n m k
+  upper : (k : ℕ) → k < 16 → wordsFrom us at k / 262144 ≡ aboveLocal n m k
   upper k l = ap (λ (x : ℕ). x / 262144) (word-kept k l) ∙ p .within k l .1
 
-  pub put-decode : (l : ℕ) → decode l (from us at) ≡ some (record { locals = upTo (min l 16) f; graph = record { names = upTo n g; edges = upTo m h } })
+  pub put-decode : (l : ℕ) → decode l (wordsFrom us at) ≡ some (record { locals = upTo (min l 16) f; graph = record { names = upTo n g; edges = upTo m h } })
   unfolding decode
   put-decode l =
       let z = upper 0 (omega arith) in
-      let a : upTo (min l 16) (λ i. localIn (from us at i)) ≡ upTo (min l 16) f =
-      upTo-ext (min l 16) (λ i. localIn (from us at i)) f (λ i k. ap localIn (word-kept i (omega arith)) ∙ p .within i (omega arith) .0) in
-      let bn : min (from us at 1 / 262144) 48 ≡ n = omega (arith, upper 1 (omega arith)) in
-      let b : upTo (min (from us at 1 / 262144) 48) (λ i. nameIn (from us at (16 + i))) ≡ upTo n g =
-      upTo-same (min (from us at 1 / 262144) 48) n (λ i. nameIn (from us at (16 + i))) g bn (λ i k. ap nameIn (name-kept i (omega arith)) ∙ q .within i k) in
-      let cn : min (from us at 2 / 262144) 96 ≡ m = omega (arith, upper 2 (omega arith)) in
-      let c : upTo (min (from us at 2 / 262144) 96) (λ i. edgeIn (from us at) (64 + 10 * i)) ≡ upTo m h =
-      upTo-same (min (from us at 2 / 262144) 96) m (λ i. edgeIn (from us at) (64 + 10 * i)) h cn
+      let a : upTo (min l 16) (λ i. localIn (wordsFrom us at i)) ≡ upTo (min l 16) f =
+      upTo-ext (min l 16) (λ i. localIn (wordsFrom us at i)) f (λ i k. ap localIn (word-kept i (omega arith)) ∙ p .within i (omega arith) .0) in
+      let bn : min (wordsFrom us at 1 / 262144) 48 ≡ n = omega (arith, upper 1 (omega arith)) in
+      let b : upTo (min (wordsFrom us at 1 / 262144) 48) (λ i. nameIn (wordsFrom us at (16 + i))) ≡ upTo n g =
+      upTo-same (min (wordsFrom us at 1 / 262144) 48) n (λ i. nameIn (wordsFrom us at (16 + i))) g bn (λ i k. ap nameIn (name-kept i (omega arith)) ∙ q .within i k) in
+      let cn : min (wordsFrom us at 2 / 262144) 96 ≡ m = omega (arith, upper 2 (omega arith)) in
+      let c : upTo (min (wordsFrom us at 2 / 262144) 96) (λ i. edgeIn (wordsFrom us at) (64 + 10 * i)) ≡ upTo m h =
+      upTo-same (min (wordsFrom us at 2 / 262144) 96) m (λ i. edgeIn (wordsFrom us at) (64 + 10 * i)) h cn
       (λ i k. let e : at + (64 + 10 * i) ≡ at + 64 + 10 * i = omega arith in
-      edge-from us at (64 + 10 * i) ∙ ap (λ (j : ℕ). edgeIn (word us) j) e ∙ r .within i k) in
+      edge-from us at (64 + 10 * i) ∙ ap (λ (j : ℕ). edgeIn (wordAt us) j) e ∙ r .within i k) in
       λ i. cond (eqb (z i) 0) none (some (record { locals = a i; graph = record { names = b i; edges = c i } }))
 
 -- ---- the area
@@ -326,20 +326,20 @@ drop-same at n m ws us h p =
     ext-getD 0 (drop m us) (drop m ws) (length-drop m us ∙ omega (arith, p .size, length-drop m ws)) (λ i k. getD-drop m us i 0 ∙ p .above (m + i) (omega arith) ∙ sym (getD-drop m ws i 0))
 
 -- other blocks have the words that they had
-other-same : (b c k : ℕ) (ws us : List ℕ) → c ≢ b → k < 1024 → Frame (1024 * b) 1024 ws us → from us (1024 * c) k ≡ from ws (1024 * c) k
+other-same : (b c k : ℕ) (ws us : List ℕ) → c ≢ b → k < 1024 → Frame (1024 * b) 1024 ws us → wordsFrom us (1024 * c) k ≡ wordsFrom ws (1024 * c) k
 other-same b c k ws us d h p =
     decide (leb (suc c) b)
     (λ e. let l : c < b = leb-le e in p .below (1024 * c + k) (omega arith))
     (λ e. let l : b < suc c = leb-gt e in p .above (1024 * c + k) (omega arith))
 
-pub stored : (l : ℕ) (s : State) (b : ℕ) (ws us : List ℕ) → hasBlock (length ws) b ≡ true → Frame (1024 * b) 1024 ws us → decode l (from us (1024 * b)) ≡ some s → Stored l s b ws us
+pub stored : (l : ℕ) (s : State) (b : ℕ) (ws us : List ℕ) → hasBlock (length ws) b ≡ true → Frame (1024 * b) 1024 ws us → decode l (wordsFrom us (1024 * b)) ≡ some s → Stored l s b ws us
 unfolding keptOf
 stored l s b ws us h p e =
     let k : b < 16 = has-block (length ws) b h .1 in
     record {
-      kept = kept-cond (hasBlock (length us) b) (hasBlock (length ws) b) (decode l (from us (1024 * b))) (some s) (ap (λ (n : ℕ). hasBlock n b) (p .size)) (λ t. e);
-      others = λ m c d. kept-cond (hasBlock (length us) c) (hasBlock (length ws) c) (decode m (from us (1024 * c))) (decode m (from ws (1024 * c))) (ap (λ (n : ℕ). hasBlock n c) (p .size))
-          (λ t. decode-ext m (from us (1024 * c)) (from ws (1024 * c)) (λ j q. other-same b c j ws us d q p));
+      kept = kept-cond (hasBlock (length us) b) (hasBlock (length ws) b) (decode l (wordsFrom us (1024 * b))) (some s) (ap (λ (n : ℕ). hasBlock n b) (p .size)) (λ t. e);
+      others = λ m c d. kept-cond (hasBlock (length us) c) (hasBlock (length ws) c) (decode m (wordsFrom us (1024 * c))) (decode m (wordsFrom ws (1024 * c))) (ap (λ (n : ℕ). hasBlock n c) (p .size))
+          (λ t. decode-ext m (wordsFrom us (1024 * c)) (wordsFrom ws (1024 * c)) (λ j q. other-same b c j ws us d q p));
       beyond = drop-same (1024 * b) 1024 16384 ws us (omega arith) p;
       short = λ f. absurd (both h f);
     }
@@ -347,20 +347,20 @@ stored l s b ws us h p e =
 pub not-stored : (l : ℕ) (s : State) (b : ℕ) (ws : List ℕ) → hasBlock (length ws) b ≡ false → Stored l s b ws ws
 unfolding keptOf
 not-stored l s b ws h = record {
-  kept = ap (λ (t : Bool). cond t (decode l (from ws (1024 * b))) none) h ∙ sym (ap (λ (t : Bool). cond t (some s) none) h);
+  kept = ap (λ (t : Bool). cond t (decode l (wordsFrom ws (1024 * b))) none) h ∙ sym (ap (λ (t : Bool). cond t (some s) none) h);
   others = λ m c d. refl;
   beyond = refl;
   short = λ f. refl;
 }
 
 -- what a block's words say, in an area that has the block, and in one that has not
-pub kept-in : (l : ℕ) (ws : List ℕ) (b : ℕ) → hasBlock (length ws) b ≡ true → keptOf l ws b ≡ decode l (from ws (1024 * b))
+pub kept-in : (l : ℕ) (ws : List ℕ) (b : ℕ) → hasBlock (length ws) b ≡ true → keptOf l ws b ≡ decode l (wordsFrom ws (1024 * b))
 unfolding keptOf
-kept-in l ws b h = ap (λ (t : Bool). cond t (decode l (from ws (1024 * b))) none) h
+kept-in l ws b h = ap (λ (t : Bool). cond t (decode l (wordsFrom ws (1024 * b))) none) h
 
 pub kept-out : (l : ℕ) (ws : List ℕ) (b : ℕ) → hasBlock (length ws) b ≡ false → keptOf l ws b ≡ none
 unfolding keptOf
-kept-out l ws b h = ap (λ (t : Bool). cond t (decode l (from ws (1024 * b))) none) h
+kept-out l ws b h = ap (λ (t : Bool). cond t (decode l (wordsFrom ws (1024 * b))) none) h
 
 -- whether a block has a kept state
 cond-kept : (b : Bool) (s : State) → isKept (cond b none (some s)) ≡ not b
@@ -371,7 +371,7 @@ pub is-kept : (l : ℕ) (ws : List ℕ) (b : ℕ) → hasBlock (length ws) b ≡
 unfolding decode
 is-kept l ws b h =
     let z : 1024 * b + 0 ≡ 1024 * b = omega arith in
-    ap isKept (kept-in l ws b h) ∙ cond-kept (eqb (from ws (1024 * b) 0 / 262144) 0) (stateIn l (from ws (1024 * b))) ∙ ap (λ (k : ℕ). not (eqb (getD ws k 0 / 262144) 0)) z
+    ap isKept (kept-in l ws b h) ∙ cond-kept (eqb (wordsFrom ws (1024 * b) 0 / 262144) 0) (stateIn l (wordsFrom ws (1024 * b))) ∙ ap (λ (k : ℕ). not (eqb (getD ws k 0 / 262144) 0)) z
 
 -- ---- the cleared area
 
@@ -442,13 +442,13 @@ forgotten i ws us h p = record {
   beyond = drop-same 0 16384 16384 ws us (omega arith) (p .frame);
 }
   where
-    gone : (l b : ℕ) (t : Bool) → hasBlock (length us) b ≡ t → cond t (decode l (from us (1024 * b))) none ≡ none
+    gone : (l b : ℕ) (t : Bool) → hasBlock (length us) b ≡ t → cond t (decode l (wordsFrom us (1024 * b))) none ≡ none
     gone l b false e = refl
     gone l b true e =
         let k : b < 16 = has-block (length us) b e .1 in
         let j : 1024 * b + 0 ≡ 1024 * b = omega arith in
-        let z : from us (1024 * b) 0 ≡ 0 = ap (λ (m : ℕ). getD us m 0) j ∙ p .firsts b (omega arith) in
-        ap (λ (x : ℕ). cond (eqb (x / 262144) 0) none (some (stateIn l (from us (1024 * b))))) z
+        let z : wordsFrom us (1024 * b) 0 ≡ 0 = ap (λ (m : ℕ). getD us m 0) j ∙ p .firsts b (omega arith) in
+        ap (λ (x : ℕ). cond (eqb (x / 262144) 0) none (some (stateIn l (wordsFrom us (1024 * b))))) z
 
 -- a shorter area has no blocks
 pub forgotten-short : (ws : List ℕ) → length ws < 16384 → Forgotten ws ws

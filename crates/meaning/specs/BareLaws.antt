@@ -8,10 +8,10 @@ use lib.ListN.{length}
 use lib.Dec.{leb, ltb, eqb}
 use Rattle.meaning.specs.Base.{Ans, ok, refuse, andThen, guard, all, keep, and-i, le-leb}
 use Rattle.meaning.specs.Graph.{Name, GEdge, Graph, holds, held, pairOk, wellFormed, addAll, limit, between, spliced, without, release, unmatched, sameNames, joinGraphs}
-use Rattle.meaning.specs.Borrow.{placeName, newName, borrowWeak, moves, shift, borrowStrong}
+use Rattle.meaning.specs.Borrow.{putName, newName, borrowWeak, moves, shift, borrowStrong}
 use Rattle.meaning.specs.State.{count1}
 use Rattle.meaning.specs.OwnLaws.{times, count-yes, Owns, owns-held, owns-room, not-yet}
-use Rattle.meaning.specs.Running.{Outcome, needs, known}
+use Rattle.meaning.specs.Running.{Outcome, needs, needsName}
 
 guard-yes : {A : Type 0} (b : Bool) (n : ℕ) (k : Ans A) → b ≡ true → guard b n k ≡ k
 guard-yes true n k e = refl
@@ -22,14 +22,14 @@ needs-yes true n k e = refl
 needs-yes false n k e = absurd (false≢true e)
 
 module _ (l : ℕ) (g : Graph) (next : ℕ) (xs : List ℕ) (m : ℕ) (o : Owns l g next xs m) where
-  pub known-bare : {A : Type 0} (n : ℕ) (k : Outcome A) → 1 ≤ times n (l ∷ xs) → known g n k ≡ k
+  pub known-bare : {A : Type 0} (n : ℕ) (k : Outcome A) → 1 ≤ times n (l ∷ xs) → needsName g n k ≡ k
   known-bare n k u = needs-yes (wellFormed g && held g n) 9 k (and-i (o .formed) (owns-held l g next xs m o n u))
 
   pub release-bare : (n : ℕ) → 1 ≤ times n (l ∷ xs) → release g n ≡ andThen (addAll (spliced g n) (without g n)) limit
   unfolding release
   release-bare n u = guard-yes (wellFormed g && held g n) 9 (andThen (addAll (spliced g n) (without g n)) limit) (and-i (o .formed) (owns-held l g next xs m o n u))
 
-  pub newName-bare : (b : Bool) → length xs ≤ 46 → newName g next b ≡ ok (record { names = placeName (record { id = next; mutable = b }) (g .names); edges = g .edges })
+  pub newName-bare : (b : Bool) → length xs ≤ 46 → newName g next b ≡ ok (record { names = putName (record { id = next; mutable = b }) (g .names); edges = g .edges })
   unfolding newName
   newName-bare b k =
       let a : length (g .names) ≤ suc (length xs) = owns-room l g next xs m o in

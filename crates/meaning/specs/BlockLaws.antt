@@ -19,7 +19,7 @@ use Rattle.meaning.specs.RunningLaws.{Meets, met, broke, barred, Keeps}
 use Rattle.meaning.specs.Steps.{Instr, Pop, CopyLoc, MoveLoc, StLoc, FreezeRef, Compare, ReadRef, WriteRef, BorrowLoc, BorrowField, BorrowGlobal, MoveFrom, Call, Ret, Values, MoveTo, VectorOp, BorrowElement, Machine, stepOn, step}
 use Rattle.meaning.specs.StepLaws.{local-use, Good, Fine, good-less, step-fine, any-ret}
 use Rattle.meaning.specs.Loop.{Result, Block, noBlock}
-use Rattle.meaning.specs.Blocks.{Routine, instrsOf, start, renamedEnd, handOn, finish, settle, runFrom, runBlock, exec, Strong, fits, isRet, placed, promised}
+use Rattle.meaning.specs.Blocks.{Routine, instrsOf, startMachine, renamedEnd, handOn, finish, settle, runFrom, runBlock, exec, Strong, withinFrame, isRet, retsPlaced, promised}
 
 -- ---- references in locals
 
@@ -116,7 +116,7 @@ strong-owns l m s b h =
         absurd (both (h .refs n (subst (λ (i : ℕ). getD (s .locals) i absent ≡ ref n) (sym w) (y .1))) e)) (λ z. leb-gt {m = 1} z) in
         omega arith
 
-start-good : (l m : ℕ) (s : State) → suc l + m ≤ 65536 → Strong l s → Good l m [] (start l s .state)
+start-good : (l m : ℕ) (s : State) → suc l + m ≤ 65536 → Strong l s → Good l m [] (startMachine l s .state)
 start-good l m s b h = record { count = h .form .count; keeps = record { root = refl; locals = refl; own = strong-owns l m s b h } }
 
 -- ---- the end of a block
@@ -194,20 +194,20 @@ module _ (l : ℕ) (small : l ≤ 16) (returns : ℕ) (b : Block) (s : State) (s
       go [] es w = go₁ (b .successors) w
       go (v ∷ vs) es w = bars refl
 
-  runFrom-ends : (o : ℕ) (is : List Instr) (k : ℕ) (m : Machine) → all (fits l) is ≡ true → placed (b .successors) is ≡ true → Fine l k m → 17 * length is ≤ k → Ends (Strong l) (runFrom returns b s o is m)
-  unfolding runFrom placed step
+  runFrom-ends : (o : ℕ) (is : List Instr) (k : ℕ) (m : Machine) → all (withinFrame l) is ≡ true → retsPlaced (b .successors) is ≡ true → Fine l k m → 17 * length is ≤ k → Ends (Strong l) (runFrom returns b s o is m)
+  unfolding runFrom retsPlaced step
   runFrom-ends o [] k m f p h c = finish-ends k (m .state) (m .stack) (h .good)
   runFrom-ends o (i ∷ is) k m f p h c =
-      let p₁ : not (isRet i) || (empty is && empty (b .successors)) ≡ true = and-l (not (isRet i) || (empty is && empty (b .successors))) (placed (b .successors) is) p in
-      let p₂ : placed (b .successors) is ≡ true = and-r (not (isRet i) || (empty is && empty (b .successors))) (placed (b .successors) is) p in
+      let p₁ : not (isRet i) || (empty is && empty (b .successors)) ≡ true = and-l (not (isRet i) || (empty is && empty (b .successors))) (retsPlaced (b .successors) is) p in
+      let p₂ : retsPlaced (b .successors) is ≡ true = and-r (not (isRet i) || (empty is && empty (b .successors))) (retsPlaced (b .successors) is) p in
       let e : length (i ∷ is) ≡ suc (length is) = refl in
       decide (isRet i)
       (λ q. let w : empty is && empty (b .successors) ≡ true = subst (λ (x : Bool). not x || (empty is && empty (b .successors)) ≡ true) q p₁ in
       settle-ends o (λ n. runFrom returns b s (suc o) is n) (any-ret l small returns i q k (m .stack) (m .state) (h .good))
       (λ n u. after-ret (suc o) is n (and-l (empty is) (empty (b .successors)) w) (and-r (empty is) (empty (b .successors)) w)))
       (λ q. settle-ends o (λ n. runFrom returns b s (suc o) is n)
-      (step-fine l small returns i (m .stack) (17 * length is) (m .state) (and-l (fits l i) (all (fits l) is) f) q (good-less l small k (17 * length is + 17) (m .stack) (m .state) (h .good) (omega arith)) (h .few))
-      (λ n u. runFrom-ends (suc o) is (17 * length is) n (and-r (fits l i) (all (fits l) is) f) p₂ u (omega arith)))
+      (step-fine l small returns i (m .stack) (17 * length is) (m .state) (and-l (withinFrame l i) (all (withinFrame l) is) f) q (good-less l small k (17 * length is + 17) (m .stack) (m .state) (h .good) (omega arith)) (h .few))
+      (λ n u. runFrom-ends (suc o) is (17 * length is) n (and-r (withinFrame l i) (all (withinFrame l) is) f) p₂ u (omega arith)))
 
 -- ---- the blocks of a routine
 
@@ -238,8 +238,8 @@ module _ {A : Type 0} where
   drop-le (suc n) [] = zero-le
   drop-le (suc n) (x ∷ xs) = let h : length (drop n xs) ≤ length xs = drop-le n xs in omega arith
 
-no-block : (code : List Instr) → placed (noBlock .successors) (instrsOf noBlock code) ≡ true
-unfolding placed instrsOf
+no-block : (code : List Instr) → retsPlaced (noBlock .successors) (instrsOf noBlock code) ≡ true
+unfolding retsPlaced instrsOf
 no-block [] = refl
 no-block (i ∷ is) = go (isRet i)
   where
@@ -253,18 +253,18 @@ unfolding promised exec runBlock instrsOf
 exec-ends q h i s strong =
     let b : Block = getD (q .blocks) i noBlock in
     let is : List Instr = take (suc (b .exit - b .entry)) (drop (b .entry) (q .code)) in
-    let f : Block → Bool = λ c. placed (c .successors) (instrsOf c (q .code)) in
+    let f : Block → Bool = λ c. retsPlaced (c .successors) (instrsOf c (q .code)) in
     let x : Bool = leb (q .locals) 16 && leb (length (q .code)) 512 in
-    let y : Bool = all (fits (q .locals)) (q .code) && all f (q .blocks) in
+    let y : Bool = all (withinFrame (q .locals)) (q .code) && all f (q .blocks) in
     let h₁ : x ≡ true = and-l x y h in
     let h₂ : y ≡ true = and-r x y h in
     let small : q .locals ≤ 16 = leb-le (and-l (leb (q .locals) 16) (leb (length (q .code)) 512) h₁) in
     let most : length (q .code) ≤ 512 = leb-le (and-r (leb (q .locals) 16) (leb (length (q .code)) 512) h₁) in
     let l₁ : length is ≤ length (drop (b .entry) (q .code)) = take-le (suc (b .exit - b .entry)) (drop (b .entry) (q .code)) in
     let l₂ : length (drop (b .entry) (q .code)) ≤ length (q .code) = drop-le (b .entry) (q .code) in
-    runFrom-ends (q .locals) small (q .returns) b s strong (b .entry) is (17 * length is) (start (q .locals) s)
-    (all-take (fits (q .locals)) (suc (b .exit - b .entry)) (drop (b .entry) (q .code)) (all-drop (fits (q .locals)) (b .entry) (q .code) (and-l (all (fits (q .locals)) (q .code)) (all f (q .blocks)) h₂)))
-    (all-getD f (q .blocks) i noBlock (and-r (all (fits (q .locals)) (q .code)) (all f (q .blocks)) h₂) (no-block (q .code)))
+    runFrom-ends (q .locals) small (q .returns) b s strong (b .entry) is (17 * length is) (startMachine (q .locals) s)
+    (all-take (withinFrame (q .locals)) (suc (b .exit - b .entry)) (drop (b .entry) (q .code)) (all-drop (withinFrame (q .locals)) (b .entry) (q .code) (and-l (all (withinFrame (q .locals)) (q .code)) (all f (q .blocks)) h₂)))
+    (all-getD f (q .blocks) i noBlock (and-r (all (withinFrame (q .locals)) (q .code)) (all f (q .blocks)) h₂) (no-block (q .code)))
     (record { good = start-good (q .locals) (17 * length is) s (omega arith) strong; few = zero-le }) (omega arith)
 
 abbrev isEnded : Result State → Type 0

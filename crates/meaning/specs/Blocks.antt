@@ -25,8 +25,8 @@ unfoldable pub instrsOf : Block → List Instr → List Instr
 instrsOf b is = take (suc (b .exit - b .entry)) (drop (b .entry) is)
 
 -- a block starts with an empty stack, and fresh names start at L + 1
-abbrev pub start : ℕ → State → Machine
-start l s = record { state = record { locals = s .locals; graph = s .graph; next = suc l; root = l }; stack = [] }
+abbrev pub startMachine : ℕ → State → Machine
+startMachine l s = record { state = record { locals = s .locals; graph = s .graph; next = suc l; root = l }; stack = [] }
 
 abbrev pub renamedEnd : ℕ → Ans State → Result State
 renamedEnd exit (ok t) = Result.ended t
@@ -56,7 +56,7 @@ runFrom returns b s o (i ∷ is) m = settle o (step returns i m) (λ n. runFrom 
 
 unfoldable pub runBlock : Routine → Block → State → Result State
 unfolding runFrom instrsOf
-runBlock q b s = runFrom (q .returns) b s (b .entry) (instrsOf b (q .code)) (start (q .locals) s)
+runBlock q b s = runFrom (q .returns) b s (b .entry) (instrsOf b (q .code)) (startMachine (q .locals) s)
 
 -- the block at a position of the list, from a kept state
 unfoldable pub exec : Routine → ℕ → State → Result State
@@ -92,25 +92,25 @@ pub record Strong (l : ℕ) (s : State) : Type 0 where
 
 -- ---- what the reader promises (refusals 3, 5 and 6)
 
-abbrev pub fits : ℕ → Instr → Bool
-fits l Pop = true
-fits l (CopyLoc a) = true
-fits l (MoveLoc a) = true
-fits l (StLoc a) = ltb a l
-fits l FreezeRef = true
-fits l Compare = true
-fits l ReadRef = true
-fits l WriteRef = true
-fits l (BorrowLoc a b) = true
-fits l (BorrowField a b) = true
-fits l (BorrowGlobal a b) = true
-fits l (MoveFrom a) = true
-fits l (Call a b c) = leb (length c) 8
-fits l Ret = true
-fits l (Values a b c) = true
-fits l MoveTo = true
-fits l (VectorOp a b c d) = true
-fits l (BorrowElement a) = true
+abbrev pub withinFrame : ℕ → Instr → Bool
+withinFrame l Pop = true
+withinFrame l (CopyLoc a) = true
+withinFrame l (MoveLoc a) = true
+withinFrame l (StLoc a) = ltb a l
+withinFrame l FreezeRef = true
+withinFrame l Compare = true
+withinFrame l ReadRef = true
+withinFrame l WriteRef = true
+withinFrame l (BorrowLoc a b) = true
+withinFrame l (BorrowField a b) = true
+withinFrame l (BorrowGlobal a b) = true
+withinFrame l (MoveFrom a) = true
+withinFrame l (Call a b c) = leb (length c) 8
+withinFrame l Ret = true
+withinFrame l (Values a b c) = true
+withinFrame l MoveTo = true
+withinFrame l (VectorOp a b c d) = true
+withinFrame l (BorrowElement a) = true
 
 abbrev pub isRet : Instr → Bool
 isRet Pop = false
@@ -133,13 +133,13 @@ isRet (VectorOp a b c d) = false
 isRet (BorrowElement a) = false
 
 -- Ret stands only at the exit of a block without successors
-unfoldable pub placed : List ℕ → List Instr → Bool
-placed es [] = true
-placed es (i ∷ is) = (not (isRet i) || (empty is && empty es)) && placed es is
+unfoldable pub retsPlaced : List ℕ → List Instr → Bool
+retsPlaced es [] = true
+retsPlaced es (i ∷ is) = (not (isRet i) || (empty is && empty es)) && retsPlaced es is
 
 unfoldable pub promised : Routine → Bool
-unfolding placed instrsOf
+unfolding retsPlaced instrsOf
 promised q =
     (leb (q .locals) 16 && leb (length (q .code)) 512)
-    && (all (fits (q .locals)) (q .code)
-    && all (λ b. placed (b .successors) (instrsOf b (q .code))) (q .blocks))
+    && (all (withinFrame (q .locals)) (q .code)
+    && all (λ b. retsPlaced (b .successors) (instrsOf b (q .code))) (q .blocks))

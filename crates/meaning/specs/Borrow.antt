@@ -9,17 +9,17 @@ use Rattle.meaning.specs.Base.{Ans, ok, refuse, andThen, guard, all, kee
 use Rattle.meaning.specs.Sets.{Edge, prefix}
 use Rattle.meaning.specs.Graph.{Name, GEdge, Graph, holds, held, pairOk, notBefore, wellFormed, addEdge, addAll, limit, between}
 
-unfoldable pub placeName : Name → List Name → List Name
-placeName a [] = a ∷ []
-placeName a (b ∷ bs) = cond (ltb (a .id) (b .id)) (a ∷ b ∷ bs) (b ∷ placeName a bs)
+unfoldable pub putName : Name → List Name → List Name
+putName a [] = a ∷ []
+putName a (b ∷ bs) = cond (ltb (a .id) (b .id)) (a ∷ b ∷ bs) (b ∷ putName a bs)
 
 unfoldable pub newName : Graph → ℕ → Bool → Ans Graph
-unfolding wellFormed holds placeName
+unfolding wellFormed holds putName
 newName g n m =
     guard (wellFormed g) 9
     (guard (not (held g n)) 8
     (guard (leb (suc (length (g .names))) 48) 23
-    (ok (record { names = placeName (record { id = n; mutable = m }) (g .names); edges = g .edges }))))
+    (ok (record { names = putName (record { id = n; mutable = m }) (g .names); edges = g .edges }))))
 
 unfoldable pub borrowWeak : Graph → ℕ → List ℕ → ℕ → Ans Graph
 unfolding wellFormed holds addEdge limit

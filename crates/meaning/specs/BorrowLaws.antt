@@ -13,7 +13,7 @@ use Rattle.meaning.specs.SetLaws.{setOk-unblurred, setOk-blurred, eqEdge
 use Rattle.meaning.specs.Graph.{Name, GEdge, Graph, holds, held, eqPair, union, one, setAt, ascending, pairOk, onPairs, wellFormed, addAll, limit, between}
 use Rattle.meaning.specs.GraphLaws.{solid, nonEmpty, setAt-solid, Inv, wf→inv, inv→wf, room, limit-ok, addAll-names, addAll-pairs, addAll-inv, inOrder-keep}
 use Rattle.meaning.specs.CallLaws.{endsNot}
-use Rattle.meaning.specs.Borrow.{placeName, newName, borrowWeak, moves, shift, borrowStrong}
+use Rattle.meaning.specs.Borrow.{putName, newName, borrowWeak, moves, shift, borrowStrong}
 
 -- ---- some edges taken out
 
@@ -181,8 +181,8 @@ borrowStrong-law g p path c h e =
 
 -- ---- a new name
 
-pub holds-place : (a : Name) (ns : List Name) (k : ℕ) → holds (placeName a ns) k ≡ eqb k (a .id) || holds ns k
-unfolding placeName holds
+pub holds-place : (a : Name) (ns : List Name) (k : ℕ) → holds (putName a ns) k ≡ eqb k (a .id) || holds ns k
+unfolding putName holds
 holds-place a [] k = refl
 holds-place a (b ∷ bs) k = go (ltb (a .id) (b .id)) (holds-place a bs k)
   where
@@ -191,30 +191,30 @@ holds-place a (b ∷ bs) k = go (ltb (a .id) (b .id)) (holds-place a bs k)
     swap true false z = refl
     swap false y z = refl
 
-    go : (d : Bool) → holds (placeName a bs) k ≡ eqb k (a .id) || holds bs k → holds (cond d (a ∷ b ∷ bs) (b ∷ placeName a bs)) k ≡ eqb k (a .id) || holds (b ∷ bs) k
+    go : (d : Bool) → holds (putName a bs) k ≡ eqb k (a .id) || holds bs k → holds (cond d (a ∷ b ∷ bs) (b ∷ putName a bs)) k ≡ eqb k (a .id) || holds (b ∷ bs) k
     go true h = refl
     go false h = ap (λ (z : Bool). eqb k (b .id) || z) h ∙ swap (eqb k (b .id)) (eqb k (a .id)) (holds bs k)
 
-pub length-place : (a : Name) (ns : List Name) → length (placeName a ns) ≡ suc (length ns)
-unfolding placeName
+pub length-place : (a : Name) (ns : List Name) → length (putName a ns) ≡ suc (length ns)
+unfolding putName
 length-place a [] = refl
 length-place a (b ∷ bs) = go (ltb (a .id) (b .id)) (length-place a bs)
   where
-    go : (d : Bool) → length (placeName a bs) ≡ suc (length bs) → length (cond d (a ∷ b ∷ bs) (b ∷ placeName a bs)) ≡ suc (suc (length bs))
+    go : (d : Bool) → length (putName a bs) ≡ suc (length bs) → length (cond d (a ∷ b ∷ bs) (b ∷ putName a bs)) ≡ suc (suc (length bs))
     go true h = refl
     go false h = ap suc h
 
-all-place : (f : Name → Bool) (a : Name) (ns : List Name) → f a ≡ true → all f ns ≡ true → all f (placeName a ns) ≡ true
-unfolding placeName
+all-place : (f : Name → Bool) (a : Name) (ns : List Name) → f a ≡ true → all f ns ≡ true → all f (putName a ns) ≡ true
+unfolding putName
 all-place f a [] h k = and-i h refl
 all-place f a (b ∷ bs) h k = go (ltb (a .id) (b .id)) (all-place f a bs h (and-r (f b) (all f bs) k))
   where
-    go : (d : Bool) → all f (placeName a bs) ≡ true → all f (cond d (a ∷ b ∷ bs) (b ∷ placeName a bs)) ≡ true
+    go : (d : Bool) → all f (putName a bs) ≡ true → all f (cond d (a ∷ b ∷ bs) (b ∷ putName a bs)) ≡ true
     go true r = and-i h k
     go false r = and-i (and-l (f b) (all f bs) k) r
 
-pub ascending-place : (a : Name) (ns : List Name) → ltb (a .id) 65536 ≡ true → holds ns (a .id) ≡ false → ascending ns ≡ true → ascending (placeName a ns) ≡ true
-unfolding placeName ascending holds
+pub ascending-place : (a : Name) (ns : List Name) → ltb (a .id) 65536 ≡ true → holds ns (a .id) ≡ false → ascending ns ≡ true → ascending (putName a ns) ≡ true
+unfolding putName ascending holds
 ascending-place a [] u n h = and-i (and-i u refl) refl
 ascending-place a (b ∷ bs) u n h = go (ltb (a .id) (b .id)) refl (ascending-place a bs u (no-r (eqb (a .id) (b .id)) (holds bs (a .id)) n) (and-r (ltb (b .id) 65536 && all f bs) (ascending bs) h))
   where
@@ -232,7 +232,7 @@ ascending-place a (b ∷ bs) u n h = go (ltb (a .id) (b .id)) refl (ascending-pl
     h1 : ltb (b .id) 65536 && all f bs ≡ true
     h1 = and-l (ltb (b .id) 65536 && all f bs) (ascending bs) h
 
-    go : (d : Bool) → ltb (a .id) (b .id) ≡ d → ascending (placeName a bs) ≡ true → ascending (cond d (a ∷ b ∷ bs) (b ∷ placeName a bs)) ≡ true
+    go : (d : Bool) → ltb (a .id) (b .id) ≡ d → ascending (putName a bs) ≡ true → ascending (cond d (a ∷ b ∷ bs) (b ∷ putName a bs)) ≡ true
     go true e r =
         and-i (and-i u (and-i e (all-imp f (λ m. ltb (a .id) (m .id))
         (λ m k. let x : a .id < b .id = leb-le e in let y : b .id < m .id = leb-le k in let z : a .id < m .id = omega arith in le-leb z) bs (and-r (ltb (b .id) 65536) (all f bs) h1)))) h
@@ -251,18 +251,18 @@ pub newName-law : (g : Graph) (n : ℕ) (m : Bool) (h : Graph) → n < 65536 →
 unfolding newName
 newName-law g n m h l e =
     let a : Name = record { id = n; mutable = m } in
-    let k : Graph = record { names = placeName a (g .names); edges = g .edges } in
+    let k : Graph = record { names = putName a (g .names); edges = g .edges } in
     let z = guard-ok (wellFormed g) 9 (guard (not (held g n)) 8 (guard (leb (suc (length (g .names))) 48) 23 (ok k))) h e in
     let y = guard-ok (not (held g n)) 8 (guard (leb (suc (length (g .names))) 48) 23 (ok k)) h (z .1) in
     let x = guard-ok (leb (suc (length (g .names))) 48) 23 (ok k) h (y .1) in
     let v : Inv g = wf→inv g (z .0) in
-    let len : length (placeName a (g .names)) ≡ suc (length (g .names)) = length-place a (g .names) in
+    let len : length (putName a (g .names)) ≡ suc (length (g .names)) = length-place a (g .names) in
     let few : suc (length (g .names)) ≤ 48 = leb-le (x .0) in
     subst (λ (j : Graph). Named g n j) (ok-inj (x .1)) (record {
       formed = inv→wf k (record {
         few = omega arith;
         asc = ascending-place a (g .names) (le-leb l) (not-true (y .0)) (v .asc);
-        pairs = all-imp (λ w. pairOk (g .names) (w .parent) (w .child)) (λ w. pairOk (placeName a (g .names)) (w .parent) (w .child)) (λ w q. more (w .parent) (w .child) a q) (g .edges) (v .pairs);
+        pairs = all-imp (λ w. pairOk (g .names) (w .parent) (w .child)) (λ w. pairOk (putName a (g .names)) (w .parent) (w .child)) (λ w q. more (w .parent) (w .child) a q) (g .edges) (v .pairs);
         sets = v .sets;
         order = v .order;
       }) (room g (z .0));
@@ -270,7 +270,7 @@ newName-law g n m h l e =
       holding = λ i. holds-place a (g .names) i;
     })
   where
-    more : (p c : ℕ) (a : Name) → pairOk (g .names) p c ≡ true → pairOk (placeName a (g .names)) p c ≡ true
+    more : (p c : ℕ) (a : Name) → pairOk (g .names) p c ≡ true → pairOk (putName a (g .names)) p c ≡ true
     more p c a q =
         let q1 : holds (g .names) c && not (eqb p c) ≡ true = and-r (holds (g .names) p) (holds (g .names) c && not (eqb p c)) q in
         and-i (holds-place a (g .names) p ∙ or-r (eqb p (a .id)) (and-l (holds (g .names) p) (holds (g .names) c && not (eqb p c)) q))

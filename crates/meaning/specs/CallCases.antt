@@ -9,7 +9,7 @@ use lib.Dec.{leb}
 use Rattle.meaning.specs.Base.{Ans, ok, refuse, andThen, guard, decide, leb-le, le-leb}
 use Rattle.meaning.specs.Sets.{Edge}
 use Rattle.meaning.specs.Graph.{GEdge, Graph, Name, held, pairOk, between, addEdge, addAll, limit, wellFormed}
-use Rattle.meaning.specs.Borrow.{placeName, newName, borrowWeak}
+use Rattle.meaning.specs.Borrow.{putName, newName, borrowWeak}
 use Rattle.meaning.specs.AddLaws.{placeAt, place-name, add-one-edge}
 
 module _ (g : Graph) (n : ℕ) (m : Bool) where
@@ -34,7 +34,7 @@ module _ (g : Graph) (n : ℕ) (m : Bool) where
       unfolding newName
       new-ok l ns e =
           let k : leb (suc (length (g .names))) 48 ≡ true = le-leb l in
-          let z : ns ≡ placeName (record { id = n; mutable = m }) (g .names) = e ∙ sym (place-name (record { id = n; mutable = m }) (g .names)) in
+          let z : ns ≡ putName (record { id = n; mutable = m }) (g .names) = e ∙ sym (place-name (record { id = n; mutable = m }) (g .names)) in
           rw (w, h, k) (λ i. ok (record { names = z i; edges = g .edges }))
 
 module _ (g : Graph) (p : ℕ) (path : List ℕ) (c : ℕ) where

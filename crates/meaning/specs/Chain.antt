@@ -24,8 +24,8 @@ chain q k y [] = true
 chain q k y (x ∷ xs) = (q (x .parent) (x .child) && link k y x) && chain q (nextCount k y x) x xs
 
 -- what stands before the first edge: no edge joins 0 to itself
-abbrev pub start : GEdge
-start = record { parent = 0; child = 0; blurred = false; edge = weakest }
+abbrev pub noEdge : GEdge
+noEdge = record { parent = 0; child = 0; blurred = false; edge = weakest }
 
 -- the same for names: each at least m, and above the one before
 abbrev pub climbs : ℕ → List Name → Bool

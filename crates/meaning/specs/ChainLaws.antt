@@ -14,7 +14,7 @@ use Rattle.meaning.specs.SetLaws.{eqEdge-eq, setOk-blurred, setOk-unblur
 use Rattle.meaning.specs.Graph.{Name, GEdge, Graph, eqPair, ltPair, union, one, setAt, onPairs, notBefore, inOrder, isBefore, holds, pairOk, ascending, wellFormed}
 use Rattle.meaning.specs.GraphLaws.{eqPair-self, eqPair-l, eqPair-r, eqPair-sym, not-before-self, ltPair-trans, at-or-empty, empty-ok, setAt-solid, solid, all-any}
 use Rattle.meaning.specs.CanonLaws.{setAt-hit, setAt-miss, setAt-head, none-before, same-pair, rest-plain, setOk-lone, solid-no, isBlur-one}
-use Rattle.meaning.specs.Chain.{same, link, nextCount, chain, start, climbs}
+use Rattle.meaning.specs.Chain.{same, link, nextCount, chain, noEdge, climbs}
 
 pub iff-eq : (a b : Bool) → (a ≡ true → b ≡ true) → (b ≡ true → a ≡ true) → a ≡ b
 iff-eq true b f g = sym (f refl)
@@ -303,8 +303,8 @@ module _ (q : ℕ → ℕ → Bool) where
 
 -- ---- all of wellFormed
 
-start-early : (xs : List GEdge) → all (notBefore start) xs ≡ true
-start-early xs = all-any (notBefore start) (λ x. go (x .parent) (x .child)) xs
+start-early : (xs : List GEdge) → all (notBefore noEdge) xs ≡ true
+start-early xs = all-any (notBefore noEdge) (λ x. go (x .parent) (x .child)) xs
   where
     go : (m n : ℕ) → not (ltPair 0 0 m n) ≡ true
     go m n = decide (ltPair 0 0 m n) (λ t. absurd (no (or-cases (ltb m 0) (eqb m 0 && ltb n 0) t))) (λ t. ap not t)
@@ -318,14 +318,14 @@ start-early xs = all-any (notBefore start) (λ x. go (x .parent) (x .child)) xs
 
 -- a test of pairs that (0, 0) fails
 pub chain-ok : (q : ℕ → ℕ → Bool) → q 0 0 ≡ false → (xs : List GEdge)
-    → chain q 0 start xs ≡ onPairs q xs && (onPairs (λ p c. setOk (setAt p c xs)) xs && inOrder xs)
-chain-ok q none0 xs = iff-eq (chain q 0 start xs) (onPairs q xs && (onPairs (λ p c. setOk (setAt p c xs)) xs && inOrder xs))
-    (λ h. let r : Linked q 0 start xs = chain-linked q 0 start xs (omega arith) h in
+    → chain q 0 noEdge xs ≡ onPairs q xs && (onPairs (λ p c. setOk (setAt p c xs)) xs && inOrder xs)
+chain-ok q none0 xs = iff-eq (chain q 0 noEdge xs) (onPairs q xs && (onPairs (λ p c. setOk (setAt p c xs)) xs && inOrder xs))
+    (λ h. let r : Linked q 0 noEdge xs = chain-linked q 0 noEdge xs (omega arith) h in
     and-i (r .pairs) (and-i (all-any (λ x. setOk (setAt (x .parent) (x .child) xs)) (λ x. sets (r .pairs) (r .others) (x .parent) (x .child)) xs) (r .order)))
     (λ h. let h1 : onPairs (λ p c. setOk (setAt p c xs)) xs && inOrder xs ≡ true = and-r (onPairs q xs) (onPairs (λ p c. setOk (setAt p c xs)) xs && inOrder xs) h in
     let ps : onPairs q xs ≡ true = and-l (onPairs q xs) (onPairs (λ p c. setOk (setAt p c xs)) xs && inOrder xs) h in
     let ss : onPairs (λ p c. setOk (setAt p c xs)) xs ≡ true = and-l (onPairs (λ p c. setOk (setAt p c xs)) xs) (inOrder xs) h1 in
-    linked-chain q 0 start xs (record {
+    linked-chain q 0 noEdge xs (record {
       early = start-early xs;
       order = and-r (onPairs (λ p c. setOk (setAt p c xs)) xs) (inOrder xs) h1;
       pairs = ps;
@@ -386,7 +386,7 @@ climbs-ok ns = iff-eq (climbs 0 ns) (ascending ns) (climbs-asc 0 ns)
     (asc-climbs 0 ns (all-any (λ n. leb 0 (n .id)) (λ n. let z : 0 ≤ n .id = zero-le in le-leb z) ns))
 
 pub chain-wellFormed : (g : Graph) → length (g .names) ≤ 48 → length (g .edges) ≤ 96
-    → climbs 0 (g .names) && chain (pairOk (g .names)) 0 start (g .edges) ≡ wellFormed g
+    → climbs 0 (g .names) && chain (pairOk (g .names)) 0 noEdge (g .edges) ≡ wellFormed g
 unfolding wellFormed
 chain-wellFormed g a b =
     (λ i. climbs-ok (g .names) i && chain-ok (pairOk (g .names)) no (g .edges) i)

@@ -12,7 +12,7 @@ use lib.ListN.{length, getD, set, length-set, length-map, List·getD-eq-default}
 use lib.Seq.{getD-set-same, getD-set-other, set-out}
 use lib.Dec.{leb, ltb, eqb, lt→ltb}
 use Rattle.meaning.specs.Base.{Ans, ok, refuse, decide, eqb-eq, eqb-ne, T→eq}
-use Rattle.meaning.specs.Loop.{Result, ended, violated, refused, Block, Status, fine, failed, Slot, Next, at, stopped, Run, Spread, position, noBlock, blank, afterChange, afterJoin, toKept, toNext, spread, mark, afterBlock, runBlock, stepAt, step, steps, startSlots, Verdict, lowestOf, entryOf, lowest}
+use Rattle.meaning.specs.Loop.{Result, ended, violated, refused, Block, Status, fine, failed, Slot, Next, at, stopped, Run, Spread, position, noBlock, blank, afterChange, afterJoin, toKept, toNext, spread, mark, afterBlock, visitBlock, turnAt, turn, turns, startSlots, Verdict, lowestOf, entryOf, lowest}
 
 pub none≢some : {A : Type 0} {a : A} → none ≡ some a → ⊥
 none≢some {A} e = true≢false (ap empty e)
@@ -157,11 +157,11 @@ module _ (St : Type 0) (join : St → St → Ans St) (changed : St → St → Bo
     abbrev kept : Option St
     kept = getD (r .slots) i blank .kept
 
-    turned : step St join changed exec blocks r ≡ runBlock St join changed exec blocks r i kept
-    unfolding step
+    turned : turn St join changed exec blocks r ≡ visitBlock St join changed exec blocks r i kept
+    unfolding turn
     turned =
-        ap (stepAt St join changed exec blocks r) (sym (a .next))
-        ∙ ap (λ (z : Bool). cond z (runBlock St join changed exec blocks r i kept) r) (T→eq (ltb i (length blocks)) (lt→ltb i (length blocks) m))
+        ap (turnAt St join changed exec blocks r) (sym (a .next))
+        ∙ ap (λ (z : Bool). cond z (visitBlock St join changed exec blocks r i kept) r) (T→eq (ltb i (length blocks)) (lt→ltb i (length blocks) m))
 
     ours : ks i ≡ kept
     ours = a .fits .kept i (omega (arith, m, a .same-length))
@@ -173,27 +173,27 @@ module _ (St : Type 0) (join : St → St → Ans St) (changed : St → St → Bo
     marked-length x = length-set (r .slots) i (record { kept = kept; status = x; changes = getD (r .slots) i blank .changes }) ∙ a .same-length
 
     -- no kept state: passed over
-    pub step-over : ks i ≡ none → Reached (step St join changed exec blocks r) ks xs (at (suc i)) v
+    pub step-over : ks i ≡ none → Reached (turn St join changed exec blocks r) ks xs (at (suc i)) v
     step-over e =
-        let z : step St join changed exec blocks r ≡ record { slots = r .slots; next = at (suc i); trail = r .trail } = turned ∙ ap (runBlock St join changed exec blocks r i) (sym ours ∙ e) in
+        let z : turn St join changed exec blocks r ≡ record { slots = r .slots; next = at (suc i); trail = r .trail } = turned ∙ ap (visitBlock St join changed exec blocks r i) (sym ours ∙ e) in
         subst (λ (q : Run St). Reached q ks xs (at (suc i)) v) (sym z) (record { same-length = a .same-length; fits = a .fits; next = refl; visited = a .visited })
 
     module _ (s : St) (e : ks i ≡ some s) where
-      ran : (o : Result St) → exec i s ≡ o → step St join changed exec blocks r ≡ afterBlock St join changed exec blocks r i o
-      ran o d = turned ∙ ap (runBlock St join changed exec blocks r i) (sym ours ∙ e) ∙ ap (afterBlock St join changed exec blocks r i) d
+      ran : (o : Result St) → exec i s ≡ o → turn St join changed exec blocks r ≡ afterBlock St join changed exec blocks r i o
+      ran o d = turned ∙ ap (visitBlock St join changed exec blocks r i) (sym ours ∙ e) ∙ ap (afterBlock St join changed exec blocks r i) d
 
-      pub step-violated : (c o : ℕ) → length blocks ≤ length xs → exec i s ≡ violated c o → Reached (step St join changed exec blocks r) ks (set xs i (failed c o)) (at (suc i)) (suc v)
+      pub step-violated : (c o : ℕ) → length blocks ≤ length xs → exec i s ≡ violated c o → Reached (turn St join changed exec blocks r) ks (set xs i (failed c o)) (at (suc i)) (suc v)
       step-violated c o w d =
           subst (λ (q : Run St). Reached q ks (set xs i (failed c o)) (at (suc i)) (suc v)) (sym (ran (violated c o) d))
           (record { same-length = marked-length (failed c o); fits = marked (failed c o) w; next = refl; visited = ap suc (a .visited) })
 
-      pub step-refused : (n p : ℕ) → exec i s ≡ refused n p → Reached (step St join changed exec blocks r) ks xs (stopped n p) (suc v)
+      pub step-refused : (n p : ℕ) → exec i s ≡ refused n p → Reached (turn St join changed exec blocks r) ks xs (stopped n p) (suc v)
       step-refused n p d =
           subst (λ (q : Run St). Reached q ks xs (stopped n p) (suc v)) (sym (ran (refused n p) d))
           (record { same-length = a .same-length; fits = a .fits; next = refl; visited = ap suc (a .visited) })
 
       pub step-ended : (t : St) (ks′ : ℕ → Option St) (xs′ : List Status) (n′ : Next) → length blocks ≤ length xs → exec i s ≡ ended t
-          → Does (spreadTo (getD blocks i noBlock) t (getD blocks i noBlock .successors)) ks (set xs i fine) (at (suc i)) ks′ xs′ n′ → Reached (step St join changed exec blocks r) ks′ xs′ n′ (suc v)
+          → Does (spreadTo (getD blocks i noBlock) t (getD blocks i noBlock .successors)) ks (set xs i fine) (at (suc i)) ks′ xs′ n′ → Reached (turn St join changed exec blocks r) ks′ xs′ n′ (suc v)
       unfolding Does
       step-ended t ks′ xs′ n′ w d f =
           let g = f (mark St join changed exec blocks (r .slots) i fine) (marked-length fine) (marked fine w) in
@@ -205,10 +205,10 @@ module _ (St : Type 0) (join : St → St → Ans St) (changed : St → St → Bo
   abbrev pub first : St → Run St
   first s = record { slots = startSlots St join changed exec blocks blocks s; next = at 0; trail = [] }
 
-  pub steps-more : (k : ℕ) (r : Run St) → steps St join changed exec blocks (suc k) r ≡ step St join changed exec blocks (steps St join changed exec blocks k r)
-  unfolding steps
+  pub steps-more : (k : ℕ) (r : Run St) → turns St join changed exec blocks (suc k) r ≡ turn St join changed exec blocks (turns St join changed exec blocks k r)
+  unfolding turns
   steps-more zero r = refl
-  steps-more (suc k) r = steps-more k (step St join changed exec blocks r)
+  steps-more (suc k) r = steps-more k (turn St join changed exec blocks r)
 
   blanks : (bs : List Block) (j : ℕ) → getD (map (λ c. blank) bs) j (blank {St = St}) ≡ blank
   blanks [] j = refl

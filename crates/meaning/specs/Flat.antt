@@ -10,13 +10,13 @@ use Rattle.meaning.specs.Graph.{GEdge, Graph, held, between, splice, add
 abbrev pub meet : ℕ → GEdge → GEdge → List GEdge
 meet n x y = cond (eqb n (y .parent) && not (eqb (x .parent) (y .child))) (between (x .parent) (splice (x .edge) (y .edge)) (y .child) ∷ []) []
 
-unfoldable pub row : ℕ → List GEdge → GEdge → List GEdge
+unfoldable pub splicedRow : ℕ → List GEdge → GEdge → List GEdge
 unfolding splice
-row n ys x = each ys (meet n x)
+splicedRow n ys x = each ys (meet n x)
 
 abbrev pub rowIf : ℕ → List GEdge → GEdge → List GEdge
-rowIf n ys x = cond (eqb n (x .child)) (row n ys x) []
+rowIf n ys x = cond (eqb n (x .child)) (splicedRow n ys x) []
 
-unfoldable pub rows : ℕ → List GEdge → List GEdge → List GEdge
-unfolding row
-rows n ys xs = each xs (rowIf n ys)
+unfoldable pub splicedRows : ℕ → List GEdge → List GEdge → List GEdge
+unfolding splicedRow
+splicedRows n ys xs = each xs (rowIf n ys)

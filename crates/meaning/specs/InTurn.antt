@@ -6,7 +6,7 @@ use mathlib.Core.List.{List, [], _∷_}
 use lib.Dec.{eqb}
 use Rattle.meaning.specs.Base.{keep}
 use Rattle.meaning.specs.Graph.{Name, Graph}
-use Rattle.meaning.specs.Borrow.{placeName}
+use Rattle.meaning.specs.Borrow.{putName}
 use Rattle.meaning.specs.State.{State}
 use Rattle.meaning.specs.Rename.{renameEdges, newNameOf, ownNames}
 use Rattle.meaning.specs.Running.{localNames, ascend}
@@ -21,7 +21,7 @@ dropName n ns = keep (λ m. not (eqb n (m .id))) ns
 
 abbrev pub moved : ℕ → ℕ → List Name → Option Bool → List Name
 moved old new ns none = ns
-moved old new ns (some b) = placeName (record { id = new; mutable = b }) (dropName new (dropName old ns))
+moved old new ns (some b) = putName (record { id = new; mutable = b }) (dropName new (dropName old ns))
 
 unfoldable pub inTurn : (ℕ → ℕ) → List ℕ → List Name → List Name
 inTurn f [] ns = ns

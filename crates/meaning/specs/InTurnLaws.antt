@@ -13,14 +13,14 @@ use Rattle.meaning.specs.Base.{Ans, ok, refuse, guard, any, all, keep, g
 use Rattle.meaning.specs.Graph.{Name, Graph, holds, held, ascending}
 use Rattle.meaning.specs.GraphLaws.{wf→inv}
 use Rattle.meaning.specs.CallLaws.{ascending-keep, holds-all}
-use Rattle.meaning.specs.Borrow.{placeName}
+use Rattle.meaning.specs.Borrow.{putName}
 use Rattle.meaning.specs.BorrowLaws.{ascending-place}
 use Rattle.meaning.specs.State.{Local, absent, value, ref, State, eqLocal, count1}
 use Rattle.meaning.specs.StateLaws.{absent≢ref, value≢ref, ref-inj}
 use Rattle.meaning.specs.Rename.{withId, renameNames, renamed, newNameOf, ownNames, crossed, crosses, canonical, Open}
 use Rattle.meaning.specs.RenameLaws.{same-test, names-hold, names-ascend, place, apart, small, found}
 use Rattle.meaning.specs.OwnLaws.{times, count-le, count-yes, count-no, Owns, owns-once}
-use Rattle.meaning.specs.Running.{localNames, placeNumber, ascend}
+use Rattle.meaning.specs.Running.{localNames, putNumber, ascend}
 use Rattle.meaning.specs.RunningLaws.{ascend-times}
 use Rattle.meaning.specs.StepLaws.{local-use}
 use Rattle.meaning.specs.BlockLaws.{local-found, owns-open}
@@ -110,8 +110,8 @@ names-ext (a ∷ ns) (b ∷ ms) p q h =
         (λ z. let x : a .id < b .id = leb-gt z in
         absurd (none≢some (sym (miss b ms (a .id) (eqb-no {m = a .id} {n = b .id} (λ y. omega arith)) ∙ none-below ms (b .id) (a .id) ub (omega arith)) ∙ sym (h (a .id)) ∙ hit a ns (a .id) (eqb-self (a .id)))))
 
-place-flag : (a : Name) (ns : List Name) (k : ℕ) → flagOf ns (a .id) ≡ none → flagOf (placeName a ns) k ≡ cond (eqb k (a .id)) (some (a .mutable)) (flagOf ns k)
-unfolding placeName flagOf
+place-flag : (a : Name) (ns : List Name) (k : ℕ) → flagOf ns (a .id) ≡ none → flagOf (putName a ns) k ≡ cond (eqb k (a .id)) (some (a .mutable)) (flagOf ns k)
+unfolding putName flagOf
 place-flag a [] k h = refl
 place-flag a (b ∷ bs) k h = go (ltb (a .id) (b .id)) (eqb (a .id) (b .id)) refl h (place-flag a bs k)
   where
@@ -120,8 +120,8 @@ place-flag a (b ∷ bs) k h = go (ltb (a .id) (b .id)) (eqb (a .id) (b .id)) ref
     swap d true false p q = refl
     swap d false y p q = refl
 
-    go : (c d : Bool) → eqb (a .id) (b .id) ≡ d → cond d (some (b .mutable)) (flagOf bs (a .id)) ≡ none → (flagOf bs (a .id) ≡ none → flagOf (placeName a bs) k ≡ cond (eqb k (a .id)) (some (a .mutable)) (flagOf bs k))
-        → flagOf (cond c (a ∷ b ∷ bs) (b ∷ placeName a bs)) k ≡ cond (eqb k (a .id)) (some (a .mutable)) (cond (eqb k (b .id)) (some (b .mutable)) (flagOf bs k))
+    go : (c d : Bool) → eqb (a .id) (b .id) ≡ d → cond d (some (b .mutable)) (flagOf bs (a .id)) ≡ none → (flagOf bs (a .id) ≡ none → flagOf (putName a bs) k ≡ cond (eqb k (a .id)) (some (a .mutable)) (flagOf bs k))
+        → flagOf (cond c (a ∷ b ∷ bs) (b ∷ putName a bs)) k ≡ cond (eqb k (a .id)) (some (a .mutable)) (cond (eqb k (b .id)) (some (b .mutable)) (flagOf bs k))
     go c true e z r = absurd (none≢some (sym z))
     go true false e z r = refl
     go false false e z r = ap (λ (o : Option Bool). cond (eqb k (b .id)) (some (b .mutable)) o) (r z) ∙ swap e (eqb k (b .id)) (eqb k (a .id)) refl refl
@@ -175,7 +175,7 @@ module _ (f : ℕ → ℕ) (ns : List Name) (inj : (m n : ℕ) → holds ns m �
 
     next : List Name
     unfolding two
-    next = placeName (record { id = f n; mutable = b }) two
+    next = putName (record { id = f n; mutable = b }) two
 
     mine : holds ns n ≡ true
     mine = has-flag ns n b (sym (h .toCome n (in-front n ks)) ∙ fl)
@@ -339,8 +339,8 @@ Sorted (n ∷ ks) = ((m : ℕ) → 1 ≤ times m ks → n < m) × (Sorted ks)
 one-of : (k n : ℕ) (ms : List ℕ) → 1 ≤ times k (n ∷ ms) → (k ≡ n) ⊎ (1 ≤ times k ms)
 one-of k n ms h = decide (eqb k n) (λ e. inl (eqb-eq {m = k} {n = n} e)) (λ e. let c : count1 (eqb k n) ≡ 0 = count-no e in inr (omega arith))
 
-in-place : (n : ℕ) (ms : List ℕ) (k : ℕ) → 1 ≤ times k (placeNumber n ms) → (k ≡ n) ⊎ (1 ≤ times k ms)
-unfolding placeNumber
+in-place : (n : ℕ) (ms : List ℕ) (k : ℕ) → 1 ≤ times k (putNumber n ms) → (k ≡ n) ⊎ (1 ≤ times k ms)
+unfolding putNumber
 in-place n [] k h = one-of k n [] h
 in-place n (m ∷ ms) k h = go (ltb n m) (eqb n m) h (in-place n ms k)
   where
@@ -348,17 +348,17 @@ in-place n (m ∷ ms) k h = go (ltb n m) (eqb n m) h (in-place n ms k)
     later (inl e) = inl e
     later (inr e) = inr (omega arith)
 
-    third : (k ≡ m) ⊎ (1 ≤ times k (placeNumber n ms)) → (1 ≤ times k (placeNumber n ms) → (k ≡ n) ⊎ (1 ≤ times k ms)) → (k ≡ n) ⊎ (1 ≤ times k (m ∷ ms))
+    third : (k ≡ m) ⊎ (1 ≤ times k (putNumber n ms)) → (1 ≤ times k (putNumber n ms) → (k ≡ n) ⊎ (1 ≤ times k ms)) → (k ≡ n) ⊎ (1 ≤ times k (m ∷ ms))
     third (inl e) r = inr (let c : count1 (eqb k m) ≡ 1 = count-yes (subst (λ (j : ℕ). eqb k j ≡ true) e (eqb-self k)) in omega arith)
     third (inr e) r = later (r e)
 
-    go : (a b : Bool) → 1 ≤ times k (cond a (n ∷ m ∷ ms) (cond b (m ∷ ms) (m ∷ placeNumber n ms))) → (1 ≤ times k (placeNumber n ms) → (k ≡ n) ⊎ (1 ≤ times k ms)) → (k ≡ n) ⊎ (1 ≤ times k (m ∷ ms))
+    go : (a b : Bool) → 1 ≤ times k (cond a (n ∷ m ∷ ms) (cond b (m ∷ ms) (m ∷ putNumber n ms))) → (1 ≤ times k (putNumber n ms) → (k ≡ n) ⊎ (1 ≤ times k ms)) → (k ≡ n) ⊎ (1 ≤ times k (m ∷ ms))
     go true b p r = one-of k n (m ∷ ms) p
     go false true p r = inr p
-    go false false p r = third (one-of k m (placeNumber n ms) p) r
+    go false false p r = third (one-of k m (putNumber n ms) p) r
 
-place-sorted : (n : ℕ) (ms : List ℕ) → Sorted ms → Sorted (placeNumber n ms)
-unfolding placeNumber
+place-sorted : (n : ℕ) (ms : List ℕ) → Sorted ms → Sorted (putNumber n ms)
+unfolding putNumber
 place-sorted n [] s = ((λ m h. absurd (omega arith)), tt)
 place-sorted n (m ∷ ms) s = go (ltb n m) (eqb n m) refl refl (place-sorted n ms (s .1))
   where
@@ -370,7 +370,7 @@ place-sorted n (m ∷ ms) s = go (ltb n m) (eqb n m) refl refl (place-sorted n m
     over l k (inl e) = omega arith
     over l k (inr h) = s .0 k h
 
-    go : (a b : Bool) → ltb n m ≡ a → eqb n m ≡ b → Sorted (placeNumber n ms) → Sorted (cond a (n ∷ m ∷ ms) (cond b (m ∷ ms) (m ∷ placeNumber n ms)))
+    go : (a b : Bool) → ltb n m ≡ a → eqb n m ≡ b → Sorted (putNumber n ms) → Sorted (cond a (n ∷ m ∷ ms) (cond b (m ∷ ms) (m ∷ putNumber n ms)))
     go true b p q r = ((λ k h. above (leb-le p) k (one-of k m ms h)), s)
     go false true p q r = s
     go false false p q r =

@@ -37,7 +37,7 @@ pub data Field : Type 0 where
   -- u16
   word : Field
   -- u8, a local: below L
-  local : Field
+  localIndex : Field
   -- a count u8, with its range and its limit, and as many u16
   words : ℕ → ℕ → Field
   -- a count u8, with its limit, and as many tokens
@@ -51,49 +51,49 @@ token = byte 2 2
 abbrev pub flag : Field
 flag = byte 1 1
 
-pub record Row : Type 0 where
+pub record Shape : Type 0 where
   pub kind : ℕ
   pub fields : List Field
 
-abbrev pub row : ℕ → List Field → Row
-row k fs = record { kind = k; fields = fs }
+abbrev pub shape : ℕ → List Field → Shape
+shape k fs = record { kind = k; fields = fs }
 
 -- one row for each kind
-abbrev pub shapes : List Row
+abbrev pub shapes : List Shape
 shapes =
-    row 1 (frame ∷ tokens 8 ∷ [])
-    ∷ row 2 (word ∷ word ∷ words 2 2 ∷ [])
-    ∷ row 10 []
-    ∷ row 11 (local ∷ [])
-    ∷ row 12 (local ∷ [])
-    ∷ row 13 (local ∷ [])
-    ∷ row 14 []
-    ∷ row 15 []
-    ∷ row 16 []
-    ∷ row 17 []
-    ∷ row 18 (local ∷ flag ∷ [])
-    ∷ row 19 (word ∷ flag ∷ [])
-    ∷ row 20 (word ∷ flag ∷ [])
-    ∷ row 21 (word ∷ [])
-    ∷ row 22 (byte 255 16 ∷ words 255 16 ∷ tokens 8 ∷ [])
-    ∷ row 23 []
-    ∷ row 24 (word ∷ word ∷ token ∷ [])
-    ∷ row 25 []
-    ∷ row 26 (byte 2 2 ∷ flag ∷ byte 1 1 ∷ token ∷ [])
-    ∷ row 27 (flag ∷ [])
+    shape 1 (frame ∷ tokens 8 ∷ [])
+    ∷ shape 2 (word ∷ word ∷ words 2 2 ∷ [])
+    ∷ shape 10 []
+    ∷ shape 11 (localIndex ∷ [])
+    ∷ shape 12 (localIndex ∷ [])
+    ∷ shape 13 (localIndex ∷ [])
+    ∷ shape 14 []
+    ∷ shape 15 []
+    ∷ shape 16 []
+    ∷ shape 17 []
+    ∷ shape 18 (localIndex ∷ flag ∷ [])
+    ∷ shape 19 (word ∷ flag ∷ [])
+    ∷ shape 20 (word ∷ flag ∷ [])
+    ∷ shape 21 (word ∷ [])
+    ∷ shape 22 (byte 255 16 ∷ words 255 16 ∷ tokens 8 ∷ [])
+    ∷ shape 23 []
+    ∷ shape 24 (word ∷ word ∷ token ∷ [])
+    ∷ shape 25 []
+    ∷ shape 26 (byte 2 2 ∷ flag ∷ byte 1 1 ∷ token ∷ [])
+    ∷ shape 27 (flag ∷ [])
     ∷ []
 
 -- a kind in use; the fields of its row
-unfoldable pub inUse : ℕ → List Row → Bool
+unfoldable pub inUse : ℕ → List Shape → Bool
 inUse k rs = any (λ r. eqb k (r .kind)) rs
 
-unfoldable pub fieldsIn : ℕ → List Row → List Field
+unfoldable pub fieldsIn : ℕ → List Shape → List Field
 fieldsIn k [] = []
 fieldsIn k (r ∷ rs) = cond (eqb k (r .kind)) (r .fields) (fieldsIn k rs)
 
-unfoldable pub known : ℕ → Bool
+unfoldable pub kindInUse : ℕ → Bool
 unfolding inUse
-known k = inUse k shapes
+kindInUse k = inUse k shapes
 
 unfoldable pub fieldsOf : ℕ → List Field
 unfolding fieldsIn
@@ -103,38 +103,38 @@ fieldsOf k = fieldsIn k shapes
 abbrev pub isToken : ℕ → Bool
 isToken b = leb b 2
 
-abbrev pub width : Field → List ℕ → ℕ
-width (byte r m) b = 1
-width word b = 2
-width local b = 1
-width (words r m) b = 1 + 2 * getD b 0 0
-width (tokens m) b = 1 + getD b 0 0
-width frame b = 2 + getD b 0 0
+abbrev pub fieldWidth : Field → List ℕ → ℕ
+fieldWidth (byte r m) b = 1
+fieldWidth word b = 2
+fieldWidth localIndex b = 1
+fieldWidth (words r m) b = 1 + 2 * getD b 0 0
+fieldWidth (tokens m) b = 1 + getD b 0 0
+fieldWidth frame b = 2 + getD b 0 0
 
-abbrev pub right : ℕ → Field → List ℕ → Bool
-right l (byte r m) b = leb (getD b 0 0) r
-right l word b = true
-right l local b = ltb (getD b 0 0) l
-right l (words r m) b = leb (getD b 0 0) r
-right l (tokens m) b = all isToken (take (getD b 0 0) (drop 1 b))
-right l frame b = leb (getD b 0 0) (getD b 1 0) && all isToken (take (getD b 0 0) (drop 2 b))
+abbrev pub fieldRight : ℕ → Field → List ℕ → Bool
+fieldRight l (byte r m) b = leb (getD b 0 0) r
+fieldRight l word b = true
+fieldRight l localIndex b = ltb (getD b 0 0) l
+fieldRight l (words r m) b = leb (getD b 0 0) r
+fieldRight l (tokens m) b = all isToken (take (getD b 0 0) (drop 1 b))
+fieldRight l frame b = leb (getD b 0 0) (getD b 1 0) && all isToken (take (getD b 0 0) (drop 2 b))
 
-abbrev pub within : Field → List ℕ → Bool
-within (byte r m) b = leb (getD b 0 0) m
-within word b = true
-within local b = true
-within (words r m) b = leb (getD b 0 0) m
-within (tokens m) b = leb (getD b 0 0) m
-within frame b = leb (getD b 1 0) 16
+abbrev pub fieldWithin : Field → List ℕ → Bool
+fieldWithin (byte r m) b = leb (getD b 0 0) m
+fieldWithin word b = true
+fieldWithin localIndex b = true
+fieldWithin (words r m) b = leb (getD b 0 0) m
+fieldWithin (tokens m) b = leb (getD b 0 0) m
+fieldWithin frame b = leb (getD b 1 0) 16
 
 -- the body is the fields, one after the other, and nothing else; each is right
 unfoldable pub fitsBody : ℕ → List Field → List ℕ → Bool
 fitsBody l [] b = eqb (length b) 0
-fitsBody l (f ∷ fs) b = leb (width f b) (length b) && (right l f b && fitsBody l fs (drop (width f b) b))
+fitsBody l (f ∷ fs) b = leb (fieldWidth f b) (length b) && (fieldRight l f b && fitsBody l fs (drop (fieldWidth f b) b))
 
 unfoldable pub withinLimits : List Field → List ℕ → Bool
 withinLimits [] b = true
-withinLimits (f ∷ fs) b = within f b && withinLimits fs (drop (width f b) b)
+withinLimits (f ∷ fs) b = fieldWithin f b && withinLimits fs (drop (fieldWidth f b) b)
 
 -- ---- what the bodies mean
 
@@ -219,7 +219,7 @@ unless false n k = n
 unfoldable pub faultAt : List ℕ → ℕ → ℕ → ℕ
 faultAt s l at =
     unless (wholeAt s at) 1
-    (unless (known (kindAt s at)) 2
+    (unless (kindInUse (kindAt s at)) 2
     (unless (Bool·beq (eqb (kindAt s at) 1) (eqb at 0)) 4
     (unless (fitsBody l (fieldsOf (kindAt s at)) (bodyAt s at)) 3
     (unless (withinLimits (fieldsOf (kindAt s at)) (bodyAt s at)) 6

@@ -13,8 +13,8 @@ use borrow.Author.Tests.{le-leb, lt-leb, ltb-true, ltb-false, not-false}
 use Rattle.meaning.specs.Base.{all, any, decide, and-l, and-r, and-i, all-append, eqb-eq, eqb-ne, leb-le, leb-gt, empty}
 use Rattle.meaning.specs.Steps.{Instr, Pop}
 use Rattle.meaning.specs.Loop.{Block, noBlock}
-use Rattle.meaning.specs.Blocks.{Routine, isRet, fits, placed, instrsOf, promised}
-use Rattle.meaning.specs.Listing.{wholeAt, kindAt, bodyAt, nextAt, Field, byte, word, local, words, tokens, frame, known, fieldsIn, fieldsOf, width, right, within, isToken, fitsBody, withinLimits, localsOf, Listed, read, refused, unless, faultAt, Places, noPlaces, fullFor, putAt, ifFine, ifNot, placesFrom, series, tokenAs, instructions, callOf, instrOf, instrAt, firstOf, overlap, repeats, endsBlock, faultySuccessor, faultyBlock, strayRet, routineAt, afterRecords, readPlaces, readListing}
+use Rattle.meaning.specs.Blocks.{Routine, isRet, withinFrame, retsPlaced, instrsOf, promised}
+use Rattle.meaning.specs.Listing.{wholeAt, kindAt, bodyAt, nextAt, Field, byte, word, localIndex, words, tokens, frame, kindInUse, fieldsIn, fieldsOf, fieldWidth, fieldRight, fieldWithin, isToken, fitsBody, withinLimits, localsOf, Listed, read, refused, unless, faultAt, Places, noPlaces, fullFor, putAt, ifFine, ifNot, placesFrom, series, tokenAs, instructions, callOf, instrOf, instrAt, firstOf, overlap, repeats, endsBlock, faultySuccessor, faultyBlock, strayRet, routineAt, afterRecords, readPlaces, readListing}
 
 -- ---- the records in turn
 
@@ -63,7 +63,7 @@ beq-true false false e = refl
 
 pub record Passed (s : List ℕ) (l at : ℕ) : Type 0 where
   pub whole : wholeAt s at ≡ true
-  pub kind : known (kindAt s at) ≡ true
+  pub kind : kindInUse (kindAt s at) ≡ true
   pub first : eqb (kindAt s at) 1 ≡ eqb at 0
   pub fits : fitsBody l (fieldsOf (kindAt s at)) (bodyAt s at) ≡ true
   pub within : withinLimits (fieldsOf (kindAt s at)) (bodyAt s at) ≡ true
@@ -72,7 +72,7 @@ pub passed : (s : List ℕ) (l at : ℕ) → faultAt s l at ≡ 0 → Passed s l
 unfolding faultAt
 passed s l at e =
     let a = unless-0 (wholeAt s at) 0 _ e in
-    let b = unless-0 (known (kindAt s at)) 1 _ (a .1) in
+    let b = unless-0 (kindInUse (kindAt s at)) 1 _ (a .1) in
     let c = unless-0 (Bool·beq (eqb (kindAt s at) 1) (eqb at 0)) 3 _ (b .1) in
     let d = unless-0 (fitsBody l (fieldsOf (kindAt s at)) (bodyAt s at)) 2 _ (c .1) in
     let g = unless-0 (withinLimits (fieldsOf (kindAt s at)) (bodyAt s at)) 5 _ (d .1) in
@@ -80,19 +80,19 @@ passed s l at e =
 
 -- a field after another
 pub fits-cons : (l : ℕ) (f : Field) (fs : List Field) (b : List ℕ) → fitsBody l (f ∷ fs) b ≡ true
-    → (width f b ≤ length b) × (right l f b ≡ true) × (fitsBody l fs (drop (width f b) b) ≡ true)
+    → (fieldWidth f b ≤ length b) × (fieldRight l f b ≡ true) × (fitsBody l fs (drop (fieldWidth f b) b) ≡ true)
 unfolding fitsBody
 fits-cons l f fs b e =
-    let x : Bool = leb (width f b) (length b) in
-    let y : Bool = right l f b in
-    let z : Bool = fitsBody l fs (drop (width f b) b) in
+    let x : Bool = leb (fieldWidth f b) (length b) in
+    let y : Bool = fieldRight l f b in
+    let z : Bool = fitsBody l fs (drop (fieldWidth f b) b) in
     (leb-le (and-l x (y && z) e), and-l y z (and-r x (y && z) e), and-r y z (and-r x (y && z) e))
 
 pub within-cons : (f : Field) (fs : List Field) (b : List ℕ) → withinLimits (f ∷ fs) b ≡ true
-    → (within f b ≡ true) × (withinLimits fs (drop (width f b) b) ≡ true)
+    → (fieldWithin f b ≡ true) × (withinLimits fs (drop (fieldWidth f b) b) ≡ true)
 unfolding withinLimits
 within-cons f fs b e =
-    (and-l (within f b) (withinLimits fs (drop (width f b) b)) e, and-r (within f b) (withinLimits fs (drop (width f b) b)) e)
+    (and-l (fieldWithin f b) (withinLimits fs (drop (fieldWidth f b) b)) e, and-r (fieldWithin f b) (withinLimits fs (drop (fieldWidth f b) b)) e)
 
 module _ (s : List ℕ) (l at : ℕ) (p : Passed s l at) where
   -- a block has at most two successors
@@ -226,7 +226,7 @@ series-length (suc n) f = simp (length-append, series-length n f) (omega arith)
 
 -- the instructions that are no store and no call have nothing to meet
 abbrev Free : ℕ → Type 0
-Free j = (j ≡ 3 → ⊥) → (j ≡ 12 → ⊥) → (l : ℕ) (b : List ℕ) → fits l (getD (instructions b) j Pop) ≡ true
+Free j = (j ≡ 3 → ⊥) → (j ≡ 12 → ⊥) → (l : ℕ) (b : List ℕ) → withinFrame l (getD (instructions b) j Pop) ≡ true
 
 free : Every Free 18
 unfolding callOf
@@ -236,11 +236,11 @@ module _ (s : List ℕ) (l at : ℕ) (p : Passed s l at) where
   store-local : kindAt s at ≡ 13 → ltb (getD (bodyAt s at) 0 0) l ≡ true
   unfolding fieldsOf fieldsIn
   store-local k =
-      let f : fitsBody l (local ∷ []) (bodyAt s at) ≡ true = (rw k at (p .fits)) in
-      fits-cons l local [] (bodyAt s at) f .1
+      let f : fitsBody l (localIndex ∷ []) (bodyAt s at) ≡ true = (rw k at (p .fits)) in
+      fits-cons l localIndex [] (bodyAt s at) f .1
 
   -- a store's local is one, a call returns at most eight
-  code-fits : fits l (instrAt s at) ≡ true
+  code-fits : withinFrame l (instrAt s at) ≡ true
   unfolding instrAt instrOf callOf
   code-fits =
       decide (eqb (kindAt s at) 13)
@@ -251,7 +251,7 @@ module _ (s : List ℕ) (l at : ℕ) (p : Passed s l at) where
       rw k (rw (series-length n (λ j. tokenAs (getD (bodyAt s at) (3 + 2 * getD (bodyAt s at) 1 0 + j) 0))) (le-leb _ _ (call-limits s l at p k .1))))
       (λ r. decide (leb 18 (kindAt s at - 10))
       (λ h. let g : 18 ≤ kindAt s at - 10 = leb-le h in
-      ap (fits l) (List·getD-eq-default (instructions (bodyAt s at)) Pop g))
+      ap (withinFrame l) (List·getD-eq-default (instructions (bodyAt s at)) Pop g))
       (λ h. let a : kindAt s at ≢ 13 = eqb-ne q in
       let b : kindAt s at ≢ 22 = eqb-ne r in
       every-at Free 18 free (kindAt s at - 10) (leb-gt h) (λ e. a (omega arith)) (λ e. b (omega arith)) l (bodyAt s at))))
@@ -260,7 +260,7 @@ all-map : {A : Type 0} (p : ℕ → Bool) (f : A → Bool) (g : ℕ → A) → (
 all-map p f g h [] e = refl
 all-map p f g h (x ∷ xs) e = and-i (h x (and-l (p x) (all p xs) e)) (all-map p f g h xs (and-r (p x) (all p xs) e))
 
-ok-fits : (s : List ℕ) (x : ℕ) → okCode s x ≡ true → fits (localsOf (bodyAt s 0)) (instrAt s x) ≡ true
+ok-fits : (s : List ℕ) (x : ℕ) → okCode s x ≡ true → withinFrame (localsOf (bodyAt s 0)) (instrAt s x) ≡ true
 ok-fits s x e =
     code-fits s (localsOf (bodyAt s 0)) x (passed s (localsOf (bodyAt s 0)) x
     (eqb-eq (and-l (eqb (faultAt s (localsOf (bodyAt s 0)) x) 0) (not (eqb (kindAt s x) 1) && not (eqb (kindAt s x) 2)) e)))
@@ -369,8 +369,8 @@ module _ (is : List Instr) (bs : List Block) (blocks : (i : ℕ) → i < length 
       let n : j < i = omega arith in
       absurd (overlap-no (block i) (block j) (apart-2 j i h n) (omega arith) (omega arith))))
 
-  placed-of : (es : List ℕ) (js : List Instr) → ((j : ℕ) → j < length js → isRet (getD js j Pop) ≡ true → (suc j ≡ length js) × (empty es ≡ true)) → placed es js ≡ true
-  unfolding placed
+  placed-of : (es : List ℕ) (js : List Instr) → ((j : ℕ) → j < length js → isRet (getD js j Pop) ≡ true → (suc j ≡ length js) × (empty es ≡ true)) → retsPlaced es js ≡ true
+  unfolding retsPlaced
   placed-of es [] f = refl
   placed-of es (x ∷ js) f =
       and-i (head-ok (isRet x) refl)
@@ -384,7 +384,7 @@ module _ (is : List Instr) (bs : List Block) (blocks : (i : ℕ) → i < length 
       head-ok true e = let w = f 0 (omega arith) e in and-i (no-rest js (w .0)) (w .1)
       head-ok false e = refl
 
-  block-placed : (i : ℕ) → i < length bs → placed (block i .successors) (instrsOf (block i) is) ≡ true
+  block-placed : (i : ℕ) → i < length bs → retsPlaced (block i .successors) (instrsOf (block i) is) ≡ true
   unfolding instrsOf
   block-placed i h =
       let b : Block = block i in
@@ -456,5 +456,5 @@ accepted-promised s q e =
     (and-i
     (and-i (le-leb _ _ (f .1)) (le-leb _ _ few))
     (and-i
-    (all-map (okCode s) (fits l) (instrAt s) (ok-fits s) (v .code) (g .code))
-    (all-index (λ b. placed (b .successors) (instrsOf b is)) noBlock bs (λ j h. block-placed is bs rb rr j h))))
+    (all-map (okCode s) (withinFrame l) (instrAt s) (ok-fits s) (v .code) (g .code))
+    (all-index (λ b. retsPlaced (b .successors) (instrsOf b is)) noBlock bs (λ j h. block-placed is bs rb rr j h))))

@@ -9,8 +9,8 @@ use Rattle.meaning.specs.Base.{Ans, ok, guard, all, keep, empty}
 use Rattle.meaning.specs.Graph.{Name, GEdge, Graph, held, eqPair, wellFormed, unmatched}
 use Rattle.meaning.specs.Running.{isMutable, fullyBorrowed, borrowed, mutablyBorrowed}
 
-abbrev pub known : {A : Type 0} → Graph → ℕ → A → Ans A
-known g n a = guard (wellFormed g && held g n) 9 (ok a)
+abbrev pub ofName : {A : Type 0} → Graph → ℕ → A → Ans A
+ofName g n a = guard (wellFormed g && held g n) 9 (ok a)
 
 unfoldable pub containsId : Graph → ℕ → Ans Bool
 containsId g n = guard (wellFormed g) 9 (ok (held g n))
@@ -19,7 +19,7 @@ unfoldable pub allRefs : Graph → Ans (List Name)
 allRefs g = guard (wellFormed g) 9 (ok (g .names))
 
 unfoldable pub mutableOf : Graph → ℕ → Ans Bool
-mutableOf g n = known g n (isMutable g n)
+mutableOf g n = ofName g n (isMutable g n)
 
 -- The borrows of a name: is there an empty-path borrow; one that meets the label, if one is given, else any; and such a one
 -- with a mutable borrower.
@@ -29,13 +29,13 @@ pub record Borrows : Type 0 where
   pub mutable : Bool
 
 unfoldable pub borrowedBy : Graph → ℕ → Option ℕ → Ans Borrows
-borrowedBy g n at = known g n (record { full = fullyBorrowed g n; consistent = borrowed g n at; mutable = mutablyBorrowed g n at })
+borrowedBy g n at = ofName g n (record { full = fullyBorrowed g n; consistent = borrowed g n at; mutable = mutablyBorrowed g n at })
 
 unfoldable pub outEdges : Graph → ℕ → Ans (List GEdge)
-outEdges g n = known g n (keep (λ x. eqb n (x .parent)) (g .edges))
+outEdges g n = ofName g n (keep (λ x. eqb n (x .parent)) (g .edges))
 
 unfoldable pub inEdges : Graph → ℕ → Ans (List GEdge)
-inEdges g n = known g n (keep (λ x. eqb n (x .child)) (g .edges))
+inEdges g n = ofName g n (keep (λ x. eqb n (x .child)) (g .edges))
 
 -- refused with 9 where the pair has no edge
 unfoldable pub betweenEdges : Graph → ℕ → ℕ → Ans (List GEdge)

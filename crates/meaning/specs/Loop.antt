@@ -94,22 +94,22 @@ module _ (St : Type 0) (join : St → St → Ans St) (changed : St → St → Bo
   afterBlock r i (violated c o) = record { slots = mark (r .slots) i (failed c o); next = at (suc i); trail = i ∷ r .trail }
   afterBlock r i (refused n p) = record { slots = r .slots; next = stopped n p; trail = i ∷ r .trail }
 
-  abbrev pub runBlock : Run St → ℕ → Option St → Run St
-  runBlock r i none = record { slots = r .slots; next = at (suc i); trail = r .trail }
-  runBlock r i (some s) = afterBlock r i (exec i s)
+  abbrev pub visitBlock : Run St → ℕ → Option St → Run St
+  visitBlock r i none = record { slots = r .slots; next = at (suc i); trail = r .trail }
+  visitBlock r i (some s) = afterBlock r i (exec i s)
 
-  abbrev pub stepAt : Run St → Next → Run St
-  stepAt r (at i) = cond (ltb i (length blocks)) (runBlock r i (getD (r .slots) i blank .kept)) r
-  stepAt r (stopped n p) = r
+  abbrev pub turnAt : Run St → Next → Run St
+  turnAt r (at i) = cond (ltb i (length blocks)) (visitBlock r i (getD (r .slots) i blank .kept)) r
+  turnAt r (stopped n p) = r
 
-  unfoldable pub step : Run St → Run St
+  unfoldable pub turn : Run St → Run St
   unfolding spread
-  step r = stepAt r (r .next)
+  turn r = turnAt r (r .next)
 
-  unfoldable pub steps : ℕ → Run St → Run St
-  unfolding step
-  steps zero r = r
-  steps (suc f) r = steps f (step r)
+  unfoldable pub turns : ℕ → Run St → Run St
+  unfolding turn
+  turns zero r = r
+  turns (suc f) r = turns f (turn r)
 
   unfoldable pub startSlots : List Block → St → List (Slot St)
   startSlots [] s = []
@@ -117,8 +117,8 @@ module _ (St : Type 0) (join : St → St → Ans St) (changed : St → St → Bo
 
   -- the run with a budget of steps
   unfoldable pub run : ℕ → St → Run St
-  unfolding steps startSlots
-  run f s = steps f (record { slots = startSlots blocks s; next = at 0; trail = [] })
+  unfolding turns startSlots
+  run f s = turns f (record { slots = startSlots blocks s; next = at 0; trail = [] })
 
   -- no block is next, or a refusal ended the run
   abbrev pub endedAt : Next → Bool

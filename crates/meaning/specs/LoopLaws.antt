@@ -11,7 +11,7 @@ use lib.ListN.{length, getD, set, length-set, List·getD-eq-default, length-map}
 use lib.Seq.{getD-set-same, getD-set-other, set-out}
 use lib.Dec.{leb, ltb, eqb}
 use Rattle.meaning.specs.Base.{Ans, ok, refuse, decide, both, not-true, eqb-eq, eqb-ne, leb-le, leb-gt}
-use Rattle.meaning.specs.Loop.{Result, ended, violated, refused, Block, Status, fine, failed, Slot, Next, at, stopped, Run, visits, Spread, position, noBlock, blank, afterChange, afterJoin, toKept, toNext, spread, mark, afterBlock, runBlock, stepAt, step, steps, startSlots, run, endedAt, hasEnded}
+use Rattle.meaning.specs.Loop.{Result, ended, violated, refused, Block, Status, fine, failed, Slot, Next, at, stopped, Run, visits, Spread, position, noBlock, blank, afterChange, afterJoin, toKept, toNext, spread, mark, afterBlock, visitBlock, turnAt, turn, turns, startSlots, run, endedAt, hasEnded}
 
 module _ (St : Type 0) (join : St → St → Ans St) (changed : St → St → Bool) (exec : ℕ → St → Result St) (blocks : List Block)
     (Form : St → Type 0) (rank : St → ℕ) (cap : ℕ)
@@ -206,18 +206,18 @@ module _ (St : Type 0) (join : St → St → Ans St) (changed : St → St → Bo
         record { okay = mark-ok (r .slots) i (failed c o) a; falls = falls-on (mark St join changed exec blocks (r .slots) i (failed c o)) (mark-less (r .slots) i (failed c o)); seen = le-refl (suc (visits r)) }
     ran (refused n p) s fs e = record { okay = a; falls = falls-stop (r .slots) (le-refl (total (r .slots))); seen = le-refl (suc (visits r)) }
 
-    visited : (o : Option St) → getD (r .slots) i blank .kept ≡ o → Progress (visits r) p₀ (runBlock St join changed exec blocks r i o)
+    visited : (o : Option St) → getD (r .slots) i blank .kept ≡ o → Progress (visits r) p₀ (visitBlock St join changed exec blocks r i o)
     visited none e = record { okay = a; falls = falls-on (r .slots) (le-refl (total (r .slots))); seen = omega arith }
     visited (some s) e = ran (exec i s) s (subst KeptOk e (a i .form)) refl
 
   lt-size : (i : ℕ) → ltb i size ≡ true → i < size
   lt-size i e = leb-le e
 
-  step-at : (r : Run St) (m : Next) → r .next ≡ m → AllOk (r .slots) → endedAt St join changed exec blocks m ≡ false → Progress (visits r) (potAt (r .slots) m) (stepAt St join changed exec blocks r m)
+  step-at : (r : Run St) (m : Next) → r .next ≡ m → AllOk (r .slots) → endedAt St join changed exec blocks m ≡ false → Progress (visits r) (potAt (r .slots) m) (turnAt St join changed exec blocks r m)
   unfolding p₀
   step-at r (at i) q a e =
       let t : ltb i size ≡ true = not-no (ltb i size) e in
-      subst (λ (b : Bool). Progress (visits r) (size * total (r .slots) + (size - i)) (cond b (runBlock St join changed exec blocks r i (getD (r .slots) i blank .kept)) r)) (sym t)
+      subst (λ (b : Bool). Progress (visits r) (size * total (r .slots) + (size - i)) (cond b (visitBlock St join changed exec blocks r i (getD (r .slots) i blank .kept)) r)) (sym t)
       (visited r i a (lt-size i t) (getD (r .slots) i blank .kept) refl)
     where
       not-no : (b : Bool) → not b ≡ false → b ≡ true
@@ -225,25 +225,25 @@ module _ (St : Type 0) (join : St → St → Ans St) (changed : St → St → Bo
       not-no false h = absurd (true≢false h)
   step-at r (stopped n p) q a e = absurd (true≢false e)
 
-  step-progress : (r : Run St) → AllOk (r .slots) → hasEnded St join changed exec blocks r ≡ false → Progress (visits r) (pot r) (step St join changed exec blocks r)
-  unfolding step
+  step-progress : (r : Run St) → AllOk (r .slots) → hasEnded St join changed exec blocks r ≡ false → Progress (visits r) (pot r) (turn St join changed exec blocks r)
+  unfolding turn
   step-progress r a e = step-at r (r .next) refl a e
 
   -- a run that has ended stays as it is
-  still-at : (r : Run St) (m : Next) → endedAt St join changed exec blocks m ≡ true → stepAt St join changed exec blocks r m ≡ r
+  still-at : (r : Run St) (m : Next) → endedAt St join changed exec blocks m ≡ true → turnAt St join changed exec blocks r m ≡ r
   still-at r (at i) e =
       let n : ltb i size ≡ false = not-true {a = ltb i size} e in
-      ap (λ (b : Bool). cond b (runBlock St join changed exec blocks r i (getD (r .slots) i blank .kept)) r) n
+      ap (λ (b : Bool). cond b (visitBlock St join changed exec blocks r i (getD (r .slots) i blank .kept)) r) n
   still-at r (stopped n p) e = refl
 
-  step-still : (r : Run St) → hasEnded St join changed exec blocks r ≡ true → step St join changed exec blocks r ≡ r
-  unfolding step
+  step-still : (r : Run St) → hasEnded St join changed exec blocks r ≡ true → turn St join changed exec blocks r ≡ r
+  unfolding turn
   step-still r e = still-at r (r .next) e
 
-  pub steps-still : (f : ℕ) (r : Run St) → hasEnded St join changed exec blocks r ≡ true → steps St join changed exec blocks f r ≡ r
-  unfolding steps
+  pub steps-still : (f : ℕ) (r : Run St) → hasEnded St join changed exec blocks r ≡ true → turns St join changed exec blocks f r ≡ r
+  unfolding turns
   steps-still zero r e = refl
-  steps-still (suc f) r e = ap (steps St join changed exec blocks f) (step-still r e) ∙ steps-still f r e
+  steps-still (suc f) r e = ap (turns St join changed exec blocks f) (step-still r e) ∙ steps-still f r e
 
   -- ---- a run
 
@@ -251,38 +251,38 @@ module _ (St : Type 0) (join : St → St → Ans St) (changed : St → St → Bo
     okay : AllOk (r .slots)
     sum : visits r + pot r ≤ v
 
-  steps-bounded : (f : ℕ) (r : Run St) (v : ℕ) → Bounded v r → Bounded v (steps St join changed exec blocks f r)
-  unfolding steps
+  steps-bounded : (f : ℕ) (r : Run St) (v : ℕ) → Bounded v r → Bounded v (turns St join changed exec blocks f r)
+  unfolding turns
   steps-bounded zero r v b = b
   steps-bounded (suc f) r v b =
       decide (hasEnded St join changed exec blocks r)
-      (λ e. subst (λ (q : Run St). Bounded v (steps St join changed exec blocks f q)) (sym (step-still r e)) (steps-bounded f r v b))
-      (λ e. let p : Progress (visits r) (pot r) (step St join changed exec blocks r) = step-progress r (b .okay) e in
-      let h1 : pot (step St join changed exec blocks r) < pot r = p .falls in
-      let h2 : visits (step St join changed exec blocks r) ≤ suc (visits r) = p .seen in
+      (λ e. subst (λ (q : Run St). Bounded v (turns St join changed exec blocks f q)) (sym (step-still r e)) (steps-bounded f r v b))
+      (λ e. let p : Progress (visits r) (pot r) (turn St join changed exec blocks r) = step-progress r (b .okay) e in
+      let h1 : pot (turn St join changed exec blocks r) < pot r = p .falls in
+      let h2 : visits (turn St join changed exec blocks r) ≤ suc (visits r) = p .seen in
       let h3 : visits r + pot r ≤ v = b .sum in
-      steps-bounded f (step St join changed exec blocks r) v (record { okay = p .okay; sum = omega arith }))
+      steps-bounded f (turn St join changed exec blocks r) v (record { okay = p .okay; sum = omega arith }))
 
   ended-zero : (ss : List (Slot St)) (m : Next) → potAt ss m ≡ 0 → endedAt St join changed exec blocks m ≡ true
   ended-zero ss (at i) h = decide (ltb i size) (λ e. let l : i < size = lt-size i e in absurd (omega arith)) (λ e. ap not e)
   ended-zero ss (stopped n p) h = refl
 
   -- with a budget that is at least the potential, the run ends by itself
-  steps-end : (f : ℕ) (r : Run St) → AllOk (r .slots) → pot r ≤ f → hasEnded St join changed exec blocks (steps St join changed exec blocks f r) ≡ true
-  unfolding steps
+  steps-end : (f : ℕ) (r : Run St) → AllOk (r .slots) → pot r ≤ f → hasEnded St join changed exec blocks (turns St join changed exec blocks f r) ≡ true
+  unfolding turns
   steps-end zero r a h = ended-zero (r .slots) (r .next) (omega arith)
   steps-end (suc f) r a h =
       decide (hasEnded St join changed exec blocks r)
-      (λ e. ap (λ (q : Run St). hasEnded St join changed exec blocks (steps St join changed exec blocks f q)) (step-still r e)
+      (λ e. ap (λ (q : Run St). hasEnded St join changed exec blocks (turns St join changed exec blocks f q)) (step-still r e)
       ∙ ap (λ (q : Run St). hasEnded St join changed exec blocks q) (steps-still f r e) ∙ e)
-      (λ e. let p : Progress (visits r) (pot r) (step St join changed exec blocks r) = step-progress r a e in
-      let h1 : pot (step St join changed exec blocks r) < pot r = p .falls in
-      steps-end f (step St join changed exec blocks r) (p .okay) (omega arith))
+      (λ e. let p : Progress (visits r) (pot r) (turn St join changed exec blocks r) = step-progress r a e in
+      let h1 : pot (turn St join changed exec blocks r) < pot r = p .falls in
+      steps-end f (turn St join changed exec blocks r) (p .okay) (omega arith))
 
-  steps-add : (f g : ℕ) (r : Run St) → steps St join changed exec blocks (f + g) r ≡ steps St join changed exec blocks g (steps St join changed exec blocks f r)
-  unfolding steps
-  steps-add zero g r = ap (λ (k : ℕ). steps St join changed exec blocks k r) (zero-add g)
-  steps-add (suc f) g r = ap (λ (k : ℕ). steps St join changed exec blocks k r) (suc-add f g) ∙ steps-add f g (step St join changed exec blocks r)
+  steps-add : (f g : ℕ) (r : Run St) → turns St join changed exec blocks (f + g) r ≡ turns St join changed exec blocks g (turns St join changed exec blocks f r)
+  unfolding turns
+  steps-add zero g r = ap (λ (k : ℕ). turns St join changed exec blocks k r) (zero-add g)
+  steps-add (suc f) g r = ap (λ (k : ℕ). turns St join changed exec blocks k r) (suc-add f g) ∙ steps-add f g (turn St join changed exec blocks r)
 
   -- ---- the run from the start
 
@@ -335,9 +335,9 @@ module _ (St : Type 0) (join : St → St → Ans St) (changed : St → St → Bo
   unfolding run start
   run-visits f s fs =
       let h : pot (start s) ≤ most = start-pot s in
-      let b : Bounded most (steps St join changed exec blocks f (start s)) =
+      let b : Bounded most (turns St join changed exec blocks f (start s)) =
       steps-bounded f (start s) most (record { okay = start-ok blocks s fs; sum = omega arith }) in
-      let c : visits (steps St join changed exec blocks f (start s)) + pot (steps St join changed exec blocks f (start s)) ≤ most = b .sum in
+      let c : visits (turns St join changed exec blocks f (start s)) + pot (turns St join changed exec blocks f (start s)) ≤ most = b .sum in
       omega arith
 
   -- No kept state is changed more than K times.
@@ -345,9 +345,9 @@ module _ (St : Type 0) (join : St → St → Ans St) (changed : St → St → Bo
   unfolding run start
   run-changes f s fs j =
       let h : pot (start s) ≤ most = start-pot s in
-      let b : Bounded most (steps St join changed exec blocks f (start s)) =
+      let b : Bounded most (turns St join changed exec blocks f (start s)) =
       steps-bounded f (start s) most (record { okay = start-ok blocks s fs; sum = omega arith }) in
-      let c : getD (steps St join changed exec blocks f (start s) .slots) j blank .changes + left (getD (steps St join changed exec blocks f (start s) .slots) j blank .kept) ≤ cap = b .okay j .spent in
+      let c : getD (turns St join changed exec blocks f (start s) .slots) j blank .changes + left (getD (turns St join changed exec blocks f (start s) .slots) j blank .kept) ≤ cap = b .okay j .spent in
       omega arith
 
   -- Every kept state has the form.
@@ -355,7 +355,7 @@ module _ (St : Type 0) (join : St → St → Ans St) (changed : St → St → Bo
   unfolding run start
   run-form f s fs j k e =
       let h : pot (start s) ≤ most = start-pot s in
-      let b : Bounded most (steps St join changed exec blocks f (start s)) =
+      let b : Bounded most (turns St join changed exec blocks f (start s)) =
       steps-bounded f (start s) most (record { okay = start-ok blocks s fs; sum = omega arith }) in
       subst KeptOk e (b .okay j .form)
 
@@ -369,6 +369,6 @@ module _ (St : Type 0) (join : St → St → Ans St) (changed : St → St → Bo
   unfolding run start
   run-same f s fs h =
       let k : pot (start s) ≤ most = start-pot s in
-      ap (λ (n : ℕ). steps St join changed exec blocks n (start s)) (sym (add-sub-of-le h))
+      ap (λ (n : ℕ). turns St join changed exec blocks n (start s)) (sym (add-sub-of-le h))
       ∙ steps-add most (f - most) (start s)
-      ∙ steps-still (f - most) (steps St join changed exec blocks most (start s)) (steps-end most (start s) (start-ok blocks s fs) k)
+      ∙ steps-still (f - most) (turns St join changed exec blocks most (start s)) (steps-end most (start s) (start-ok blocks s fs) k)

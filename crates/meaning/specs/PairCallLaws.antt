@@ -11,10 +11,10 @@ use Rattle.meaning.specs.Graph.{Name, GEdge, Graph, holds, held, eqPair,
 use Rattle.meaning.specs.GraphLaws.{insertAll, Inv, wf→inv, room, eqPair-self, eqPair-l, eqPair-r}
 use Rattle.meaning.specs.CanonLaws.{setAt-hit, setAt-miss}
 use Rattle.meaning.specs.CallLaws.{other, holds-all, holds-keep, without-inv, without-set}
-use Rattle.meaning.specs.Flat.{meet, row, rowIf, rows}
+use Rattle.meaning.specs.Flat.{meet, splicedRow, rowIf, splicedRows}
 use Rattle.meaning.specs.AddLaws.{without-formed}
 use Rattle.meaning.specs.SplicedLaws.{spliced-rows}
-use Rattle.meaning.specs.Pairs.{Pair, ends, hasPair, edgesAt, newSet, exactly, firsts, loopAt, parentPairs, childPairs, across, releasePairs, joinPairs}
+use Rattle.meaning.specs.Pairs.{Pair, pairOf, hasPair, edgesAt, newSet, exactly, firsts, loopAt, parentPairs, childPairs, across, releasePairs, joinPairs}
 use Rattle.meaning.specs.PairLaws.{same-at, has-later, exactly-is}
 
 -- ---- the edges of a pair in a list put together
@@ -81,15 +81,15 @@ module _ (n p c : ℕ) (ne : eqb p c ≡ false) where
       go false b true w eb eu ew = refl
       go false b false w eb eu ew = refl
 
-  row-at : (x : GEdge) (ys : List GEdge) → edgesAt p c (row n ys x) ≡ cond (eqb p (x .parent)) (map (splice (x .edge)) (edgesAt n c ys)) []
-  unfolding setAt row
+  row-at : (x : GEdge) (ys : List GEdge) → edgesAt p c (splicedRow n ys x) ≡ cond (eqb p (x .parent)) (map (splice (x .edge)) (edgesAt n c ys)) []
+  unfolding setAt splicedRow
   row-at x [] = go (eqb p (x .parent))
     where
       go : (b : Bool) → _≡_ {A = List Edge} [] (cond b [] [])
       go true = refl
       go false = refl
   row-at x (y ∷ ys) =
-      edgesAt-append p c (meet n x y) (row n ys x) ∙ (λ i. meet-at x y i ++ row-at x ys i) ∙ go (eqb p (x .parent)) (eqPair n c (y .parent) (y .child))
+      edgesAt-append p c (meet n x y) (splicedRow n ys x) ∙ (λ i. meet-at x y i ++ row-at x ys i) ∙ go (eqb p (x .parent)) (eqPair n c (y .parent) (y .child))
     where
       go : (a b : Bool) → cond a (cond b (splice (x .edge) (y .edge) ∷ []) []) [] ++ cond a (map (splice (x .edge)) (edgesAt n c ys)) []
           ≡ cond a (map (splice (x .edge)) (cond b (union (one y) (setAt n c ys)) (setAt n c ys) .edges)) []
@@ -97,13 +97,13 @@ module _ (n p c : ℕ) (ne : eqb p c ≡ false) where
       go true false = refl
       go false b = refl
 
-  rows-at : (ys xs : List GEdge) → edgesAt p c (rows n ys xs) ≡ each (edgesAt p n xs) (λ e. map (splice e) (edgesAt n c ys))
-  unfolding setAt rows
+  rows-at : (ys xs : List GEdge) → edgesAt p c (splicedRows n ys xs) ≡ each (edgesAt p n xs) (λ e. map (splice e) (edgesAt n c ys))
+  unfolding setAt splicedRows
   rows-at ys [] = refl
-  rows-at ys (x ∷ xs) = edgesAt-append p c (rowIf n ys x) (rows n ys xs) ∙ go (eqb p (x .parent)) (eqb n (x .child)) refl (rows-at ys xs)
+  rows-at ys (x ∷ xs) = edgesAt-append p c (rowIf n ys x) (splicedRows n ys xs) ∙ go (eqb p (x .parent)) (eqb n (x .child)) refl (rows-at ys xs)
     where
-      go : (a b : Bool) → eqb p (x .parent) ≡ a → edgesAt p c (rows n ys xs) ≡ each (edgesAt p n xs) (λ e. map (splice e) (edgesAt n c ys))
-          → edgesAt p c (cond b (row n ys x) []) ++ edgesAt p c (rows n ys xs) ≡ each (cond (a && b) (union (one x) (setAt p n xs)) (setAt p n xs) .edges) (λ e. map (splice e) (edgesAt n c ys))
+      go : (a b : Bool) → eqb p (x .parent) ≡ a → edgesAt p c (splicedRows n ys xs) ≡ each (edgesAt p n xs) (λ e. map (splice e) (edgesAt n c ys))
+          → edgesAt p c (cond b (splicedRow n ys x) []) ++ edgesAt p c (splicedRows n ys xs) ≡ each (cond (a && b) (union (one x) (setAt p n xs)) (setAt p n xs) .edges) (λ e. map (splice e) (edgesAt n c ys))
       go true true ea h = (λ i. (row-at x ys ∙ ap (λ (z : Bool). cond z (map (splice (x .edge)) (edgesAt n c ys)) []) ea) i ++ h i)
       go false true ea h = (λ i. (row-at x ys ∙ ap (λ (z : Bool). cond z (map (splice (x .edge)) (edgesAt n c ys)) []) ea) i ++ h i)
       go true false ea h = h
@@ -129,21 +129,21 @@ join-new g h p c = ap (λ (l : List Edge). insertAll l (setAt p c (g .edges))) (
 firsts-has : (q : GEdge → Bool) (r : Pair) (xs : List GEdge) → all (λ x. not (q x) || hasPair (r ∷ firsts q r xs) (x .parent) (x .child)) xs ≡ true
 unfolding firsts hasPair
 firsts-has q r [] = refl
-firsts-has q r (x ∷ xs) = go (q x) (eqPair (r .parent) (r .child) (x .parent) (x .child)) refl refl (firsts-has q r xs) (firsts-has q (ends x) xs)
+firsts-has q r (x ∷ xs) = go (q x) (eqPair (r .parent) (r .child) (x .parent) (x .child)) refl refl (firsts-has q r xs) (firsts-has q (pairOf x) xs)
   where
     self : eqPair (x .parent) (x .child) (x .parent) (x .child) ≡ true
     self = eqPair-self (x .parent) (x .child)
 
     go : (a b : Bool) → q x ≡ a → eqPair (r .parent) (r .child) (x .parent) (x .child) ≡ b
         → all (λ y. not (q y) || hasPair (r ∷ firsts q r xs) (y .parent) (y .child)) xs ≡ true
-        → all (λ y. not (q y) || hasPair (ends x ∷ firsts q (ends x) xs) (y .parent) (y .child)) xs ≡ true
-        → all (λ y. not (q y) || hasPair (r ∷ cond (a && not b) (ends x ∷ firsts q (ends x) xs) (firsts q r xs)) (y .parent) (y .child)) (x ∷ xs) ≡ true
+        → all (λ y. not (q y) || hasPair (pairOf x ∷ firsts q (pairOf x) xs) (y .parent) (y .child)) xs ≡ true
+        → all (λ y. not (q y) || hasPair (r ∷ cond (a && not b) (pairOf x ∷ firsts q (pairOf x) xs) (firsts q r xs)) (y .parent) (y .child)) (x ∷ xs) ≡ true
     go true true ea eb h k =
         and-i (or-r (not (q x)) (or-l (hasPair (firsts q r xs) (x .parent) (x .child)) (same-at (λ m d. eqPair (x .parent) (x .child) m d ≡ true) (x .parent) (x .child) (r .parent) (r .child) eb self))) h
     go true false ea eb h k =
-        and-i (or-r (not (q x)) (or-r (eqPair (x .parent) (x .child) (r .parent) (r .child)) (or-l (hasPair (firsts q (ends x) xs) (x .parent) (x .child)) self)))
-        (all-imp (λ y. not (q y) || hasPair (ends x ∷ firsts q (ends x) xs) (y .parent) (y .child)) (λ y. not (q y) || hasPair (r ∷ ends x ∷ firsts q (ends x) xs) (y .parent) (y .child))
-        (λ y. more (not (q y)) (eqPair (y .parent) (y .child) (r .parent) (r .child)) (hasPair (ends x ∷ firsts q (ends x) xs) (y .parent) (y .child))) xs k)
+        and-i (or-r (not (q x)) (or-r (eqPair (x .parent) (x .child) (r .parent) (r .child)) (or-l (hasPair (firsts q (pairOf x) xs) (x .parent) (x .child)) self)))
+        (all-imp (λ y. not (q y) || hasPair (pairOf x ∷ firsts q (pairOf x) xs) (y .parent) (y .child)) (λ y. not (q y) || hasPair (r ∷ pairOf x ∷ firsts q (pairOf x) xs) (y .parent) (y .child))
+        (λ y. more (not (q y)) (eqPair (y .parent) (y .child) (r .parent) (r .child)) (hasPair (pairOf x ∷ firsts q (pairOf x) xs) (y .parent) (y .child))) xs k)
       where
         more : (a b d : Bool) → a || d ≡ true → a || (b || d) ≡ true
         more true b d e = refl
@@ -160,9 +160,9 @@ firsts-pass q f r (x ∷ xs) h =
     (λ s. firsts-pass q f s xs (and-r (not (q x) || f (x .parent) (x .child)) (all (λ y. not (q y) || f (y .parent) (y .child)) xs) h))
   where
     go : (a b : Bool) → not a || f (x .parent) (x .child) ≡ true → ((s : Pair) → all (λ t. f (t .parent) (t .child)) (firsts q s xs) ≡ true)
-        → all (λ t. f (t .parent) (t .child)) (cond (a && not b) (ends x ∷ firsts q (ends x) xs) (firsts q r xs)) ≡ true
+        → all (λ t. f (t .parent) (t .child)) (cond (a && not b) (pairOf x ∷ firsts q (pairOf x) xs) (firsts q r xs)) ≡ true
     go true true e k = k r
-    go true false e k = and-i e (k (ends x))
+    go true false e k = and-i e (k (pairOf x))
     go false b e k = k r
 
 -- ends that differ are not those of a loop
@@ -227,7 +227,7 @@ pub firsts-end : (q : GEdge → Bool) (r : Pair) → firsts q r [] ≡ []
 unfolding firsts
 firsts-end q r = refl
 
-pub firsts-take : (q : GEdge → Bool) (r : Pair) (x : GEdge) (xs : List GEdge) → q x && not (eqPair (r .parent) (r .child) (x .parent) (x .child)) ≡ true → firsts q r (x ∷ xs) ≡ ends x ∷ firsts q (ends x) xs
+pub firsts-take : (q : GEdge → Bool) (r : Pair) (x : GEdge) (xs : List GEdge) → q x && not (eqPair (r .parent) (r .child) (x .parent) (x .child)) ≡ true → firsts q r (x ∷ xs) ≡ pairOf x ∷ firsts q (pairOf x) xs
 unfolding firsts
 firsts-take q r x xs e = rw e
 
@@ -280,7 +280,7 @@ module _ (g : Graph) (n : ℕ) (v : Inv g) where
       go false b ea eb = refl
 
   row-listed : (x : GEdge) → isParent x ≡ true → all listed (rowIf n (g .edges) x) ≡ true
-  unfolding row
+  unfolding splicedRow
   row-listed x px = go (eqb n (x .child)) refl
     where
       go : (b : Bool) → eqb n (x .child) ≡ b → all listed (cond b (each (g .edges) (meet n x)) []) ≡ true
@@ -289,7 +289,7 @@ module _ (g : Graph) (n : ℕ) (v : Inv g) where
 
   -- what is spliced is spliced at the pairs of the release
   pub release-covered : onPairs (hasPair (releasePairs g n)) (spliced g n) ≡ true
-  unfolding rows listed
+  unfolding splicedRows listed
   release-covered =
       ap (onPairs (hasPair (releasePairs g n))) (spliced-rows g n v)
       ∙ all-each isParent listed (rowIf n (g .edges)) row-listed (g .edges) (firsts-cover (λ x. eqb n (x .child)) n (g .edges) (differing g v))

@@ -13,7 +13,7 @@ use Rattle.meaning.specs.SetLaws.{inserted, insert-setOk, setOk-blurred}
 use Rattle.meaning.specs.Graph.{GEdge, Graph, eqPair, ltPair, setAt, setTo, union, one, tagged, isBefore, isAfter, inOrder, pairOk, onPairs, wellFormed, addEdge, addAll, limit}
 use Rattle.meaning.specs.GraphLaws.{insertAll, addAll-at, addEdge-added, Added, Inv, wf→inv, inv→wf, room, limit-ok, addAll-inv, addAll-names, addAll-order, addAll-setOk, solid, nonEmpty, setAt-solid, setTo-self, setTo-other, setTo-order, eqPair-self, eqPair-l, eqPair-r, not-before-self, at-or-empty}
 use Rattle.meaning.specs.CanonLaws.{setOk-lone, edges-ext, setAt-miss, setAt-head}
-use Rattle.meaning.specs.Pairs.{Pair, hasPair, edgesAt, newSet, replaceAll, fits, replaceOne, replaceLim, or21, twoPass, withEdges, exactly}
+use Rattle.meaning.specs.Pairs.{Pair, hasPair, edgesAt, newSet, replaceAll, fewEdges, replaceOne, replaceLim, or21, twoPass, withEdges, exactly}
 
 -- ---- a pair's set replaced
 
@@ -129,10 +129,10 @@ has-none p c h = false≢true h
 
 -- ---- the limit
 
-fits-yes : (es : List GEdge) → length es ≤ 96 → fits es ≡ ok es
+fits-yes : (es : List GEdge) → length es ≤ 96 → fewEdges es ≡ ok es
 fits-yes es h = rw (le-leb h)
 
-fits-no : (es : List GEdge) → 96 < length es → fits es ≡ refuse 21
+fits-no : (es : List GEdge) → 96 < length es → fewEdges es ≡ refuse 21
 fits-no es h = rw (decide {X = leb (length es) 96 ≡ false} (leb (length es) 96) (λ t. let z : length es ≤ 96 = leb-le t in absurd (omega arith)) (λ t. t))
 
 -- ---- every new set is answered: it is the pair's set in hs
@@ -181,15 +181,15 @@ module _ (new : ℕ → ℕ → Ans EdgeSet) (hs : List GEdge) (neat : Neat hs) 
   replaced (r ∷ rs) es n = rw (yes (r .parent) (r .child)) (replaced rs (goal r es) (near-step r rs es n))
 
   -- the pass over all: the limit may be passed on the way
-  all-pass : (rs : List Pair) (es : List GEdge) → Near rs es → length es ≤ 96 → (replaceLim false new rs es ≡ fits hs) ⊎ (replaceLim false new rs es ≡ refuse 21)
+  all-pass : (rs : List Pair) (es : List GEdge) → Near rs es → length es ≤ 96 → (replaceLim false new rs es ≡ fewEdges hs) ⊎ (replaceLim false new rs es ≡ refuse 21)
   unfolding replaceLim replaceOne
-  all-pass [] es n l = inl (sym (fits-yes es l) ∙ ap fits (near-end es n))
+  all-pass [] es n l = inl (sym (fits-yes es l) ∙ ap fewEdges (near-end es n))
   all-pass (r ∷ rs) es n l =
       rw (yes (r .parent) (r .child)) (go (leb (length (goal r es)) 96) refl (λ k. all-pass rs (goal r es) (near-step r rs es n) k))
     where
       go : (b : Bool) → leb (length (goal r es)) 96 ≡ b
-          → (length (goal r es) ≤ 96 → (replaceLim false new rs (goal r es) ≡ fits hs) ⊎ (replaceLim false new rs (goal r es) ≡ refuse 21))
-          → (andThen (guard b 21 (ok (goal r es))) (λ fs. replaceLim false new rs fs) ≡ fits hs) ⊎ (andThen (guard b 21 (ok (goal r es))) (λ fs. replaceLim false new rs fs) ≡ refuse 21)
+          → (length (goal r es) ≤ 96 → (replaceLim false new rs (goal r es) ≡ fewEdges hs) ⊎ (replaceLim false new rs (goal r es) ≡ refuse 21))
+          → (andThen (guard b 21 (ok (goal r es))) (λ fs. replaceLim false new rs fs) ≡ fewEdges hs) ⊎ (andThen (guard b 21 (ok (goal r es))) (λ fs. replaceLim false new rs fs) ≡ refuse 21)
       go true e k = k (leb-le e)
       go false e k = inr refl
 
@@ -216,14 +216,14 @@ module _ (new : ℕ → ℕ → Ans EdgeSet) (hs : List GEdge) (neat : Neat hs) 
       omega arith
 
   -- there the limit on the way is the limit at the end
-  low-pass : (rs : List Pair) (es : List GEdge) → Near rs es → Low es → length es ≤ 96 → replaceLim false new rs es ≡ fits hs
+  low-pass : (rs : List Pair) (es : List GEdge) → Near rs es → Low es → length es ≤ 96 → replaceLim false new rs es ≡ fewEdges hs
   unfolding replaceLim replaceOne
-  low-pass [] es n w l = sym (fits-yes es l) ∙ ap fits (near-end es n)
+  low-pass [] es n w l = sym (fits-yes es l) ∙ ap fewEdges (near-end es n)
   low-pass (r ∷ rs) es n w l =
       rw (yes (r .parent) (r .child)) (go (leb (length (goal r es)) 96) refl (λ k. low-pass rs (goal r es) (near-step r rs es n) (low-step r es w) k))
     where
-      go : (b : Bool) → leb (length (goal r es)) 96 ≡ b → (length (goal r es) ≤ 96 → replaceLim false new rs (goal r es) ≡ fits hs)
-          → andThen (guard b 21 (ok (goal r es))) (λ fs. replaceLim false new rs fs) ≡ fits hs
+      go : (b : Bool) → leb (length (goal r es)) 96 ≡ b → (length (goal r es) ≤ 96 → replaceLim false new rs (goal r es) ≡ fewEdges hs)
+          → andThen (guard b 21 (ok (goal r es))) (λ fs. replaceLim false new rs fs) ≡ fewEdges hs
       go true e k = k (leb-le e)
       go false e k =
           let a : 96 < length (goal r es) = leb-gt e in
@@ -281,7 +281,7 @@ module _ (new : ℕ → ℕ → Ans EdgeSet) (hs : List GEdge) (neat : Neat hs) 
       go : (b : Bool) → leb (length (edgesAt (r .parent) (r .child) es)) (length (edgesAt (r .parent) (r .child) hs)) ≡ b
           → (ms : List GEdge) × (replaceLim true new rs es ≡ ok ms) × (Shrunk rs es ms)
           → (length (goal r es) ≤ 96 → (ms : List GEdge) × (replaceLim true new rs (goal r es) ≡ ok ms) × (Shrunk rs (goal r es) ms))
-          → (ms : List GEdge) × (andThen (cond b (ok es) (fits (goal r es))) (λ fs. replaceLim true new rs fs) ≡ ok ms) × (Shrunk (r ∷ rs) es ms)
+          → (ms : List GEdge) × (andThen (cond b (ok es) (fewEdges (goal r es))) (λ fs. replaceLim true new rs fs) ≡ ok ms) × (Shrunk (r ∷ rs) es ms)
       go true e z k = (z .0, z .1, shrunk-past r rs es (z .0) (leb-le e) (z .2))
       go false e z k =
           let a : length (edgesAt (r .parent) (r .child) hs) < length (edgesAt (r .parent) (r .child) es) = leb-gt e in
@@ -289,11 +289,11 @@ module _ (new : ℕ → ℕ → Ans EdgeSet) (hs : List GEdge) (neat : Neat hs) 
           let y = k b in
           (y .0, rw (fits-yes (goal r es) b) (y .1), shrunk-with r rs es (y .0) (y .2))
 
-  twoPass-yes : (rs : List Pair) (es : List GEdge) → Near rs es → length es ≤ 96 → twoPass new rs es ≡ fits hs
+  twoPass-yes : (rs : List Pair) (es : List GEdge) → Near rs es → length es ≤ 96 → twoPass new rs es ≡ fewEdges hs
   unfolding twoPass
   twoPass-yes rs es n l = go (replaceLim false new rs es) (all-pass rs es n l)
     where
-      again : andThen (replaceLim true new rs es) (λ fs. replaceLim false new rs fs) ≡ fits hs
+      again : andThen (replaceLim true new rs es) (λ fs. replaceLim false new rs fs) ≡ fewEdges hs
       again =
           let z = shrinks rs es l in
           let k : Shrunk rs es (z .0) = z .2 in
@@ -309,12 +309,12 @@ module _ (new : ℕ → ℕ → Ans EdgeSet) (hs : List GEdge) (neat : Neat hs) 
           low ms k p c (inl h) = low-from es ms p c (k .either p c) (let e : length (edgesAt p c es) ≡ length (edgesAt p c hs) = ap (λ (s : EdgeSet). length (s .edges)) h in omega arith)
           low ms k p c (inr h) = k .low p c h
 
-      go : (a : Ans (List GEdge)) → (a ≡ fits hs) ⊎ (a ≡ refuse 21) → or21 a (andThen (replaceLim true new rs es) (λ fs. replaceLim false new rs fs)) ≡ fits hs
+      go : (a : Ans (List GEdge)) → (a ≡ fewEdges hs) ⊎ (a ≡ refuse 21) → or21 a (andThen (replaceLim true new rs es) (λ fs. replaceLim false new rs fs)) ≡ fewEdges hs
       go a (inr e) = rw e again
       go (ok fs) (inl e) = e
       go (refuse m) (inl e) = either (eqb m 21) refl
         where
-          either : (b : Bool) → eqb m 21 ≡ b → cond b (andThen (replaceLim true new rs es) (λ fs. replaceLim false new rs fs)) (refuse m) ≡ fits hs
+          either : (b : Bool) → eqb m 21 ≡ b → cond b (andThen (replaceLim true new rs es) (λ fs. replaceLim false new rs fs)) (refuse m) ≡ fewEdges hs
           either true t = again
           either false t = e
 
@@ -359,7 +359,7 @@ module _ (new : ℕ → ℕ → Ans EdgeSet) (only : (p c n : ℕ) → new p c �
       after false fs k = inr refl
 
       go : Turn r rs → ((fs : List GEdge) → hasPair rs p c ≡ true → Ends (replaceLim false new rs fs))
-          → Ends (andThen (new (r .parent) (r .child)) (λ s. andThen (fits (setTo (r .parent) (r .child) s es)) (λ fs. replaceLim false new rs fs)))
+          → Ends (andThen (new (r .parent) (r .child)) (λ s. andThen (fewEdges (setTo (r .parent) (r .child) s es)) (λ fs. replaceLim false new rs fs)))
       go (stop q) k = inl (rw q)
       go (on s q l) k = rw q (after (leb (length (setTo (r .parent) (r .child) s es)) 96) (setTo (r .parent) (r .child) s es) (k (setTo (r .parent) (r .child) s es) l))
 
@@ -369,7 +369,7 @@ module _ (new : ℕ → ℕ → Ans EdgeSet) (only : (p c n : ℕ) → new p c �
   shrinks-no (r ∷ rs) es l h = go (turn r rs h) (λ fs m k. shrinks-no rs fs m k)
     where
       after : (s : EdgeSet) (b : Bool) → leb (length (edgesAt (r .parent) (r .child) es)) (length (s .edges)) ≡ b → ((fs : List GEdge) → length fs ≤ 96 → replaceLim true new rs fs ≡ refuse 22)
-          → andThen (cond b (ok es) (fits (setTo (r .parent) (r .child) s es))) (λ fs. replaceLim true new rs fs) ≡ refuse 22
+          → andThen (cond b (ok es) (fewEdges (setTo (r .parent) (r .child) s es))) (λ fs. replaceLim true new rs fs) ≡ refuse 22
       after s true e k = k es l
       after s false e k =
           let a : length (s .edges) < length (edgesAt (r .parent) (r .child) es) = leb-gt e in
@@ -594,7 +594,7 @@ pub replaceOne-formed : (g : Graph) (shrinking : Bool) (p c : ℕ) (s : EdgeSet)
 unfolding replaceOne
 replaceOne-formed g shrinking p c s fs w q h e = go (shrinking && leb (length (edgesAt p c (g .edges))) (length (s .edges))) e
   where
-    go : (b : Bool) → cond b (ok (g .edges)) (fits (setTo p c s (g .edges))) ≡ ok fs → wellFormed (record { names = g .names; edges = fs }) ≡ true
+    go : (b : Bool) → cond b (ok (g .edges)) (fewEdges (setTo p c s (g .edges))) ≡ ok fs → wellFormed (record { names = g .names; edges = fs }) ≡ true
     go true k = subst (λ (es : List GEdge). wellFormed (record { names = g .names; edges = es }) ≡ true) (ok-inj k) w
     go false k =
         let z = guard-ok (leb (length (setTo p c s (g .edges))) 96) 21 (ok (setTo p c s (g .edges))) fs k in
@@ -633,7 +633,7 @@ module _ (base : List GEdge) (new : ℕ → ℕ → Ans EdgeSet) where
   unfolding replaceOne
   partly-on shrinking p c s es fs k q h e = go (shrinking && leb (length (edgesAt p c es)) (length (s .edges))) e
     where
-      go : (b : Bool) → cond b (ok es) (fits (setTo p c s es)) ≡ ok fs → Partly base new fs
+      go : (b : Bool) → cond b (ok es) (fewEdges (setTo p c s es)) ≡ ok fs → Partly base new fs
       go true z = subst (λ (l : List GEdge). Partly base new l) (ok-inj z) k
       go false z = subst (λ (l : List GEdge). Partly base new l) (ok-inj (guard-ok (leb (length (setTo p c s es)) 96) 21 (ok (setTo p c s es)) fs z .1)) (partly-set p c s es k q h)
 
@@ -641,16 +641,16 @@ module _ (base : List GEdge) (new : ℕ → ℕ → Ans EdgeSet) where
   pub partly-skip : (shrinking : Bool) (p c : ℕ) (es : List GEdge) → Partly base new es → length es ≤ 96 → new p c ≡ ok (setAt p c base) → replaceOne shrinking p c (setAt p c base) es ≡ ok es
   unfolding replaceOne
   partly-skip shrinking p c es k l q =
-      subst (λ (s : EdgeSet). cond (shrinking && leb (length (edgesAt p c es)) (length (s .edges))) (ok es) (fits (setTo p c s es)) ≡ ok es) (same (k .from p c))
+      subst (λ (s : EdgeSet). cond (shrinking && leb (length (edgesAt p c es)) (length (s .edges))) (ok es) (fewEdges (setTo p c s es)) ≡ ok es) (same (k .from p c))
       (go (shrinking && leb (length (edgesAt p c es)) (length (edgesAt p c es))))
     where
       same : (setAt p c es ≡ setAt p c base) ⊎ (new p c ≡ ok (setAt p c es)) → setAt p c es ≡ setAt p c base
       same (inl e) = e
       same (inr e) = ok-inj (sym e ∙ q)
 
-      go : (b : Bool) → cond b (ok es) (fits (setTo p c (setAt p c es) es)) ≡ ok es
+      go : (b : Bool) → cond b (ok es) (fewEdges (setTo p c (setAt p c es) es)) ≡ ok es
       go true = refl
-      go false = ap fits (setTo-idle p c es (k .neat)) ∙ fits-yes es l
+      go false = ap fewEdges (setTo-idle p c es (k .neat)) ∙ fits-yes es l
 
 -- ---- turns of a pass
 

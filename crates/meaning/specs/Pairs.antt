@@ -14,8 +14,8 @@ pub record Pair : Type 0 where
   pub parent : ℕ
   pub child : ℕ
 
-abbrev pub ends : GEdge → Pair
-ends x = record { parent = x .parent; child = x .child }
+abbrev pub pairOf : GEdge → Pair
+pairOf x = record { parent = x .parent; child = x .child }
 
 unfoldable pub hasPair : List Pair → ℕ → ℕ → Bool
 hasPair rs p c = any (λ r. eqPair p c (r .parent) (r .child)) rs
@@ -36,13 +36,13 @@ replaceAll new (r ∷ rs) es = andThen (new (r .parent) (r .child)) (λ s. repla
 
 -- ---- the same with the limit tested after each pair
 
-abbrev pub fits : List GEdge → Ans (List GEdge)
-fits es = guard (leb (length es) 96) 21 (ok es)
+abbrev pub fewEdges : List GEdge → Ans (List GEdge)
+fewEdges es = guard (leb (length es) 96) 21 (ok es)
 
 -- `shrinking`: only where the new set has fewer edges
 unfoldable pub replaceOne : Bool → ℕ → ℕ → EdgeSet → List GEdge → Ans (List GEdge)
 unfolding setAt setTo
-replaceOne shrinking p c s es = cond (shrinking && leb (length (edgesAt p c es)) (length (s .edges))) (ok es) (fits (setTo p c s es))
+replaceOne shrinking p c s es = cond (shrinking && leb (length (edgesAt p c es)) (length (s .edges))) (ok es) (fewEdges (setTo p c s es))
 
 unfoldable pub replaceLim : Bool → (ℕ → ℕ → Ans EdgeSet) → List Pair → List GEdge → Ans (List GEdge)
 unfolding replaceOne
@@ -72,7 +72,7 @@ exactly g xs rs = withEdges g (twoPass (newSet g xs) rs (g .edges))
 -- the pairs of the edges that pass the test, once for edges that follow each other; r is the pair before
 unfoldable pub firsts : (GEdge → Bool) → Pair → List GEdge → List Pair
 firsts q r [] = []
-firsts q r (x ∷ xs) = cond (q x && not (eqPair (r .parent) (r .child) (x .parent) (x .child))) (ends x ∷ firsts q (ends x) xs) (firsts q r xs)
+firsts q r (x ∷ xs) = cond (q x && not (eqPair (r .parent) (r .child) (x .parent) (x .child))) (pairOf x ∷ firsts q (pairOf x) xs) (firsts q r xs)
 
 -- no edge joins n to itself
 abbrev pub loopAt : ℕ → Pair

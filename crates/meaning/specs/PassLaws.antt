@@ -7,12 +7,12 @@ use mathlib.Core.List.{List, [], _∷_, _++_}
 use lib.ListN.{length}
 use lib.Dec.{leb, eqb}
 use Rattle.meaning.specs.Base.{Ans, ok, refuse, andThen, guard, any, all, keep, each, ok-inj, andThen-ok, guard-ok, decide, both, and-l, and-r, eqb-eq, eqb-self, eqb-no, leb-le, le-leb, leb-gt, or-none}
-use Rattle.meaning.specs.Sets.{Edge, EdgeSet, insert, offer, within, setOk, isBlur, covered, short, ordered}
+use Rattle.meaning.specs.Sets.{Edge, EdgeSet, insert, offer, shortPath, setOk, isBlur, covered, short, ordered}
 use Rattle.meaning.specs.PlaceLaws.{offer-insert}
 use Rattle.meaning.specs.Graph.{GEdge, Graph, Name, held, eqPair, setAt, setTo, pairOk, wellFormed, splice, spliced, without, release, sameNames, joinGraphs}
 use Rattle.meaning.specs.GraphLaws.{wf→inv}
 use Rattle.meaning.specs.CallLaws.{other, without-inv}
-use Rattle.meaning.specs.Pairs.{Pair, ends, edgesAt, newSet, fits, replaceOne, replaceLim, or21, twoPass, withEdges, exactly, firsts, loopAt, across, releasePairs, joinPairs}
+use Rattle.meaning.specs.Pairs.{Pair, pairOf, edgesAt, newSet, fewEdges, replaceOne, replaceLim, or21, twoPass, withEdges, exactly, firsts, loopAt, across, releasePairs, joinPairs}
 use Rattle.meaning.specs.PairLaws.{Neat, inv-neat, setTo-neat, length-setTo, insertAll-setOk, pass-end, pass-append}
 use Rattle.meaning.specs.PairCallLaws.{release-new, release-pairwise, releasePairs-stay, stay-apart, join-new, join-pairwise, firsts-take, firsts-skip}
 use Rattle.meaning.specs.Passes.{fitting, apart, splices, spliceSet, uncovered, joinSet, childrenFrom, parentsFrom, childRow, splicePairs, pairsFrom}
@@ -33,8 +33,8 @@ unfolding offer
 offer-ok s e = refl
 
 -- an edge whose path is as `within` answers it
-pub fitting-within : (b s : Bool) (p q : List ℕ) → cond b (ok p) (refuse 22) ≡ within q → cond b (ok (record { strong = s; path = p })) (refuse 22) ≡ fitting (record { strong = s; path = q })
-unfolding fitting within
+pub fitting-within : (b s : Bool) (p q : List ℕ) → cond b (ok p) (refuse 22) ≡ shortPath q → cond b (ok (record { strong = s; path = p })) (refuse 22) ≡ fitting (record { strong = s; path = q })
+unfolding fitting shortPath
 fitting-within b s p q e = left b ∙ ap (λ (z : Ans (List ℕ)). andThen z made) e ∙ right (leb (length q) 8)
   where
     made : List ℕ → Ans Edge
@@ -100,7 +100,7 @@ joinSet-ok es fs k p c s e = insertAll-setOk (uncovered (edgesAt p c es) (edgesA
 module _ (shrinking : Bool) (p c : ℕ) (s : EdgeSet) (es : List GEdge) where
   pub replace-idle : shrinking && leb (length (edgesAt p c es)) (length (s .edges)) ≡ true → replaceOne shrinking p c s es ≡ ok es
   unfolding replaceOne
-  replace-idle h = ap (λ (b : Bool). cond b (ok es) (fits (setTo p c s es))) h
+  replace-idle h = ap (λ (b : Bool). cond b (ok es) (fewEdges (setTo p c s es))) h
 
   module _ (h : shrinking && leb (length (edgesAt p c es)) (length (s .edges)) ≡ false) where
     pub replace-21 : 96 + length (edgesAt p c es) < length es + length (s .edges) → replaceOne shrinking p c s es ≡ refuse 21
@@ -108,19 +108,19 @@ module _ (shrinking : Bool) (p c : ℕ) (s : EdgeSet) (es : List GEdge) where
     replace-21 l =
         let k : 96 < length (setTo p c s es) = omega (arith, l, length-setTo p c s es) in
         let z : leb (length (setTo p c s es)) 96 ≡ false = decide (leb (length (setTo p c s es)) 96) (λ t. let y : length (setTo p c s es) ≤ 96 = leb-le t in absurd (omega arith)) (λ t. t) in
-        ap (λ (b : Bool). cond b (ok es) (fits (setTo p c s es))) h ∙ ap (λ (b : Bool). guard b 21 (ok (setTo p c s es))) z
+        ap (λ (b : Bool). cond b (ok es) (fewEdges (setTo p c s es))) h ∙ ap (λ (b : Bool). guard b 21 (ok (setTo p c s es))) z
 
     pub replace-fits : length es + length (s .edges) ≤ 96 + length (edgesAt p c es) → replaceOne shrinking p c s es ≡ ok (setTo p c s es)
     unfolding replaceOne
     replace-fits l =
         let k : length (setTo p c s es) ≤ 96 = omega (arith, l, length-setTo p c s es) in
-        ap (λ (b : Bool). cond b (ok es) (fits (setTo p c s es))) h ∙ ap (λ (b : Bool). guard b 21 (ok (setTo p c s es))) (le-leb k)
+        ap (λ (b : Bool). cond b (ok es) (fewEdges (setTo p c s es))) h ∙ ap (λ (b : Bool). guard b 21 (ok (setTo p c s es))) (le-leb k)
 
 pub replaceOne-neat : (shrinking : Bool) (p c : ℕ) (s : EdgeSet) (es fs : List GEdge) → setOk s ≡ true → Neat es → replaceOne shrinking p c s es ≡ ok fs → Neat fs
 unfolding replaceOne
 replaceOne-neat shrinking p c s es fs h n e = go (shrinking && leb (length (edgesAt p c es)) (length (s .edges))) e
   where
-    go : (b : Bool) → cond b (ok es) (fits (setTo p c s es)) ≡ ok fs → Neat fs
+    go : (b : Bool) → cond b (ok es) (fewEdges (setTo p c s es)) ≡ ok fs → Neat fs
     go true z = subst (λ (l : List GEdge). Neat l) (ok-inj z) n
     go false z = subst (λ (l : List GEdge). Neat l) (ok-inj (guard-ok (leb (length (setTo p c s es)) 96) 21 (ok (setTo p c s es)) fs z .1)) (setTo-neat p c s es h n)
 
@@ -229,7 +229,7 @@ module _ (n last : ℕ) (y : GEdge) (ys : List GEdge) where
   parents-skip h = firsts-skip (λ z. eqb n (z .child)) (record { parent = last; child = n }) y ys (old-pair-r (eqb n (y .child)) (eqb last (y .parent)) h)
 
 module _ (r : Pair) (y : GEdge) (ys : List GEdge) where
-  pub pairs-take : not (eqPair (r .parent) (r .child) (y .parent) (y .child)) ≡ true → pairsFrom r (y ∷ ys) ≡ ends y ∷ pairsFrom (ends y) ys
+  pub pairs-take : not (eqPair (r .parent) (r .child) (y .parent) (y .child)) ≡ true → pairsFrom r (y ∷ ys) ≡ pairOf y ∷ pairsFrom (pairOf y) ys
   pairs-take h = firsts-take (λ x. true) r y ys h
 
   pub pairs-skip : not (eqPair (r .parent) (r .child) (y .parent) (y .child)) ≡ false → pairsFrom r (y ∷ ys) ≡ pairsFrom r ys

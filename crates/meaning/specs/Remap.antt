@@ -12,9 +12,9 @@ pub record Change : Type 0 where
   pub new : ℕ
 
 -- the name that n gets; one that is no old name stays
-unfoldable pub changed : List Change → ℕ → ℕ
-changed [] n = n
-changed (m ∷ ms) n = cond (eqb n (m .old)) (m .new) (changed ms n)
+unfoldable pub nameAfter : List Change → ℕ → ℕ
+nameAfter [] n = n
+nameAfter (m ∷ ms) n = cond (eqb n (m .old)) (m .new) (nameAfter ms n)
 
 unfoldable pub isOld : List Change → ℕ → Bool
 isOld ms n = any (λ m. eqb n (m .old)) ms
@@ -36,5 +36,5 @@ unfolding twice isOld holds
 clash ns ms = twice ms || any (collides ns ms) ms
 
 unfoldable pub remap : Graph → List Change → Ans Graph
-unfolding clash changed renamed wellFormed
-remap g ms = guard (wellFormed g) 9 (guard (not (clash (g .names) ms)) 16 (ok (renamed (changed ms) g)))
+unfolding clash nameAfter renamed wellFormed
+remap g ms = guard (wellFormed g) 9 (guard (not (clash (g .names) ms)) 16 (ok (renamed (nameAfter ms) g)))

@@ -20,7 +20,7 @@ use Rattle.meaning.specs.Rename.{renameNames, renameEdges, renamed}
 use Rattle.meaning.specs.RenameLaws.{rename-inv, rename-length}
 use Rattle.meaning.specs.InTurn.{inTurn}
 use Rattle.meaning.specs.InTurnLaws.{in-turn, to-apart, ascend-sorted}
-use Rattle.meaning.specs.Remap.{Change, changed, isOld, alike, twice, collides, clash, remap}
+use Rattle.meaning.specs.Remap.{Change, nameAfter, isOld, alike, twice, collides, clash, remap}
 
 -- the refusals
 module _ (g : Graph) (ms : List Change) where
@@ -32,7 +32,7 @@ module _ (g : Graph) (ms : List Change) where
   unfolding remap
   remap-16 w h = rw (w, h)
 
-  pub remap-ok : wellFormed g ≡ true → clash (g .names) ms ≡ false → remap g ms ≡ ok (renamed (changed ms) g)
+  pub remap-ok : wellFormed g ≡ true → clash (g .names) ms ≡ false → remap g ms ≡ ok (renamed (nameAfter ms) g)
   unfolding remap
   remap-ok w h = rw (w, h)
 
@@ -55,31 +55,31 @@ no-r false b e = e
 
 -- ---- old and new names
 
-hit : (m : Change) (ms : List Change) (n : ℕ) → eqb n (m .old) ≡ true → changed (m ∷ ms) n ≡ m .new
-unfolding changed
-hit m ms n e = ap (λ (b : Bool). cond b (m .new) (changed ms n)) e
+hit : (m : Change) (ms : List Change) (n : ℕ) → eqb n (m .old) ≡ true → nameAfter (m ∷ ms) n ≡ m .new
+unfolding nameAfter
+hit m ms n e = ap (λ (b : Bool). cond b (m .new) (nameAfter ms n)) e
 
-miss : (m : Change) (ms : List Change) (n : ℕ) → eqb n (m .old) ≡ false → changed (m ∷ ms) n ≡ changed ms n
-unfolding changed
-miss m ms n e = ap (λ (b : Bool). cond b (m .new) (changed ms n)) e
+miss : (m : Change) (ms : List Change) (n : ℕ) → eqb n (m .old) ≡ false → nameAfter (m ∷ ms) n ≡ nameAfter ms n
+unfolding nameAfter
+miss m ms n e = ap (λ (b : Bool). cond b (m .new) (nameAfter ms n)) e
 
-stays : (ms : List Change) (n : ℕ) → isOld ms n ≡ false → changed ms n ≡ n
-unfolding isOld changed
+stays : (ms : List Change) (n : ℕ) → isOld ms n ≡ false → nameAfter ms n ≡ n
+unfolding isOld nameAfter
 stays [] n h = refl
 stays (m ∷ ms) n h =
     miss m ms n (no-l (eqb n (m .old)) (any (λ k. eqb n (k .old)) ms) h) ∙ stays ms n (no-r (eqb n (m .old)) (any (λ k. eqb n (k .old)) ms) h)
 
 -- the pair that gives an old name its new one
-its-pair : (ms : List Change) (n : ℕ) → isOld ms n ≡ true → any (λ m. eqb n (m .old) && eqb (changed ms n) (m .new)) ms ≡ true
+its-pair : (ms : List Change) (n : ℕ) → isOld ms n ≡ true → any (λ m. eqb n (m .old) && eqb (nameAfter ms n) (m .new)) ms ≡ true
 unfolding isOld
 its-pair [] n h = absurd (false≢true h)
 its-pair (m ∷ ms) n h = go (eqb n (m .old)) refl (its-pair ms n)
   where
-    go : (b : Bool) → eqb n (m .old) ≡ b → (any (λ k. eqb n (k .old)) ms ≡ true → any (λ k. eqb n (k .old) && eqb (changed ms n) (k .new)) ms ≡ true)
-        → any (λ k. eqb n (k .old) && eqb (changed (m ∷ ms) n) (k .new)) (m ∷ ms) ≡ true
-    go true e r = or-l (any (λ k. eqb n (k .old) && eqb (changed (m ∷ ms) n) (k .new)) ms) (and-i e (subst (λ (j : ℕ). eqb j (m .new) ≡ true) (sym (hit m ms n e)) (eqb-self (m .new))))
+    go : (b : Bool) → eqb n (m .old) ≡ b → (any (λ k. eqb n (k .old)) ms ≡ true → any (λ k. eqb n (k .old) && eqb (nameAfter ms n) (k .new)) ms ≡ true)
+        → any (λ k. eqb n (k .old) && eqb (nameAfter (m ∷ ms) n) (k .new)) (m ∷ ms) ≡ true
+    go true e r = or-l (any (λ k. eqb n (k .old) && eqb (nameAfter (m ∷ ms) n) (k .new)) ms) (and-i e (subst (λ (j : ℕ). eqb j (m .new) ≡ true) (sym (hit m ms n e)) (eqb-self (m .new))))
     go false e r =
-        or-r (eqb n (m .old) && eqb (changed (m ∷ ms) n) (m .new))
+        or-r (eqb n (m .old) && eqb (nameAfter (m ∷ ms) n) (m .new))
         (subst (λ (j : ℕ). any (λ k. eqb n (k .old) && eqb j (k .new)) ms ≡ true) (sym (miss m ms n e)) (r (later (or-cases (eqb n (m .old)) (any (λ k. eqb n (k .old)) ms) h))))
       where
         later : (eqb n (m .old) ≡ true) ⊎ (any (λ k. eqb n (k .old)) ms ≡ true) → any (λ k. eqb n (k .old)) ms ≡ true
@@ -87,20 +87,20 @@ its-pair (m ∷ ms) n h = go (eqb n (m .old)) refl (its-pair ms n)
         later (inr z) = z
 
 -- no two old names get the same new one
-olds-apart : (ms : List Change) (m n : ℕ) → twice ms ≡ false → isOld ms m ≡ true → isOld ms n ≡ true → changed ms m ≡ changed ms n → m ≡ n
+olds-apart : (ms : List Change) (m n : ℕ) → twice ms ≡ false → isOld ms m ≡ true → isOld ms n ≡ true → nameAfter ms m ≡ nameAfter ms n → m ≡ n
 unfolding twice isOld
 olds-apart [] m n t hm hn e = absurd (false≢true hm)
 olds-apart (k ∷ ks) m n t hm hn e = go (eqb m (k .old)) (eqb n (k .old)) refl refl (or-cases (eqb m (k .old)) (isOld ks m) hm) (or-cases (eqb n (k .old)) (isOld ks n) hn) (olds-apart ks m n (no-r (any (alike k) ks) (twice ks) t))
   where
     -- one of the two has the first pair, the other a later one with the same new name
-    never : (i : ℕ) → isOld ks i ≡ true → k .new ≡ changed ks i → ⊥
+    never : (i : ℕ) → isOld ks i ≡ true → k .new ≡ nameAfter ks i → ⊥
     never i h q =
-        let w = some-one (λ j. eqb i (j .old) && eqb (changed ks i) (j .new)) ks (its-pair ks i h) in
-        let z : eqb (k .new) (w .0 .new) ≡ true = subst (λ (x : ℕ). eqb x (w .0 .new) ≡ true) (sym q) (and-r (eqb i (w .0 .old)) (eqb (changed ks i) (w .0 .new)) (w .1)) in
+        let w = some-one (λ j. eqb i (j .old) && eqb (nameAfter ks i) (j .new)) ks (its-pair ks i h) in
+        let z : eqb (k .new) (w .0 .new) ≡ true = subst (λ (x : ℕ). eqb x (w .0 .new) ≡ true) (sym q) (and-r (eqb i (w .0 .old)) (eqb (nameAfter ks i) (w .0 .new)) (w .1)) in
         both (w .2 (alike k) (or-r (eqb (k .old) (w .0 .old)) z)) (no-l (any (alike k) ks) (twice ks) t)
 
     go : (a b : Bool) → eqb m (k .old) ≡ a → eqb n (k .old) ≡ b → (eqb m (k .old) ≡ true) ⊎ (isOld ks m ≡ true) → (eqb n (k .old) ≡ true) ⊎ (isOld ks n ≡ true)
-        → (isOld ks m ≡ true → isOld ks n ≡ true → changed ks m ≡ changed ks n → m ≡ n) → m ≡ n
+        → (isOld ks m ≡ true → isOld ks n ≡ true → nameAfter ks m ≡ nameAfter ks n → m ≡ n) → m ≡ n
     go true true p q hm hn r = eqb-eq {m = m} {n = k .old} p ∙ sym (eqb-eq {m = n} {n = k .old} q)
     go true false p q hm (inl z) r = absurd (both z q)
     go true false p q hm (inr z) r = absurd (never n z (sym (hit k ks m p) ∙ e ∙ miss k ks n q))
@@ -120,23 +120,23 @@ module _ (ns : List Name) (ms : List Change) (c : clash ns ms ≡ false) where
   clear = no-r (twice ms) (any (collides ns ms) ms) c
 
   -- the new name of an old one is no greater old name, and none that is held outside the old names
-  free : (m : ℕ) → isOld ms m ≡ true → changed ms m ≢ m → (isOld ms (changed ms m) && ltb m (changed ms m)) || (holds ns (changed ms m) && not (isOld ms (changed ms m))) ≡ true → ⊥
+  free : (m : ℕ) → isOld ms m ≡ true → nameAfter ms m ≢ m → (isOld ms (nameAfter ms m) && ltb m (nameAfter ms m)) || (holds ns (nameAfter ms m) && not (isOld ms (nameAfter ms m))) ≡ true → ⊥
   free m h d z =
-      let w = some-one (λ k. eqb m (k .old) && eqb (changed ms m) (k .new)) ms (its-pair ms m h) in
-      let p : m ≡ w .0 .old = eqb-eq {m = m} {n = w .0 .old} (and-l (eqb m (w .0 .old)) (eqb (changed ms m) (w .0 .new)) (w .1)) in
-      let q : changed ms m ≡ w .0 .new = eqb-eq {m = changed ms m} {n = w .0 .new} (and-r (eqb m (w .0 .old)) (eqb (changed ms m) (w .0 .new)) (w .1)) in
+      let w = some-one (λ k. eqb m (k .old) && eqb (nameAfter ms m) (k .new)) ms (its-pair ms m h) in
+      let p : m ≡ w .0 .old = eqb-eq {m = m} {n = w .0 .old} (and-l (eqb m (w .0 .old)) (eqb (nameAfter ms m) (w .0 .new)) (w .1)) in
+      let q : nameAfter ms m ≡ w .0 .new = eqb-eq {m = nameAfter ms m} {n = w .0 .new} (and-r (eqb m (w .0 .old)) (eqb (nameAfter ms m) (w .0 .new)) (w .1)) in
       let y : (isOld ms (w .0 .new) && ltb (w .0 .old) (w .0 .new)) || (holds ns (w .0 .new) && not (isOld ms (w .0 .new))) ≡ true =
-      subst (λ (j : ℕ). (isOld ms j && ltb (w .0 .old) j) || (holds ns j && not (isOld ms j)) ≡ true) q (subst (λ (j : ℕ). (isOld ms (changed ms m) && ltb j (changed ms m)) || (holds ns (changed ms m) && not (isOld ms (changed ms m))) ≡ true) p z) in
+      subst (λ (j : ℕ). (isOld ms j && ltb (w .0 .old) j) || (holds ns j && not (isOld ms j)) ≡ true) q (subst (λ (j : ℕ). (isOld ms (nameAfter ms m) && ltb j (nameAfter ms m)) || (holds ns (nameAfter ms m) && not (isOld ms (nameAfter ms m))) ≡ true) p z) in
       let x : eqb (w .0 .new) (w .0 .old) ≡ false = decide (eqb (w .0 .new) (w .0 .old)) (λ e. absurd (d (q ∙ eqb-eq {m = w .0 .new} {n = w .0 .old} e ∙ sym p))) (λ e. e) in
       both (w .2 (collides ns ms) (and-i (not-false x) y)) clear
 
   -- a name outside the old ones is not the new name of an old one
-  outside : (m n : ℕ) → holds ns n ≡ true → isOld ms m ≡ true → isOld ms n ≡ false → changed ms m ≡ n → ⊥
+  outside : (m n : ℕ) → holds ns n ≡ true → isOld ms m ≡ true → isOld ms n ≡ false → nameAfter ms m ≡ n → ⊥
   outside m n h p q e =
       free m p (λ z. both (subst (λ (j : ℕ). isOld ms j ≡ true) (sym z ∙ e) p) q)
-      (or-r (isOld ms (changed ms m) && ltb m (changed ms m)) (subst (λ (j : ℕ). holds ns j && not (isOld ms j) ≡ true) (sym e) (and-i h (not-false q))))
+      (or-r (isOld ms (nameAfter ms m) && ltb m (nameAfter ms m)) (subst (λ (j : ℕ). holds ns j && not (isOld ms j) ≡ true) (sym e) (and-i h (not-false q))))
 
-  pub changed-apart : (m n : ℕ) → holds ns m ≡ true → holds ns n ≡ true → changed ms m ≡ changed ms n → m ≡ n
+  pub changed-apart : (m n : ℕ) → holds ns m ≡ true → holds ns n ≡ true → nameAfter ms m ≡ nameAfter ms n → m ≡ n
   changed-apart m n hm hn e = go (isOld ms m) (isOld ms n) refl refl
     where
       go : (a b : Bool) → isOld ms m ≡ a → isOld ms n ≡ b → m ≡ n
@@ -146,10 +146,10 @@ module _ (ns : List Name) (ms : List Change) (c : clash ns ms ≡ false) where
       go false false p q = sym (stays ms m p) ∙ e ∙ stays ms n q
 
   -- no new name is a greater old one
-  pub not-greater : (m n : ℕ) → isOld ms m ≡ true → isOld ms n ≡ true → m < n → changed ms m ≢ n
+  pub not-greater : (m n : ℕ) → isOld ms m ≡ true → isOld ms n ≡ true → m < n → nameAfter ms m ≢ n
   not-greater m n hm hn l e =
       free m hm (λ z. let x : m ≡ n = sym z ∙ e in omega arith)
-      (or-l (holds ns (changed ms m) && not (isOld ms (changed ms m))) (subst (λ (j : ℕ). isOld ms j && ltb m j ≡ true) (sym e) (and-i hn (le-leb l))))
+      (or-l (holds ns (nameAfter ms m) && not (isOld ms (nameAfter ms m))) (subst (λ (j : ℕ). isOld ms j && ltb m j ≡ true) (sym e) (and-i hn (le-leb l))))
 
 -- ---- numbers of 16 bits
 
@@ -160,40 +160,40 @@ low (a ∷ ns) h =
     let t : Name → Bool = λ m. ltb (a .id) (m .id) in
     and-i (and-l (ltb (a .id) 65536) (all t ns) (and-l (ltb (a .id) 65536 && all t ns) (ascending ns) h)) (low ns (and-r (ltb (a .id) 65536 && all t ns) (ascending ns) h))
 
-pub changed-small : (ms : List Change) → all (λ m. ltb (m .new) 65536) ms ≡ true → (n : ℕ) → n < 65536 → changed ms n < 65536
-unfolding changed
+pub changed-small : (ms : List Change) → all (λ m. ltb (m .new) 65536) ms ≡ true → (n : ℕ) → n < 65536 → nameAfter ms n < 65536
+unfolding nameAfter
 changed-small [] h n l = l
 changed-small (m ∷ ms) h n l = go (eqb n (m .old)) (changed-small ms (and-r (ltb (m .new) 65536) (all (λ k. ltb (k .new) 65536) ms) h) n l)
   where
-    go : (b : Bool) → changed ms n < 65536 → cond b (m .new) (changed ms n) < 65536
+    go : (b : Bool) → nameAfter ms n < 65536 → cond b (m .new) (nameAfter ms n) < 65536
     go true r = leb-le (and-l (ltb (m .new) 65536) (all (λ k. ltb (k .new) 65536) ms) h)
     go false r = r
 
 module _ (g h : Graph) (ms : List Change) (small : all (λ m. ltb (m .new) 65536) ms ≡ true) (r : remap g ms ≡ ok h) where
   formed : wellFormed g ≡ true
   unfolding remap
-  formed = guard-ok (wellFormed g) 9 (guard (not (clash (g .names) ms)) 16 (ok (renamed (changed ms) g))) h r .0
+  formed = guard-ok (wellFormed g) 9 (guard (not (clash (g .names) ms)) 16 (ok (renamed (nameAfter ms) g))) h r .0
 
   sound : clash (g .names) ms ≡ false
   unfolding remap
   sound =
-      not-true (guard-ok (not (clash (g .names) ms)) 16 (ok (renamed (changed ms) g)) h
-      (guard-ok (wellFormed g) 9 (guard (not (clash (g .names) ms)) 16 (ok (renamed (changed ms) g))) h r .1) .0)
+      not-true (guard-ok (not (clash (g .names) ms)) 16 (ok (renamed (nameAfter ms) g)) h
+      (guard-ok (wellFormed g) 9 (guard (not (clash (g .names) ms)) 16 (ok (renamed (nameAfter ms) g))) h r .1) .0)
 
-  made : renamed (changed ms) g ≡ h
+  made : renamed (nameAfter ms) g ≡ h
   made = ok-inj (sym (remap-ok g ms formed sound) ∙ r)
 
-  little : (n : ℕ) → held g n ≡ true → changed ms n < 65536
+  little : (n : ℕ) → held g n ≡ true → nameAfter ms n < 65536
   little n q = changed-small ms small n (leb-le (holds-all (λ k. ltb k 65536) (g .names) n q (low (g .names) (wf→inv g formed .asc))))
 
-  inj : (m n : ℕ) → held g m ≡ true → held g n ≡ true → changed ms m ≡ changed ms n → m ≡ n
+  inj : (m n : ℕ) → held g m ≡ true → held g n ≡ true → nameAfter ms m ≡ nameAfter ms n → m ≡ n
   inj = changed-apart (g .names) ms sound
 
   pub remap-formed : wellFormed h ≡ true
   unfolding renamed
   remap-formed = subst (λ (k : Graph). wellFormed k ≡ true) made
-      (inv→wf (renamed (changed ms) g) (rename-inv (changed ms) g inj little (wf→inv g formed))
-      (subst (λ (k : ℕ). leb k 96 ≡ true) (sym (rename-length (changed ms) (g .edges))) (room g formed)))
+      (inv→wf (renamed (nameAfter ms) g) (rename-inv (nameAfter ms) g inj little (wf→inv g formed))
+      (subst (λ (k : ℕ). leb k 96 ≡ true) (sym (rename-length (nameAfter ms) (g .edges))) (room g formed)))
 
 -- ---- one by one
 
@@ -237,7 +237,7 @@ old-once (m ∷ ms) t n = decide (eqb n (m .old))
 
 -- the Rust's way: the names in ascending order of the old ones, the edges' ends together
 abbrev pub oneByOne : Graph → List Change → Graph
-oneByOne g ms = record { names = inTurn (changed ms) (ascend (map (λ m. m .old) ms)) (g .names); edges = renameEdges (changed ms) (g .edges) }
+oneByOne g ms = record { names = inTurn (nameAfter ms) (ascend (map (λ m. m .old) ms)) (g .names); edges = renameEdges (nameAfter ms) (g .edges) }
 
 -- Where it is not refused, the names come out as by the Rust's renaming one by one. The edges' ends are renamed together on both sides.
 pub remap-one-by-one : (g h : Graph) (ms : List Change) → all (λ m. ltb (m .new) 65536) ms ≡ true → remap g ms ≡ ok h → oneByOne g ms ≡ h
@@ -248,12 +248,12 @@ remap-one-by-one g h ms s r =
     let once : (n : ℕ) → times n olds ≤ 1 = old-once ms (apart (g .names) ms c) in
     let same : (n : ℕ) → times n (ascend olds) ≡ times n olds = ascend-times olds once in
     let key : (n : ℕ) → 1 ≤ times n (ascend olds) → isOld ms n ≡ true = λ n q. times-old ms n (subst (λ (k : ℕ). 1 ≤ k) (same n) q) in
-    let q : inTurn (changed ms) (ascend olds) (g .names) ≡ renameNames (changed ms) (g .names) =
-    in-turn (changed ms) (g .names) (inj g h ms s r) (little g h ms s r) (ascend olds) (wf→inv g (formed g h ms s r) .asc)
-    (to-apart (changed ms) (ascend olds) (ascend-sorted olds) (λ n k x y l. not-greater (g .names) ms c n k (key n x) (key k y) l))
+    let q : inTurn (nameAfter ms) (ascend olds) (g .names) ≡ renameNames (nameAfter ms) (g .names) =
+    in-turn (nameAfter ms) (g .names) (inj g h ms s r) (little g h ms s r) (ascend olds) (wf→inv g (formed g h ms s r) .asc)
+    (to-apart (nameAfter ms) (ascend olds) (ascend-sorted olds) (λ n k x y l. not-greater (g .names) ms c n k (key n x) (key k y) l))
     (λ n. let a : times n (ascend olds) ≡ times n olds = same n in let b : times n olds ≤ 1 = once n in omega arith)
     (λ n y t. stays ms n (decide (isOld ms n) (λ e. absurd (no-times ms n e (sym (same n) ∙ t))) (λ e. e))) in
-    (λ i. record { names = q i; edges = renameEdges (changed ms) (g .edges) }) ∙ made g h ms s r
+    (λ i. record { names = q i; edges = renameEdges (nameAfter ms) (g .edges) }) ∙ made g h ms s r
 
 -- ---- the test for two pairs, pair by pair: `ks` is what remains to be compared with the first of the pairs that remain
 

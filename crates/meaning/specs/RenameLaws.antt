@@ -17,27 +17,27 @@ use Rattle.meaning.specs.CanonLaws.{same-pair, setAt-hit, setAt-miss}
 use Rattle.meaning.specs.State.{Local, absent, value, ref, State, eqLocal, Form}
 use Rattle.meaning.specs.StateLaws.{absent≢ref, value≢ref, ref-inj}
 use Rattle.meaning.specs.ChangeLaws.{eqLocal-eq}
-use Rattle.meaning.specs.Borrow.{placeName}
+use Rattle.meaning.specs.Borrow.{putName}
 use Rattle.meaning.specs.BorrowLaws.{holds-place, length-place, ascending-place}
-use Rattle.meaning.specs.Rename.{placeEdge, withEnds, withId, renameEdges, renameNames, renamed, indexOf, newNameOf, ownNames, crosses, canonical, Open}
+use Rattle.meaning.specs.Rename.{putEdge, withEnds, withId, renameEdges, renameNames, renamed, localHolding, newNameOf, ownNames, crosses, canonical, Open}
 
 -- ---- an edge placed
 
-place-all : (f : GEdge → Bool) (x : GEdge) (ys : List GEdge) → f x ≡ true → all f ys ≡ true → all f (placeEdge x ys) ≡ true
-unfolding placeEdge
+place-all : (f : GEdge → Bool) (x : GEdge) (ys : List GEdge) → f x ≡ true → all f ys ≡ true → all f (putEdge x ys) ≡ true
+unfolding putEdge
 place-all f x [] h k = and-i h refl
 place-all f x (y ∷ ys) h k = go (notBefore x y) (place-all f x ys h (and-r (f y) (all f ys) k))
   where
-    go : (b : Bool) → all f (placeEdge x ys) ≡ true → all f (cond b (x ∷ y ∷ ys) (y ∷ placeEdge x ys)) ≡ true
+    go : (b : Bool) → all f (putEdge x ys) ≡ true → all f (cond b (x ∷ y ∷ ys) (y ∷ putEdge x ys)) ≡ true
     go true r = and-i h k
     go false r = and-i (and-l (f y) (all f ys) k) r
 
-place-length : (x : GEdge) (ys : List GEdge) → length (placeEdge x ys) ≡ suc (length ys)
-unfolding placeEdge
+place-length : (x : GEdge) (ys : List GEdge) → length (putEdge x ys) ≡ suc (length ys)
+unfolding putEdge
 place-length x [] = refl
 place-length x (y ∷ ys) = go (notBefore x y) (place-length x ys)
   where
-    go : (b : Bool) → length (placeEdge x ys) ≡ suc (length ys) → length (cond b (x ∷ y ∷ ys) (y ∷ placeEdge x ys)) ≡ suc (suc (length ys))
+    go : (b : Bool) → length (putEdge x ys) ≡ suc (length ys) → length (cond b (x ∷ y ∷ ys) (y ∷ putEdge x ys)) ≡ suc (suc (length ys))
     go true r = refl
     go false r = ap suc r
 
@@ -62,22 +62,22 @@ notBefore-turn x y h =
     not-no true e = refl
     not-no false e = absurd (true≢false e)
 
-place-order : (x : GEdge) (ys : List GEdge) → inOrder ys ≡ true → inOrder (placeEdge x ys) ≡ true
-unfolding placeEdge inOrder
+place-order : (x : GEdge) (ys : List GEdge) → inOrder ys ≡ true → inOrder (putEdge x ys) ≡ true
+unfolding putEdge inOrder
 place-order x [] h = refl
 place-order x (y ∷ ys) h = go (notBefore x y) refl (place-order x ys (and-r (all (notBefore y) ys) (inOrder ys) h))
   where
-    go : (b : Bool) → notBefore x y ≡ b → inOrder (placeEdge x ys) ≡ true → inOrder (cond b (x ∷ y ∷ ys) (y ∷ placeEdge x ys)) ≡ true
+    go : (b : Bool) → notBefore x y ≡ b → inOrder (putEdge x ys) ≡ true → inOrder (cond b (x ∷ y ∷ ys) (y ∷ putEdge x ys)) ≡ true
     go true e r = and-i (and-i e (all-imp (notBefore y) (notBefore x) (λ z k. notBefore-trans x y z e k) ys (and-l (all (notBefore y) ys) (inOrder ys) h))) h
     go false e r = and-i (place-all (notBefore y) x ys (notBefore-turn x y e) (and-l (all (notBefore y) ys) (inOrder ys) h)) r
 
 -- the sets are those of the edge in front
-place-set : (p c : ℕ) (x : GEdge) (ys : List GEdge) → setAt p c (placeEdge x ys) ≡ setAt p c (x ∷ ys)
-unfolding placeEdge
+place-set : (p c : ℕ) (x : GEdge) (ys : List GEdge) → setAt p c (putEdge x ys) ≡ setAt p c (x ∷ ys)
+unfolding putEdge
 place-set p c x [] = refl
 place-set p c x (y ∷ ys) = go (notBefore x y) refl (place-set p c x ys)
   where
-    go : (b : Bool) → notBefore x y ≡ b → setAt p c (placeEdge x ys) ≡ setAt p c (x ∷ ys) → setAt p c (cond b (x ∷ y ∷ ys) (y ∷ placeEdge x ys)) ≡ setAt p c (x ∷ y ∷ ys)
+    go : (b : Bool) → notBefore x y ≡ b → setAt p c (putEdge x ys) ≡ setAt p c (x ∷ ys) → setAt p c (cond b (x ∷ y ∷ ys) (y ∷ putEdge x ys)) ≡ setAt p c (x ∷ y ∷ ys)
     go true e r = refl
     go false e r =
         decide (eqPair p c (y .parent) (y .child))
@@ -85,8 +85,8 @@ place-set p c x (y ∷ ys) = go (notBefore x y) refl (place-set p c x ys)
         (λ hx. absurd (false≢true (sym e ∙ ap not (not-before-self (x .parent) (x .child) (y .parent) (y .child)
         (and-i (subst (λ (n : ℕ). eqb n (y .parent) ≡ true) (eqPair-l p c (x .parent) (x .child) hx) (and-l (eqb p (y .parent)) (eqb c (y .child)) hy))
         (subst (λ (n : ℕ). eqb n (y .child) ≡ true) (eqPair-r p c (x .parent) (x .child) hx) (and-r (eqb p (y .parent)) (eqb c (y .child)) hy)))))))
-        (λ hx. setAt-hit p c y (placeEdge x ys) hy ∙ ap (λ (s : EdgeSet). union (one y) s) (r ∙ setAt-miss p c x ys hx) ∙ sym (setAt-miss p c x (y ∷ ys) hx ∙ setAt-hit p c y ys hy)))
-        (λ hy. setAt-miss p c y (placeEdge x ys) hy ∙ r ∙ decide (eqPair p c (x .parent) (x .child))
+        (λ hx. setAt-hit p c y (putEdge x ys) hy ∙ ap (λ (s : EdgeSet). union (one y) s) (r ∙ setAt-miss p c x ys hx) ∙ sym (setAt-miss p c x (y ∷ ys) hx ∙ setAt-hit p c y ys hy)))
+        (λ hy. setAt-miss p c y (putEdge x ys) hy ∙ r ∙ decide (eqPair p c (x .parent) (x .child))
         (λ hx. setAt-hit p c x ys hx ∙ sym (setAt-hit p c x (y ∷ ys) hx ∙ ap (λ (s : EdgeSet). union (one x) s) (setAt-miss p c y ys hy)))
         (λ hx. setAt-miss p c x ys hx ∙ sym (setAt-miss p c x (y ∷ ys) hx ∙ setAt-miss p c y ys hy)))
 
@@ -208,21 +208,21 @@ rename-inv f g inj small v =
 -- ---- the end of a block
 
 -- the index found is that of a local that holds the name
-index-law : (d n i : ℕ) (xs : List Local) (j : ℕ) → getD xs j absent ≡ ref n → (k : ℕ) × (indexOf d n i xs ≡ i + k) × (k < length xs) × (getD xs k absent ≡ ref n)
-unfolding indexOf
+index-law : (d n i : ℕ) (xs : List Local) (j : ℕ) → getD xs j absent ≡ ref n → (k : ℕ) × (localHolding d n i xs ≡ i + k) × (k < length xs) × (getD xs k absent ≡ ref n)
+unfolding localHolding
 index-law d n i [] j h = absurd (absent≢ref h)
 index-law d n i (x ∷ xs) zero h =
-    (zero, ap (λ (b : Bool). cond b i (indexOf d n (suc i) xs)) (subst (λ (y : Local). eqLocal y (ref n) ≡ true) (sym h) (eqb-self n)) ∙ zero-right i, omega arith, h)
+    (zero, ap (λ (b : Bool). cond b i (localHolding d n (suc i) xs)) (subst (λ (y : Local). eqLocal y (ref n) ≡ true) (sym h) (eqb-self n)) ∙ zero-right i, omega arith, h)
   where
     zero-right : (m : ℕ) → m ≡ m + 0
     zero-right m = omega arith
 index-law d n i (x ∷ xs) (suc j) h = go (eqLocal x (ref n)) refl (index-law d n (suc i) xs j h)
   where
-    go : (b : Bool) → eqLocal x (ref n) ≡ b → (k : ℕ) × (indexOf d n (suc i) xs ≡ suc i + k) × (k < length xs) × (getD xs k absent ≡ ref n)
-        → (k : ℕ) × (cond b i (indexOf d n (suc i) xs) ≡ i + k) × (k < length (x ∷ xs)) × (getD (x ∷ xs) k absent ≡ ref n)
+    go : (b : Bool) → eqLocal x (ref n) ≡ b → (k : ℕ) × (localHolding d n (suc i) xs ≡ suc i + k) × (k < length xs) × (getD xs k absent ≡ ref n)
+        → (k : ℕ) × (cond b i (localHolding d n (suc i) xs) ≡ i + k) × (k < length (x ∷ xs)) × (getD (x ∷ xs) k absent ≡ ref n)
     go true e z = (zero, omega arith, omega arith, eqLocal-eq x (ref n) e)
     go false e z =
-        let q : indexOf d n (suc i) xs ≡ suc i + z .0 = z .1 in
+        let q : localHolding d n (suc i) xs ≡ suc i + z .0 = z .1 in
         let l : z .0 < length xs = z .2 in
         (suc (z .0), omega arith, omega arith, z .3)
 
@@ -269,13 +269,13 @@ module _ (l : ℕ) (s : State) (o : Open l s) where
       let z = index-law n n 0 (s .locals) j h in
       let c : length (s .locals) ≡ l = o .count in
       let k : z .0 < length (s .locals) = z .2 in
-      let e : new n ≡ z .0 = ap (λ (b : Bool). cond b l (indexOf n n 0 (s .locals))) (eqb-no {m = n} {n = l} d) ∙ z .1 ∙ zero-add (z .0) in
+      let e : new n ≡ z .0 = ap (λ (b : Bool). cond b l (localHolding n n 0 (s .locals))) (eqb-no {m = n} {n = l} d) ∙ z .1 ∙ zero-add (z .0) in
       (omega arith, subst (λ (i : ℕ). getD (s .locals) i absent ≡ ref n) (sym e) (z .3))
 
   pub place : (n : ℕ) → held (s .graph) n ≡ true → Place n
   unfolding newNameOf
   place n h = decide (eqb n l)
-      (λ e. inl (eqb-eq {m = n} {n = l} e, ap (λ (b : Bool). cond b l (indexOf n n 0 (s .locals))) e))
+      (λ e. inl (eqb-eq {m = n} {n = l} e, ap (λ (b : Bool). cond b l (localHolding n n 0 (s .locals))) e))
       (λ e. inr (other (eqb-ne {m = n} {n = l} e) (o .among n h)))
     where
       other : n ≢ l → (n ≡ l) ⊎ ((i : ℕ) × (getD (s .locals) i absent ≡ ref n)) → (n ≢ l) × (new n < l) × (getD (s .locals) (new n) absent ≡ ref n)
@@ -373,7 +373,7 @@ canonical-holds l s t o e hl hs un =
     at n h = hold-names f (s .graph .names) inj n (s .graph .names) h
 
     root : holds (renameNames f (s .graph .names)) l ≡ true
-    root = subst (λ (k : ℕ). holds (renameNames f (s .graph .names)) k ≡ true) (ap (λ (b : Bool). cond b l (indexOf l l 0 (s .locals))) (eqb-self l)) (at l hl)
+    root = subst (λ (k : ℕ). holds (renameNames f (s .graph .names)) k ≡ true) (ap (λ (b : Bool). cond b l (localHolding l l 0 (s .locals))) (eqb-self l)) (at l hl)
 
     refs : (i : ℕ) → getD (ownNames 0 (s .locals)) i absent ≡ ref i → holds (renameNames f (s .graph .names)) i ≡ true
     refs i h =

@@ -12,10 +12,10 @@ use lib.Dec.{leb, ltb, eqb}
 use Rattle.meaning.specs.Base.{Ans, ok, refuse, all, decide, and-l, eqb-eq, eqb-ne, leb-le, leb-gt}
 use Rattle.meaning.specs.State.{State, join, changed}
 use Rattle.meaning.specs.StateLaws.{rank, rank-le, join-law, change-lt}
-use Rattle.meaning.specs.Loop.{Result, Block, Status, fine, failed, Slot, Next, at, stopped, Run, visits, Spread, position, noBlock, blank, afterChange, afterJoin, toKept, toNext, spread, mark, afterBlock, runBlock as runLoopBlock, stepAt, step, steps, startSlots, run, hasEnded}
+use Rattle.meaning.specs.Loop.{Result, Block, Status, fine, failed, Slot, Next, at, stopped, Run, visits, Spread, position, noBlock, blank, afterChange, afterJoin, toKept, toNext, spread, mark, afterBlock, visitBlock as runLoopBlock, turnAt, turn, turns, startSlots, run, hasEnded}
 use Rattle.meaning.specs.LoopLaws as Laws
 use Rattle.meaning.specs.Running.{ordinary, Token}
-use Rattle.meaning.specs.Blocks.{Routine, exec, Strong, promised, fits, placed, instrsOf, firstState}
+use Rattle.meaning.specs.Blocks.{Routine, exec, Strong, promised, withinFrame, retsPlaced, instrsOf, firstState}
 use Rattle.meaning.specs.BlockLaws.{Ends, ends, breaks, bars, exec-ends, exec-keeps}
 use Rattle.meaning.specs.JoinLaws.{Sure, sure, unsure, join-sure, join-strong}
 use Rattle.meaning.specs.FirstLaws.{first-strong}
@@ -36,7 +36,7 @@ module _ (q : Routine) (p : promised q ≡ true) where
   small =
       let x : Bool = leb l 16 in
       let y : Bool = leb (length (q .code)) 512 in
-      let z : Bool = all (fits l) (q .code) && all (λ b. placed (b .successors) (instrsOf b (q .code))) (q .blocks) in
+      let z : Bool = all (withinFrame l) (q .code) && all (λ b. retsPlaced (b .successors) (instrsOf b (q .code))) (q .blocks) in
       leb-le (and-l x y (and-l (x && y) z p))
 
   -- the run with a budget of steps
@@ -56,8 +56,8 @@ module _ (q : Routine) (p : promised q ≡ true) where
       Laws.run-visits State join changed (exec q) blocks (Strong l) (rank l) (11 * l * l + l) (rank-le l)
       (join-strong l) (λ s o t e fs fo. change-lt l s o t (join-law s o t e) (fs .form) (fo .form)) (exec-keeps q p) f (firstState l ts) (first-strong l ts small)
 
-  pub changes-bound : (f j : ℕ) → getD (theRun f .slots) j blank .changes ≤ mostChanges
-  changes-bound f =
+  pub run-changes-bound : (f j : ℕ) → getD (theRun f .slots) j blank .changes ≤ mostChanges
+  run-changes-bound f =
       Laws.run-changes State join changed (exec q) blocks (Strong l) (rank l) (11 * l * l + l) (rank-le l)
       (join-strong l) (λ s o t e fs fo. change-lt l s o t (join-law s o t e) (fs .form) (fo .form)) (exec-keeps q p) f (firstState l ts) (first-strong l ts small)
 
@@ -78,10 +78,10 @@ module _ (q : Routine) (p : promised q ≡ true) where
       Laws.run-same State join changed (exec q) blocks (Strong l) (rank l) (11 * l * l + l) (rank-le l)
       (join-strong l) (λ s o t e fs fo. change-lt l s o t (join-law s o t e) (fs .form) (fo .form)) (exec-keeps q p) f (firstState l ts) (first-strong l ts small)
 
-  steps-add : (k f : ℕ) (r : Run State) → steps State join changed (exec q) blocks (k + f) r ≡ steps State join changed (exec q) blocks f (steps State join changed (exec q) blocks k r)
-  unfolding steps
-  steps-add zero f r = let z : 0 + f ≡ f = omega arith in ap (λ (n : ℕ). steps State join changed (exec q) blocks n r) z
-  steps-add (suc k) f r = let z : suc k + f ≡ suc (k + f) = omega arith in ap (λ (n : ℕ). steps State join changed (exec q) blocks n r) z ∙ steps-add k f (step State join changed (exec q) blocks r)
+  steps-add : (k f : ℕ) (r : Run State) → turns State join changed (exec q) blocks (k + f) r ≡ turns State join changed (exec q) blocks f (turns State join changed (exec q) blocks k r)
+  unfolding turns
+  steps-add zero f r = let z : 0 + f ≡ f = omega arith in ap (λ (n : ℕ). turns State join changed (exec q) blocks n r) z
+  steps-add (suc k) f r = let z : suc k + f ≡ suc (k + f) = omega arith in ap (λ (n : ℕ). turns State join changed (exec q) blocks n r) z ∙ steps-add k f (turn State join changed (exec q) blocks r)
 
   -- a run that has ended is the whole run, and one that has not has made fewer steps than the bound
   pub settled : (k : ℕ) → hasEnded State join changed (exec q) blocks (theRun k) ≡ true → theRun k ≡ theRun mostVisits
@@ -158,7 +158,7 @@ module _ (q : Routine) (p : promised q ≡ true) where
   visit-ok r i none h w = (h .0, tt)
   visit-ok r i (some s) h w = block-ok r i h (exec-ends q p i s w)
 
-  step-ok : (r : Run State) (x : Next) → RunOk r → RunOk (stepAt State join changed (exec q) blocks r x)
+  step-ok : (r : Run State) (x : Next) → RunOk r → RunOk (turnAt State join changed (exec q) blocks r x)
   step-ok r (at i) h = go (ltb i (length blocks))
     where
       go : (b : Bool) → RunOk (cond b (runLoopBlock State join changed (exec q) blocks r i (getD (r .slots) i blank .kept)) r)
@@ -166,10 +166,10 @@ module _ (q : Routine) (p : promised q ≡ true) where
       go false = h
   step-ok r (stopped n o) h = h
 
-  steps-ok : (f : ℕ) (r : Run State) → RunOk r → RunOk (steps State join changed (exec q) blocks f r)
-  unfolding steps step
+  steps-ok : (f : ℕ) (r : Run State) → RunOk r → RunOk (turns State join changed (exec q) blocks f r)
+  unfolding turns turn
   steps-ok zero r h = h
-  steps-ok (suc f) r h = steps-ok f (step State join changed (exec q) blocks r) (step-ok r (r .next) h)
+  steps-ok (suc f) r h = steps-ok f (turn State join changed (exec q) blocks r) (step-ok r (r .next) h)
 
   first-ok : (bs : List Block) → AllOk (startSlots State join changed (exec q) blocks bs (firstState l ts))
   unfolding startSlots

@@ -119,8 +119,8 @@ abbrev pub readable : Graph → ℕ → Option ℕ → Bool
 readable g n at = not (isMutable g n) || freezable g n at
 
 -- a look-up of a name: 9 if the graph is not well formed or lacks it (never in a run)
-abbrev pub known : {A : Type 0} → Graph → ℕ → Outcome A → Outcome A
-known g n k = needs (wellFormed g && held g n) 9 k
+abbrev pub needsName : {A : Type 0} → Graph → ℕ → Outcome A → Outcome A
+needsName g n k = needs (wellFormed g && held g n) 9 k
 
 -- ---- core calls
 
@@ -166,9 +166,9 @@ releaseValue (reference n) r = releaseName n r
 
 abbrev pub copyOf : Running → ℕ → Local → Outcome Answer
 copyOf r i absent = refused 12
-copyOf r i value = known (r .graph) (r .root) (fails (mutablyBorrowed (r .graph) (r .root) (some (localLabel i))) 101 (answer r nonRef))
+copyOf r i value = needsName (r .graph) (r .root) (fails (mutablyBorrowed (r .graph) (r .root) (some (localLabel i))) 101 (answer r nonRef))
 copyOf r i (ref n) =
-    known (r .graph) n
+    needsName (r .graph) n
     (then (newRef (isMutable (r .graph) n) r) (λ s.
     then (addCopy n (r .next) s) (λ t.
     answer t (reference (r .next)))))
@@ -178,7 +178,7 @@ copyLoc i r = copyOf r i (getD (r .locals) i absent)
 
 abbrev pub moveOf : Running → ℕ → Local → Outcome Answer
 moveOf r i absent = refused 12
-moveOf r i value = known (r .graph) (r .root) (fails (borrowed (r .graph) (r .root) (some (localLabel i))) 102 (answer (withLocal r i absent) nonRef))
+moveOf r i value = needsName (r .graph) (r .root) (fails (borrowed (r .graph) (r .root) (some (localLabel i))) 102 (answer (withLocal r i absent) nonRef))
 moveOf r i (ref n) = answer (withLocal r i absent) (reference n)
 
 unfoldable pub moveLoc : ℕ → Running → Outcome Answer
@@ -191,7 +191,7 @@ localOf (reference n) = ref n
 -- what becomes of the old content, once the new one is stored
 abbrev pub overwrite : ℕ → Running → Local → Outcome Running
 overwrite i r absent = done r
-overwrite i r value = known (r .graph) (r .root) (fails (borrowed (r .graph) (r .root) (some (localLabel i))) 103 (done r))
+overwrite i r value = needsName (r .graph) (r .root) (fails (borrowed (r .graph) (r .root) (some (localLabel i))) 103 (done r))
 overwrite i r (ref n) = releaseName n r
 
 unfoldable pub stLoc : ℕ → Operand → Running → Outcome Running
@@ -199,7 +199,7 @@ stLoc i v r = overwrite i (withLocal r i (localOf v)) (getD (r .locals) i absent
 
 unfoldable pub freezeRef : ℕ → Running → Outcome Answer
 freezeRef n r =
-    known (r .graph) n
+    needsName (r .graph) n
     (needs (isMutable (r .graph) n) 13
     (fails (not (freezable (r .graph) n none)) 104
     (then (newRef false r) (λ s.
@@ -212,9 +212,9 @@ comparison nonRef nonRef r = answer r nonRef
 comparison nonRef (reference n) r = refused 11
 comparison (reference m) nonRef r = refused 11
 comparison (reference m) (reference n) r =
-    known (r .graph) m
+    needsName (r .graph) m
     (fails (not (readable (r .graph) m none)) 105
-    (known (r .graph) n
+    (needsName (r .graph) n
     (fails (not (readable (r .graph) n none)) 105
     (then (releaseName m r) (λ s.
     then (releaseName n s) (λ t.
@@ -222,21 +222,21 @@ comparison (reference m) (reference n) r =
 
 unfoldable pub readRef : ℕ → Running → Outcome Answer
 readRef n r =
-    known (r .graph) n
+    needsName (r .graph) n
     (fails (not (readable (r .graph) n none)) 105
     (then (releaseName n r) (λ s.
     answer s nonRef)))
 
 unfoldable pub writeRef : ℕ → Running → Outcome Running
 writeRef n r =
-    known (r .graph) n
+    needsName (r .graph) n
     (needs (isMutable (r .graph) n) 13
     (fails (not (writable (r .graph) n)) 106
     (releaseName n r)))
 
 unfoldable pub borrowLoc : Bool → ℕ → Running → Outcome Answer
 borrowLoc m i r =
-    known (r .graph) (r .root)
+    needsName (r .graph) (r .root)
     (fails (not m && mutablyBorrowed (r .graph) (r .root) (some (localLabel i))) 107
     (then (newRef m r) (λ s.
     then (addLocalBorrow i (r .next) s) (λ t.
@@ -244,7 +244,7 @@ borrowLoc m i r =
 
 unfoldable pub borrowField : Bool → ℕ → ℕ → Running → Outcome Answer
 borrowField m n f r =
-    known (r .graph) n
+    needsName (r .graph) n
     (fails (cond m (fullyBorrowed (r .graph) n) (not (readable (r .graph) n (some (fieldLabel f))))) 108
     (then (newRef m r) (λ s.
     then (addFieldBorrow n f (r .next) s) (λ t.
@@ -253,14 +253,14 @@ borrowField m n f r =
 
 unfoldable pub borrowGlobal : Bool → ℕ → Running → Outcome Answer
 borrowGlobal m i r =
-    known (r .graph) (r .root)
+    needsName (r .graph) (r .root)
     (fails ((m && borrowed (r .graph) (r .root) (some (globalLabel i))) || mutablyBorrowed (r .graph) (r .root) (some (globalLabel i))) 109
     (then (newRef m r) (λ s.
     then (addResourceBorrow i (r .next) s) (λ t.
     answer t (reference (r .next))))))
 
 unfoldable pub moveFrom : ℕ → Running → Outcome Answer
-moveFrom i r = known (r .graph) (r .root) (fails (borrowed (r .graph) (r .root) (some (globalLabel i))) 109 (answer r nonRef))
+moveFrom i r = needsName (r .graph) (r .root) (fails (borrowed (r .graph) (r .root) (some (globalLabel i))) 109 (answer r nonRef))
 
 -- a value where a reference is needed, or the reverse: 11
 abbrev pub needRef : {A : Type 0} → Operand → (ℕ → Outcome A) → Outcome A
@@ -277,12 +277,12 @@ vectorTest true g n c k = needs (isMutable g n) 13 (fails (not (writable g n)) c
 vectorTest false g n c k = k
 
 unfoldable pub vectorOp : Operand → Bool → Running → Outcome Running
-vectorOp v m r = needRef v (λ n. known (r .graph) n (vectorTest m (r .graph) n 110 (releaseName n r)))
+vectorOp v m r = needRef v (λ n. needsName (r .graph) n (vectorTest m (r .graph) n 110 (releaseName n r)))
 
 unfoldable pub vectorElementBorrow : Operand → Bool → Running → Outcome Answer
 vectorElementBorrow v m r =
     needRef v (λ n.
-    known (r .graph) n
+    needsName (r .graph) n
     (vectorTest m (r .graph) n 111
     (then (newRef m r) (λ s.
     then (addBorrow n (r .next) s) (λ t.
@@ -304,14 +304,14 @@ localNames (value ∷ xs) = localNames xs
 localNames (ref n ∷ xs) = n ∷ localNames xs
 
 -- ascending, each once (a BTreeSet)
-unfoldable pub placeNumber : ℕ → List ℕ → List ℕ
-placeNumber n [] = n ∷ []
-placeNumber n (m ∷ ms) = cond (ltb n m) (n ∷ m ∷ ms) (cond (eqb n m) (m ∷ ms) (m ∷ placeNumber n ms))
+unfoldable pub putNumber : ℕ → List ℕ → List ℕ
+putNumber n [] = n ∷ []
+putNumber n (m ∷ ms) = cond (ltb n m) (n ∷ m ∷ ms) (cond (eqb n m) (m ∷ ms) (m ∷ putNumber n ms))
 
 unfoldable pub ascend : List ℕ → List ℕ
-unfolding placeNumber
+unfolding putNumber
 ascend [] = []
-ascend (n ∷ ns) = placeNumber n (ascend ns)
+ascend (n ∷ ns) = putNumber n (ascend ns)
 
 unfoldable pub releaseAll : List ℕ → Running → Outcome Running
 unfolding releaseName
@@ -326,10 +326,10 @@ borrowFrom (p ∷ ps) c r = then (addBorrow p c r) (λ s. borrowFrom ps c s)
 -- mutable references that are borrowed: they must not be handed over
 unfoldable pub handOver : {A : Type 0} → List ℕ → ℕ → Running → Outcome A → Outcome A
 handOver [] c r k = k
-handOver (n ∷ ns) c r k = known (r .graph) n (fails (isMutable (r .graph) n && not (writable (r .graph) n)) c (handOver ns c r k))
+handOver (n ∷ ns) c r k = needsName (r .graph) n (fails (isMutable (r .graph) n && not (writable (r .graph) n)) c (handOver ns c r k))
 
 unfoldable pub notAcquired : {A : Type 0} → List ℕ → Running → Outcome A → Outcome A
-notAcquired is r k = known (r .graph) (r .root) (fails (any (λ i. borrowed (r .graph) (r .root) (some (globalLabel i))) is) 109 k)
+notAcquired is r k = needsName (r .graph) (r .root) (fails (any (λ i. borrowed (r .graph) (r .root) (some (globalLabel i))) is) 109 k)
 
 pub record Answers : Type 0 where
   pub state : Running
@@ -362,7 +362,7 @@ call args acquired tokens r =
 unfoldable pub ret : List Operand → Running → Outcome Running
 ret values r =
     then (releaseAll (ascend (localNames (r .locals))) r) (λ s.
-    known (s .graph) (s .root)
+    needsName (s .graph) (s .root)
     (fails (borrowed (s .graph) (s .root) none) 113
     (handOver (operandNames values) 114 s
     (done s))))

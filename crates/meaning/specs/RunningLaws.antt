@@ -17,7 +17,7 @@ use Rattle.meaning.specs.State.{Local, absent, value, ref, count1}
 use Rattle.meaning.specs.StateLaws.{absent≢ref, value≢ref}
 use Rattle.meaning.specs.OwnLaws.{fair, times, count-le, count-yes, count-no, times-append, Owns, owns-held, owns-root, owns-once, owns-as, owns-less, release-fair, release-own, newName-fair, newName-own, borrowWeak-fair, borrowWeak-own, borrowStrong-fair, borrowStrong-own}
 use Rattle.meaning.specs.Labels.{localLabel, globalLabel, fieldLabel}
-use Rattle.meaning.specs.Running.{ordinary, Outcome, done, violated, refused, then, lift, fails, needs, Operand, nonRef, reference, Token, ofValue, ofRef, Running, Answer, Answers, withGraph, withLocal, answer, isMutable, fullyBorrowed, borrowed, mutablyBorrowed, writable, freezable, readable, known, newRef, onGraph, addCopy, addBorrow, addFieldBorrow, addLocalBorrow, addResourceBorrow, releaseName, valueFor, releaseValue, copyOf, copyLoc, moveOf, moveLoc, localOf, overwrite, stLoc, freezeRef, comparison, readRef, writeRef, borrowLoc, borrowField, borrowGlobal, moveFrom, needRef, needValue, vectorTest, vectorOp, vectorElementBorrow, operandNames, localNames, placeNumber, ascend, releaseAll, borrowFrom, handOver, notAcquired, parentsOf, returnValues, call, ret}
+use Rattle.meaning.specs.Running.{ordinary, Outcome, done, violated, refused, then, lift, fails, needs, Operand, nonRef, reference, Token, ofValue, ofRef, Running, Answer, Answers, withGraph, withLocal, answer, isMutable, fullyBorrowed, borrowed, mutablyBorrowed, writable, freezable, readable, needsName, newRef, onGraph, addCopy, addBorrow, addFieldBorrow, addLocalBorrow, addResourceBorrow, releaseName, valueFor, releaseValue, copyOf, copyLoc, moveOf, moveLoc, localOf, overwrite, stLoc, freezeRef, comparison, readRef, writeRef, borrowLoc, borrowField, borrowGlobal, moveFrom, needRef, needValue, vectorTest, vectorOp, vectorElementBorrow, operandNames, localNames, putNumber, ascend, releaseAll, borrowFrom, handOver, notAcquired, parentsOf, returnValues, call, ret}
 
 -- ---- outcomes
 
@@ -145,10 +145,10 @@ module _ (l : ℕ) (ls : List Local) where
   uses-head n xs = let c : count1 (eqb n n) ≡ 1 = count-yes (eqb-self n) in omega arith
 
   -- a look-up of a name in use
-  pub known-keeps : {A : Type 0} {P : A → Type 0} (n : ℕ) (xs : List ℕ) (m : ℕ) (r : Running) {k : Outcome A} → Keeps l ls xs m r → Uses n xs → Meets P k → Meets P (known (r .graph) n k)
+  pub known-keeps : {A : Type 0} {P : A → Type 0} (n : ℕ) (xs : List ℕ) (m : ℕ) (r : Running) {k : Outcome A} → Keeps l ls xs m r → Uses n xs → Meets P k → Meets P (needsName (r .graph) n k)
   known-keeps n xs m r h u k = meets-known (wellFormed (r .graph) && held (r .graph) n) (and-i (h .own .formed) (owns-held l (r .graph) (r .next) xs m (h .own) n u)) k
 
-  pub known-root : {A : Type 0} {P : A → Type 0} (xs : List ℕ) (m : ℕ) (r : Running) {k : Outcome A} → Keeps l ls xs m r → Meets P k → Meets P (known (r .graph) (r .root) k)
+  pub known-root : {A : Type 0} {P : A → Type 0} (xs : List ℕ) (m : ℕ) (r : Running) {k : Outcome A} → Keeps l ls xs m r → Meets P k → Meets P (needsName (r .graph) (r .root) k)
   known-root xs m r h k = known-keeps (r .root) xs m r h (uses-root xs m r h xs) k
 
   -- ---- entry points
@@ -318,12 +318,12 @@ module _ (l : ℕ) (ls : List Local) where
           omega arith
 
 -- ascending, each once: the same numbers, if each stands there once
-place-times : (n : ℕ) (ms : List ℕ) → times n ms ≡ 0 → (k : ℕ) → times k (placeNumber n ms) ≡ times k (n ∷ ms)
-unfolding placeNumber
+place-times : (n : ℕ) (ms : List ℕ) → times n ms ≡ 0 → (k : ℕ) → times k (putNumber n ms) ≡ times k (n ∷ ms)
+unfolding putNumber
 place-times n [] h k = refl
 place-times n (m ∷ ms) h k = go (ltb n m) (eqb n m) refl (place-times n ms (omega arith) k)
   where
-    go : (a b : Bool) → eqb n m ≡ b → times k (placeNumber n ms) ≡ times k (n ∷ ms) → times k (cond a (n ∷ m ∷ ms) (cond b (m ∷ ms) (m ∷ placeNumber n ms))) ≡ times k (n ∷ m ∷ ms)
+    go : (a b : Bool) → eqb n m ≡ b → times k (putNumber n ms) ≡ times k (n ∷ ms) → times k (cond a (n ∷ m ∷ ms) (cond b (m ∷ ms) (m ∷ putNumber n ms))) ≡ times k (n ∷ m ∷ ms)
     go true b e r = refl
     go false true e r = let c : count1 (eqb n m) ≡ 1 = count-yes e in absurd (omega arith)
     go false false e r = omega arith
@@ -336,7 +336,7 @@ ascend-times (x ∷ xs) h k =
     let a : times x (x ∷ xs) ≤ 1 = h x in
     let b : count1 (eqb x x) ≡ 1 = count-yes (eqb-self x) in
     let c : times x (ascend xs) ≡ times x xs = r x in
-    let d : times k (placeNumber x (ascend xs)) ≡ times k (x ∷ ascend xs) = place-times x (ascend xs) (omega arith) k in
+    let d : times k (putNumber x (ascend xs)) ≡ times k (x ∷ ascend xs) = place-times x (ascend xs) (omega arith) k in
     let e : times k (ascend xs) ≡ times k xs = r k in
     omega arith
 
@@ -393,7 +393,7 @@ module _ (l : ℕ) (ls : List Local) where
   ret-meets vs xs m r h =
       let ys : List ℕ = operandNames vs in
       meets-then (releaseAll-keeps l ls (ascend (localNames (r .locals))) (ys ++ xs) m r (keeps-as l ls (ys ++ (xs ++ localNames ls)) (ascend (localNames (r .locals)) ++ (ys ++ xs)) m r h turn))
-      (λ s. known (s .graph) (s .root) (fails (borrowed (s .graph) (s .root) none) 113 (handOver ys 114 s (done s))))
+      (λ s. needsName (s .graph) (s .root) (fails (borrowed (s .graph) (s .root) none) 113 (handOver ys 114 s (done s))))
       (λ s k. known-root l ls (ys ++ xs) m s k
       (meets-fails (borrowed (s .graph) (s .root) none) 113
       (handOver-keeps l ls ys 114 (ys ++ xs) m s k (λ p e. let a : times p (ys ++ xs) ≡ times p ys + times p xs = times-append p ys xs in omega arith) (met tt))))

@@ -97,8 +97,8 @@ insert s e =
     (refuse 22)))
 
 -- a path of at most 8 labels, or the refusal 22
-unfoldable pub within : List ℕ → Ans (List ℕ)
-within p = guard (leb (length p) 8) 22 (ok p)
+unfoldable pub shortPath : List ℕ → Ans (List ℕ)
+shortPath p = guard (leb (length p) 8) 22 (ok p)
 
 -- an insert of what may be too long: only where the edge would be put in is its refusal given
 unfoldable pub offer : EdgeSet → Ans Edge → Ans EdgeSet

@@ -13,7 +13,7 @@ use Rattle.meaning.specs.Graph.{Name, GEdge, Graph, held, holds, pairOk,
 use Rattle.meaning.specs.GraphLaws.{Inv, wf→inv, room, inv→wf, eqPair-self, eqPair-l, eqPair-r}
 use Rattle.meaning.specs.CanonLaws.{setAt-hit, setAt-miss, none-before}
 use Rattle.meaning.specs.CallLaws.{holds-all}
-use Rattle.meaning.specs.Flat.{meet, row, rowIf, rows}
+use Rattle.meaning.specs.Flat.{meet, splicedRow, rowIf, splicedRows}
 
 each-cong : {A B : Type 0} (f g : A → List B) (q : A → Bool) → ((x : A) → q x ≡ true → f x ≡ g x) → (xs : List A) → all q xs ≡ true → each xs f ≡ each xs g
 each-cong f g q h [] p = refl
@@ -123,8 +123,8 @@ module _ (g : Graph) (n : ℕ) (v : Inv g) where
       (λ y. cond (eqb n (y .parent) && not (eqb p (y .child))) (between p (splice e (y .edge)) (y .child) ∷ []) [])
       (λ y. cond-meet (eqb n (y .parent)) (eqb p (y .child)) (between p (splice e (y .edge)) (y .child) ∷ [])) (g .edges)
 
-  pub spliced-rows : spliced g n ≡ rows n (g .edges) (g .edges)
-  unfolding spliced rows row
+  pub spliced-rows : spliced g n ≡ splicedRows n (g .edges) (g .edges)
+  unfolding spliced splicedRows splicedRow
   spliced-rows =
       each-same (λ p. each (setAt (p .id) n (g .edges) .edges) (λ e. each (g .names) (λ c. each (setAt n (c .id) (g .edges) .edges) (λ f. cond (eqb (p .id) (c .id)) [] (between (p .id) (splice e f) (c .id) ∷ [])))))
       (λ p. each (setAt (p .id) n (g .edges) .edges) (out (p .id)))

@@ -13,10 +13,10 @@ use Rattle.meaning.specs.State.{Local, absent, value, ref, count1}
 use Rattle.meaning.specs.StateLaws.{absent≢ref, value≢ref, ref-inj}
 use Rattle.meaning.specs.OwnLaws.{owns-room, times, count-le, count-yes, count-no, times-append, Owns, owns-held, owns-root, owns-once}
 use Rattle.meaning.specs.Labels.{localLabel}
-use Rattle.meaning.specs.Running.{ordinary, Outcome, done, violated, refused, then, fails, needs, Operand, nonRef, reference, Token, ofValue, ofRef, Running, Answer, Answers, withLocal, answer, isMutable, borrowed, mutablyBorrowed, known, newRef, addCopy, releaseName, valueFor, releaseValue, copyOf, copyLoc, moveOf, moveLoc, localOf, overwrite, stLoc, freezeRef, comparison, readRef, writeRef, borrowLoc, borrowField, borrowGlobal, moveFrom, needRef, needValue, vectorOp, vectorElementBorrow, operandNames, localNames, call, ret}
+use Rattle.meaning.specs.Running.{ordinary, Outcome, done, violated, refused, then, fails, needs, Operand, nonRef, reference, Token, ofValue, ofRef, Running, Answer, Answers, withLocal, answer, isMutable, borrowed, mutablyBorrowed, needsName, newRef, addCopy, releaseName, valueFor, releaseValue, copyOf, copyLoc, moveOf, moveLoc, localOf, overwrite, stLoc, freezeRef, comparison, readRef, writeRef, borrowLoc, borrowField, borrowGlobal, moveFrom, needRef, needValue, vectorOp, vectorElementBorrow, operandNames, localNames, call, ret}
 use Rattle.meaning.specs.RunningLaws.{Meets, met, broke, barred, meets-done, meets-refused, meets-then, meets-fails, meets-needs, Keeps, keeps-less, keeps-as, Uses, known-keeps, known-root, borrow-keeps, strong-keeps, release-keeps, Made, valueFor-keeps, releaseValue-keeps, freezeRef-keeps, comparison-keeps, readRef-keeps, writeRef-keeps, borrowLoc-keeps, borrowField-keeps, borrowGlobal-keeps, moveFrom-keeps, vectorOp-keeps, element-keeps, Returned, call-keeps, ret-meets}
 use Rattle.meaning.specs.Steps.{Instr, Pop, CopyLoc, MoveLoc, StLoc, FreezeRef, Compare, ReadRef, WriteRef, BorrowLoc, BorrowField, BorrowGlobal, MoveFrom, Call, Ret, Values, MoveTo, VectorOp, BorrowElement, Machine, pop, popRef, popValue, popValues, popMany, push, pushed, pushAll, pushNew, unchanged, stepOn, step}
-use Rattle.meaning.specs.Blocks.{fits, isRet}
+use Rattle.meaning.specs.Blocks.{withinFrame, isRet}
 
 -- ---- names in locals
 
@@ -388,7 +388,7 @@ module _ (l : ℕ) (small : l ≤ 16) where
           omega arith
 
   -- a step that is no return, of an instruction that fits
-  pub step-fine : (returns : ℕ) (i : Instr) (vs : List Operand) (m : ℕ) (r : Running) → fits l i ≡ true → isRet i ≡ false → Good l (m + 17) vs r → length vs ≤ 16 → Meets (Fine l m) (stepOn returns i vs r)
+  pub step-fine : (returns : ℕ) (i : Instr) (vs : List Operand) (m : ℕ) (r : Running) → withinFrame l i ≡ true → isRet i ≡ false → Good l (m + 17) vs r → length vs ≤ 16 → Meets (Fine l m) (stepOn returns i vs r)
   step-fine q i vs m r f n h b = go i f n
     where
       k₀ : Good l m vs r
@@ -400,7 +400,7 @@ module _ (l : ℕ) (small : l ≤ 16) where
       wide : length (under vs r) ≤ 46
       wide = let d : length (under vs r) ≤ length vs + 16 = room (r .locals) vs (h .count) in omega arith
 
-      go : (i : Instr) → fits l i ≡ true → isRet i ≡ false → Meets (Fine l m) (stepOn q i vs r)
+      go : (i : Instr) → withinFrame l i ≡ true → isRet i ≡ false → Meets (Fine l m) (stepOn q i vs r)
       go Pop f n = step-pop vs m r k₀ b
       go (CopyLoc i) f n = pushed-fine vs m (copyLoc-good i vs m r k₁ (omega arith))
       go (MoveLoc i) f n = pushed-fine vs m (moveLoc-good i vs m r k₀)
@@ -466,11 +466,11 @@ module _ (l : ℕ) (small : l ≤ 16) where
       let c : length (h .stack) ≤ 16 = f .few in
       omega arith
 
-  pub step-keeps : (returns : ℕ) (i : Instr) (m : ℕ) (h k : Machine) → fits l i ≡ true → isRet i ≡ false → Fine l (m + 17) h → step returns i h ≡ done k → Fine l m k
+  pub step-keeps : (returns : ℕ) (i : Instr) (m : ℕ) (h k : Machine) → withinFrame l i ≡ true → isRet i ≡ false → Fine l (m + 17) h → step returns i h ≡ done k → Fine l m k
   unfolding step
   step-keeps q i m h k f n w e = meets-done (step-fine q i (h .stack) m (h .state) f n (w .good) (w .few)) k e
 
-  pub step-refuses : (returns : ℕ) (i : Instr) (m : ℕ) (h : Machine) (n : ℕ) → fits l i ≡ true → Fine l (m + 17) h → step returns i h ≡ refused n → ordinary n ≡ true
+  pub step-refuses : (returns : ℕ) (i : Instr) (m : ℕ) (h : Machine) (n : ℕ) → withinFrame l i ≡ true → Fine l (m + 17) h → step returns i h ≡ refused n → ordinary n ≡ true
   unfolding step
   step-refuses q i m h n f w e =
       decide (isRet i)

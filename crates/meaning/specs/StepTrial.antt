@@ -8,11 +8,11 @@ use lib.Dec.{eqb}
 use Rattle.meaning.specs.Base.{all}
 use Rattle.meaning.specs.Sets.{insert, eqEdge, eqPath, prefix, has, put, ltEdge, ltPath, setOk, ordered, short, isBlur}
 use Rattle.meaning.specs.Graph.{splice, setAt, release, wellFormed, holds, spliced, without, addAll, addEdge, setTo, limit, ascending, inOrder}
-use Rattle.meaning.specs.Borrow.{newName, borrowWeak, borrowStrong, placeName}
-use Rattle.meaning.specs.Rename.{canonical, crosses, renamed, renameNames, renameEdges, placeEdge, ownNames, newNameOf, indexOf}
+use Rattle.meaning.specs.Borrow.{newName, borrowWeak, borrowStrong, putName}
+use Rattle.meaning.specs.Rename.{canonical, crosses, renamed, renameNames, renameEdges, putEdge, ownNames, newNameOf, localHolding}
 use Rattle.meaning.specs.State.{State, join, changed}
-use Rattle.meaning.specs.Loop.{Block, run, verdict, lowest, Verdict, violation, accept, refusal, spread, step as loopStep, steps, startSlots, position}
-use Rattle.meaning.specs.Running.{Token, ofValue, ofRef, isMutable, fullyBorrowed, borrowed, mutablyBorrowed, newRef, addCopy, addBorrow, addFieldBorrow, addLocalBorrow, addResourceBorrow, releaseName, valueFor, releaseValue, copyLoc, moveLoc, stLoc, freezeRef, comparison, readRef, writeRef, borrowLoc, borrowField, borrowGlobal, moveFrom, vectorOp, vectorElementBorrow, placeNumber, ascend, releaseAll, borrowFrom, handOver, notAcquired, returnValues, call, ret}
+use Rattle.meaning.specs.Loop.{Block, run, verdict, lowest, Verdict, violation, accept, refusal, spread, turn as loopStep, turns, startSlots, position}
+use Rattle.meaning.specs.Running.{Token, ofValue, ofRef, isMutable, fullyBorrowed, borrowed, mutablyBorrowed, newRef, addCopy, addBorrow, addFieldBorrow, addLocalBorrow, addResourceBorrow, releaseName, valueFor, releaseValue, copyLoc, moveLoc, stLoc, freezeRef, comparison, readRef, writeRef, borrowLoc, borrowField, borrowGlobal, moveFrom, vectorOp, vectorElementBorrow, putNumber, ascend, releaseAll, borrowFrom, handOver, notAcquired, returnValues, call, ret}
 use Rattle.meaning.specs.Steps.{Instr, Pop, CopyLoc, MoveLoc, StLoc, FreezeRef, Compare, ReadRef, WriteRef, BorrowLoc, BorrowField, BorrowGlobal, MoveFrom, Ret, Values, Call, MoveTo, VectorOp, BorrowElement, popValues, popMany, push, pushAll, pushNew, step}
 use Rattle.meaning.specs.Blocks.{Routine, instrsOf, runFrom, runBlock, exec, firstState, firstLocals, firstNames}
 
@@ -27,7 +27,7 @@ moved = record {
 }
 
 pub moved-accepted : verdict (moved .blocks) (run State join changed (exec moved) (moved .blocks) 10 (firstState (moved .locals) (moved .params))) ≡ accept
-unfolding firstState firstLocals firstNames run steps loopStep spread startSlots position verdict lowest exec runBlock runFrom instrsOf step popValues popMany push pushAll pushNew valueFor newRef stLoc borrowLoc moveLoc addLocalBorrow addBorrow borrowed mutablyBorrowed isMutable newName borrowStrong borrowWeak placeName wellFormed holds ascending setAt setTo setOk ordered short inOrder isBlur addAll addEdge insert limit has put prefix eqEdge eqPath ltEdge ltPath canonical crosses renamed renameNames renameEdges placeEdge ownNames newNameOf indexOf call notAcquired handOver returnValues borrowFrom releaseAll releaseName release spliced without splice ascend placeNumber ret
+unfolding firstState firstLocals firstNames run turns loopStep spread startSlots position verdict lowest exec runBlock runFrom instrsOf step popValues popMany push pushAll pushNew valueFor newRef stLoc borrowLoc moveLoc addLocalBorrow addBorrow borrowed mutablyBorrowed isMutable newName borrowStrong borrowWeak putName wellFormed holds ascending setAt setTo setOk ordered short inOrder isBlur addAll addEdge insert limit has put prefix eqEdge eqPath ltEdge ltPath canonical crosses renamed renameNames renameEdges putEdge ownNames newNameOf localHolding call notAcquired handOver returnValues borrowFrom releaseAll releaseName release spliced without splice ascend putNumber ret
 moved-accepted = refl
 
 -- an exchange of two references, which is 16, with an operand left: 14 comes first
@@ -41,7 +41,7 @@ left = record {
 }
 
 pub left-refused : verdict (left .blocks) (run State join changed (exec left) (left .blocks) 10 (firstState (left .locals) (left .params))) ≡ refusal 14 4
-unfolding firstState firstLocals firstNames run steps loopStep spread startSlots position verdict lowest exec runBlock runFrom instrsOf step popValues popMany push pushAll pushNew valueFor newRef stLoc borrowLoc moveLoc addLocalBorrow addBorrow borrowed mutablyBorrowed isMutable newName borrowStrong borrowWeak placeName wellFormed holds ascending setAt setTo setOk ordered short inOrder isBlur addAll addEdge insert limit has put prefix eqEdge eqPath ltEdge ltPath canonical crosses renamed renameNames renameEdges placeEdge ownNames newNameOf indexOf call notAcquired handOver returnValues borrowFrom releaseAll releaseName release spliced without splice ascend placeNumber ret
+unfolding firstState firstLocals firstNames run turns loopStep spread startSlots position verdict lowest exec runBlock runFrom instrsOf step popValues popMany push pushAll pushNew valueFor newRef stLoc borrowLoc moveLoc addLocalBorrow addBorrow borrowed mutablyBorrowed isMutable newName borrowStrong borrowWeak putName wellFormed holds ascending setAt setTo setOk ordered short inOrder isBlur addAll addEdge insert limit has put prefix eqEdge eqPath ltEdge ltPath canonical crosses renamed renameNames renameEdges putEdge ownNames newNameOf localHolding call notAcquired handOver returnValues borrowFrom releaseAll releaseName release spliced without splice ascend putNumber ret
 left-refused = refl
 
 -- ---- one block without successors, for each number of document 01
@@ -74,9 +74,9 @@ mut = ofRef true
 abbrev imm : Token
 imm = ofRef false
 
-unfoldable pub cases : List Bool
+unfoldable pub routines : List Bool
 unfolding whole
-cases =
+routines =
     whole 1 (ofValue ∷ []) 0 (BorrowLoc 0 true ∷ CopyLoc 0 ∷ []) (violation 101 1)
     ∷ whole 1 (ofValue ∷ []) 0 (BorrowLoc 0 false ∷ CopyLoc 0 ∷ Pop ∷ Pop ∷ []) accept
     ∷ whole 1 (ofValue ∷ []) 0 (BorrowLoc 0 true ∷ Values 0 15 ofValue ∷ CopyLoc 0 ∷ []) (violation 101 2)
@@ -131,6 +131,6 @@ cases =
     ∷ whole 1 (imm ∷ []) 0 (MoveLoc 0 ∷ load ∷ MoveTo ∷ []) accept
     ∷ []
 
-pub all-cases : all (λ b. b) cases ≡ true
-unfolding cases whole firstState firstLocals firstNames run steps loopStep spread startSlots position verdict lowest exec runBlock runFrom instrsOf step popValues popMany push pushAll pushNew valueFor releaseValue newRef copyLoc moveLoc stLoc freezeRef comparison readRef writeRef borrowLoc borrowField borrowGlobal moveFrom vectorOp vectorElementBorrow addCopy addBorrow addFieldBorrow addLocalBorrow addResourceBorrow releaseName fullyBorrowed borrowed mutablyBorrowed isMutable newName borrowStrong borrowWeak placeName wellFormed holds ascending setAt setTo setOk ordered short inOrder isBlur addAll addEdge insert limit has put prefix eqEdge eqPath ltEdge ltPath canonical crosses call notAcquired handOver returnValues borrowFrom releaseAll release spliced without splice ascend placeNumber ret
+pub all-cases : all (λ b. b) routines ≡ true
+unfolding routines whole firstState firstLocals firstNames run turns loopStep spread startSlots position verdict lowest exec runBlock runFrom instrsOf step popValues popMany push pushAll pushNew valueFor releaseValue newRef copyLoc moveLoc stLoc freezeRef comparison readRef writeRef borrowLoc borrowField borrowGlobal moveFrom vectorOp vectorElementBorrow addCopy addBorrow addFieldBorrow addLocalBorrow addResourceBorrow releaseName fullyBorrowed borrowed mutablyBorrowed isMutable newName borrowStrong borrowWeak putName wellFormed holds ascending setAt setTo setOk ordered short inOrder isBlur addAll addEdge insert limit has put prefix eqEdge eqPath ltEdge ltPath canonical crosses call notAcquired handOver returnValues borrowFrom releaseAll release spliced without splice ascend putNumber ret
 all-cases = refl

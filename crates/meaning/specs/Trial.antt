@@ -12,7 +12,7 @@ use Rattle.meaning.specs.Graph.{Graph, Name, GEdge, splice, setAt, relea
 use Rattle.meaning.specs.Labels.{fieldLabel}
 use Rattle.meaning.specs.Borrow.{borrowStrong}
 use Rattle.meaning.specs.State.{Local, absent, value, ref, State, join, joinLocal, joinLocals, changed, eqLocals, eqSets, eqSet, eqEdges, changes, count1}
-use Rattle.meaning.specs.Loop.{Result, ended, violated, refused, Block, Run, run, visits, verdict, lowest, Verdict, violation, accept, spread, step, steps, startSlots, position}
+use Rattle.meaning.specs.Loop.{Result, ended, violated, refused, Block, Run, run, visits, verdict, lowest, Verdict, violation, accept, spread, turn, turns, startSlots, position}
 use Rattle.meaning.specs.Marked.{name, strong, weak, single, isSets}
 
 -- L = 2: both locals are references; local 0 borrows the root by field n, local 1 borrows local 0 by field 7
@@ -47,7 +47,7 @@ abbrev two : List Block
 two = record { entry = 0; exit = 0; successors = 1 ∷ [] } ∷ record { entry = 1; exit = 1; successors = 0 ∷ [] } ∷ []
 
 loops : visits (run ℕ top (λ a b. not (eqb a b)) (λ i s. ended (suc s)) two 100 0) ≡ 6
-unfolding run steps step spread startSlots position
+unfolding run turns turn spread startSlots position
 loops = refl
 
 -- a strong borrow moves the weak edges below it too

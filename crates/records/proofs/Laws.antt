@@ -26,7 +26,7 @@ pub frame-else : (f : ℕ) → 9 ≤ f → fieldOf f ≡ D.Field.frame
 frame-else f h = List·getD-eq-default fieldList D.Field.frame {n = f} h
 
 -- a kind of no row
-pub unused : (k : ℕ) (rs : List D.Row) → all (λ r. not (eqb k (r .kind))) rs ≡ true → (D.inUse k rs ≡ false) × (D.fieldsIn k rs ≡ [])
+pub unused : (k : ℕ) (rs : List D.Shape) → all (λ r. not (eqb k (r .kind))) rs ≡ true → (D.inUse k rs ≡ false) × (D.fieldsIn k rs ≡ [])
 unfolding D.inUse D.fieldsIn
 unused k [] h = (refl, refl)
 unused k (r ∷ rs) h =
@@ -37,37 +37,37 @@ unused k (r ∷ rs) h =
 
 -- ---- a body field by field: what is left from field k and byte i on gives the answer r
 
-module _ (l : ℕ) (fs gs : List D.Field) (b : List ℕ) (i w : ℕ) (f : D.Field) (here : fs ≡ f ∷ gs) (wide : w ≡ D.width f (drop i b)) where
+module _ (l : ℕ) (fs gs : List D.Field) (b : List ℕ) (i w : ℕ) (f : D.Field) (here : fs ≡ f ∷ gs) (wide : w ≡ D.fieldWidth f (drop i b)) where
   pub fit-wide : (r : Bool) → D.fitsBody l fs (drop i b) ≡ r → length (drop i b) < w → false ≡ r
   unfolding D.fitsBody
   fit-wide r e h =
-      let n : leb (D.width f (drop i b)) (length (drop i b)) ≡ false = lt-leb _ _ (rw wide at h) in
+      let n : leb (D.fieldWidth f (drop i b)) (length (drop i b)) ≡ false = lt-leb _ _ (rw wide at h) in
       rw (here, n) at e
 
-  pub fit-wrong : (r : Bool) → D.fitsBody l fs (drop i b) ≡ r → w ≤ length (drop i b) → D.right l f (drop i b) ≡ false → false ≡ r
+  pub fit-wrong : (r : Bool) → D.fitsBody l fs (drop i b) ≡ r → w ≤ length (drop i b) → D.fieldRight l f (drop i b) ≡ false → false ≡ r
   unfolding D.fitsBody
   fit-wrong r e h q =
-      let n : leb (D.width f (drop i b)) (length (drop i b)) ≡ true = le-leb (rw wide at h) in
+      let n : leb (D.fieldWidth f (drop i b)) (length (drop i b)) ≡ true = le-leb (rw wide at h) in
       rw (here, n, q) at e
 
-  pub fit-turn : (r : Bool) → D.fitsBody l fs (drop i b) ≡ r → w ≤ length (drop i b) → D.right l f (drop i b) ≡ true
+  pub fit-turn : (r : Bool) → D.fitsBody l fs (drop i b) ≡ r → w ≤ length (drop i b) → D.fieldRight l f (drop i b) ≡ true
       → D.fitsBody l gs (drop (i + w) b) ≡ r
   unfolding D.fitsBody
   fit-turn r e h q =
-      let n : leb (D.width f (drop i b)) (length (drop i b)) ≡ true = le-leb (rw wide at h) in
-      let g : D.fitsBody l gs (drop (D.width f (drop i b)) (drop i b)) ≡ r = rw (here, n, q) at e in
+      let n : leb (D.fieldWidth f (drop i b)) (length (drop i b)) ≡ true = le-leb (rw wide at h) in
+      let g : D.fitsBody l gs (drop (D.fieldWidth f (drop i b)) (drop i b)) ≡ r = rw (here, n, q) at e in
       rw (← drop-drop w i b, wide) g
 
-  pub within-turn : (x y r : Bool) → (x && D.withinLimits fs (drop i b)) ≡ r → y ≡ D.within f (drop i b)
+  pub within-turn : (x y r : Bool) → (x && D.withinLimits fs (drop i b)) ≡ r → y ≡ D.fieldWithin f (drop i b)
       → ((x && y) && D.withinLimits gs (drop (i + w) b)) ≡ r
   unfolding D.withinLimits
   within-turn x y r e q =
-      let g : (x && (D.within f (drop i b) && D.withinLimits gs (drop (D.width f (drop i b)) (drop i b)))) ≡ r = rw here at e in
+      let g : (x && (D.fieldWithin f (drop i b) && D.withinLimits gs (drop (D.fieldWidth f (drop i b)) (drop i b)))) ≡ r = rw here at e in
       rw (← drop-drop w i b, wide, q, and-assoc) g
 
   -- the test of the code: the field runs past the end, or is not right
   module _ (n : ℕ) (q : Bool) (left : n ≡ length (drop i b)) where
-    pub fit-stop : (r : Bool) → D.fitsBody l fs (drop i b) ≡ r → (D.width f (drop i b) ≤ length (drop i b) → q ≡ D.right l f (drop i b))
+    pub fit-stop : (r : Bool) → D.fitsBody l fs (drop i b) ≡ r → (D.fieldWidth f (drop i b) ≤ length (drop i b) → q ≡ D.fieldRight l f (drop i b))
         → (ltb n w || not q) ≡ true → false ≡ r
     fit-stop r e t h =
         decide (ltb n w)
@@ -99,7 +99,7 @@ module _ (l : ℕ) (fs : List D.Field) (b : List ℕ) (i : ℕ) (past : fs ≡ [
   within-done x r e = sym (and-true x) ∙ (rw past at e)
 
 -- every field takes a byte
-pub some-width : (f : D.Field) (b : List ℕ) → 0 < D.width f b
+pub some-width : (f : D.Field) (b : List ℕ) → 0 < D.fieldWidth f b
 some-width (D.Field.byte r m) b = omega arith
 some-width D.Field.word b = omega arith
 some-width D.Field.local b = omega arith
@@ -113,7 +113,7 @@ below x n = leb-iff (suc x) (n + 1) x n (λ h. omega arith) (λ h. omega arith)
 -- ---- fields of a fixed width: by their numbers, 0 to 5
 
 module _ (l : ℕ) (b : List ℕ) (x : ℕ) (first : x ≡ getD b 0 0) (byte : x < 256) where
-  pub plain-right : (f : ℕ) → f ≤ 5 → ltb x (limitOf l f) ≡ D.right l (fieldOf f) b
+  pub plain-right : (f : ℕ) → f ≤ 5 → ltb x (limitOf l f) ≡ D.fieldRight l (fieldOf f) b
   plain-right zero h = below x 0 ∙ ap (λ (n : ℕ). leb n 0) first
   plain-right (suc zero) h = below x 1 ∙ ap (λ (n : ℕ). leb n 1) first
   plain-right (suc (suc zero)) h = below x 2 ∙ ap (λ (n : ℕ). leb n 2) first
@@ -122,7 +122,7 @@ module _ (l : ℕ) (b : List ℕ) (x : ℕ) (first : x ≡ getD b 0 0) (byte : x
   plain-right (suc (suc (suc (suc (suc zero))))) h = lt-ltb x 256 byte
   plain-right (suc (suc (suc (suc (suc (suc f)))))) h = absurd (omega arith)
 
-  pub plain-width : (f : ℕ) → f ≤ 5 → 1 + f / 5 ≡ D.width (fieldOf f) b
+  pub plain-width : (f : ℕ) → f ≤ 5 → 1 + f / 5 ≡ D.fieldWidth (fieldOf f) b
   plain-width zero h = refl
   plain-width (suc zero) h = refl
   plain-width (suc (suc zero)) h = refl
@@ -131,7 +131,7 @@ module _ (l : ℕ) (b : List ℕ) (x : ℕ) (first : x ≡ getD b 0 0) (byte : x
   plain-width (suc (suc (suc (suc (suc zero))))) h = refl
   plain-width (suc (suc (suc (suc (suc (suc f)))))) h = absurd (omega arith)
 
-  pub plain-within : (f : ℕ) → f ≤ 5 → D.right l (fieldOf f) b ≡ true → (not (eqb f 3) || leb x 16) ≡ D.within (fieldOf f) b
+  pub plain-within : (f : ℕ) → f ≤ 5 → D.fieldRight l (fieldOf f) b ≡ true → (not (eqb f 3) || leb x 16) ≡ D.fieldWithin (fieldOf f) b
   plain-within zero h r = sym r
   plain-within (suc zero) h r = sym r
   plain-within (suc (suc zero)) h r = sym r
@@ -179,8 +179,8 @@ unfolding packed
 fields-end x z = rw z
 
 -- a kind that is not in use
-pub unused-kind : (k : ℕ) → (k ≡ 1 → ⊥) → (k ≡ 2 → ⊥) → ((j : ℕ) → 10 ≤ j → j ≤ 27 → k ≡ j → ⊥) → (D.known k ≡ false) × (D.fieldsOf k ≡ [])
-unfolding D.known D.fieldsOf
+pub unused-kind : (k : ℕ) → (k ≡ 1 → ⊥) → (k ≡ 2 → ⊥) → ((j : ℕ) → 10 ≤ j → j ≤ 27 → k ≡ j → ⊥) → (D.kindInUse k ≡ false) × (D.fieldsOf k ≡ [])
+unfolding D.kindInUse D.fieldsOf
 unused-kind k a b far = unused k D.shapes tests
   where
     no : (j : ℕ) → 10 ≤ j → j ≤ 27 → not (eqb k j) ≡ true
@@ -247,15 +247,15 @@ module _ (s : List ℕ) (at : ℕ) where
     unfolding D.faultAt
     fault-1 w = rw w
 
-    pub fault-2 : D.wholeAt s at ≡ true → D.known (D.kindAt s at) ≡ false → D.faultAt s l at ≡ 2
+    pub fault-2 : D.wholeAt s at ≡ true → D.kindInUse (D.kindAt s at) ≡ false → D.faultAt s l at ≡ 2
     unfolding D.faultAt
     fault-2 w k = rw (w, k)
 
-    pub fault-4 : D.wholeAt s at ≡ true → D.known (D.kindAt s at) ≡ true → Bool·beq (eqb (D.kindAt s at) 1) (eqb at 0) ≡ false → D.faultAt s l at ≡ 4
+    pub fault-4 : D.wholeAt s at ≡ true → D.kindInUse (D.kindAt s at) ≡ true → Bool·beq (eqb (D.kindAt s at) 1) (eqb at 0) ≡ false → D.faultAt s l at ≡ 4
     unfolding D.faultAt
     fault-4 w k b = rw (w, k, b)
 
-    pub fault-body : D.wholeAt s at ≡ true → D.known (D.kindAt s at) ≡ true → Bool·beq (eqb (D.kindAt s at) 1) (eqb at 0) ≡ true
+    pub fault-body : D.wholeAt s at ≡ true → D.kindInUse (D.kindAt s at) ≡ true → Bool·beq (eqb (D.kindAt s at) 1) (eqb at 0) ≡ true
         → D.faultAt s l at ≡ bodyFault l (D.fieldsOf (D.kindAt s at)) (D.bodyAt s at)
     unfolding D.faultAt bodyFault
     fault-body w k b = rw (w, k, b)

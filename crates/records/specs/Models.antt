@@ -47,11 +47,11 @@ kinds = 1 ∷ 2 ∷ 10 ∷ 11 ∷ 12 ∷ 13 ∷ 14 ∷ 15 ∷ 16 ∷ 17 ∷ 18 �
 pub record RowFor (kind r : ℕ) : Type 0 where
   pub small : r ≤ 20
   pub here : r < 20 → getD kinds r 0 ≡ kind
-  pub none : r ≡ 20 → D.known kind ≡ false
+  pub none : r ≡ 20 → D.kindInUse kind ≡ false
   pub bare : r ≡ 20 → D.fieldsOf kind ≡ []
 
 pub record ShapeFor (kind : ℕ) (r : Shape) : Type 0 where
-  pub known : r .known ≡ D.known kind
+  pub known : r .known ≡ D.kindInUse kind
   pub fields : fieldsIn r ≡ D.fieldsOf kind
 
 -- the least number that a field of a fixed width may not start with
@@ -60,9 +60,9 @@ limitOf l f = getD (1 ∷ 2 ∷ 3 ∷ 256 ∷ l ∷ []) f 256
 
 -- what the tests of a field that starts these bytes say
 pub record FieldFor (l : ℕ) (f : D.Field) (b : List ℕ) (r : Field) : Type 0 where
-  pub width : r .width ≡ D.width f b
-  pub right : D.width f b ≤ length b → r .right ≡ D.right l f b
-  pub within : D.right l f b ≡ true → r .within ≡ D.within f b
+  pub width : r .width ≡ D.fieldWidth f b
+  pub right : D.fieldWidth f b ≤ length b → r .right ≡ D.fieldRight l f b
+  pub within : D.fieldRight l f b ≡ true → r .within ≡ D.fieldWithin f b
 
 -- ---- records
 

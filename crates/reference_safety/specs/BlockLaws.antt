@@ -15,7 +15,7 @@ use Rattle.meaning.specs.ArrayLaws.{front-map-step}
 use Rattle.meaning.specs.Running.{Outcome, done, violated, refused, then, lift, Operand, Running}
 use Rattle.meaning.specs.Steps.{Instr, Machine, stepOn, step}
 use Rattle.meaning.specs.Loop.{Result, Block}
-use Rattle.meaning.specs.Blocks.{Routine, instrsOf, start, renamedEnd, finish, settle, runFrom, runBlock}
+use Rattle.meaning.specs.Blocks.{Routine, instrsOf, startMachine, renamedEnd, finish, settle, runFrom, runBlock}
 use Rattle.abstract_state.specs.Models.{halted}
 use Rattle.abstract_state.specs.ModelLaws.{goes}
 use Rattle.listing.specs.Models.{withParts, decodedOf}
@@ -52,7 +52,7 @@ module _ {A : Type 0} where
       ap (λ (k : ℕ). take k (x ∷ xs)) e ∙ ap (λ (l : List A). x ∷ l) (take-min xs m)
 
 -- a block ends behind its exit, or with the code
-pub block-start : (q : Routine) (b : Block) (s : State) (end : ℕ) (r : Running) (vs : List Operand) → r ≡ start (q .locals) s .state → vs ≡ [] → end ≡ min (length (q .code)) (b .entry + suc (b .exit - b .entry))
+pub block-start : (q : Routine) (b : Block) (s : State) (end : ℕ) (r : Running) (vs : List Operand) → r ≡ startMachine (q .locals) s .state → vs ≡ [] → end ≡ min (length (q .code)) (b .entry + suc (b .exit - b .entry))
     → runFrom (q .returns) b s (b .entry) (take (end - b .entry) (drop (b .entry) (q .code))) (with vs r) ≡ runBlock q b s
 unfolding runBlock instrsOf
 block-start q b s end r vs e f g =
@@ -131,7 +131,7 @@ module _ (entry exit n a c : ℕ) (s : State) (r : Running) (vs : List Operand) 
     unfolding canonicalEnd
     finish-some e = named (canonical (r .root) (record { locals = r .locals; graph = r .graph })) ∙ go n e ∙ nothing (finish block s r)
       where
-        named : (t : Ans State) → placed exit (then (lift t) (λ x. done (start (r .root) x .state))) ≡ renamedEnd exit t
+        named : (t : Ans State) → placed exit (then (lift t) (λ x. done (startMachine (r .root) x .state))) ≡ renamedEnd exit t
         named (ok t) = refl
         named (refuse k) = refl
 

@@ -99,7 +99,7 @@ fn past(b: Block) -> usize
 
 // The state that a block starts with, in a routine of so many locals.
 fn begin(state: AbstractState, locals: u8) -> AbstractState
-    ensures { λ r. ⌜ (r .violation ≡ 0) × (r .refusal ≡ 0) × (runningOf r ≡ Q.start locals (stateIn locals state) .state) ⌝ }
+    ensures { λ r. ⌜ (r .violation ≡ 0) × (r .refusal ≡ 0) × (runningOf r ≡ Q.startMachine locals (stateIn locals state) .state) ⌝ }
 {
     let mut s = state;
     s.violation = 0;

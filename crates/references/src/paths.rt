@@ -5,7 +5,7 @@ ghost use mathlib.Core.List.{[], _∷_, _++_};
 ghost use Prim.Native.Nat.{_*_, _^_, _≤_, _<_};
 ghost use lib.ListN.{length, drop};
 ghost use Rattle.meaning.specs.Labels.{numberOf, labelAt, kindOf, indexOf};
-ghost use Rattle.meaning.specs.Sets.{prefix, comparePaths, within};
+ghost use Rattle.meaning.specs.Sets.{prefix, comparePaths, shortPath};
 ghost use Rattle.references.specs.Models.{labelOf, orderingOf, firstNumber, kindsFrom, joinedKinds, pathOf, appendedOf};
 
 // Document 01's label. Its number puts the kind before the index, so that labels stand in the order of their numbers.
@@ -224,7 +224,7 @@ pub fn factor(lhs: Path, rhs: Path) -> Path
 }
 
 pub fn append(lhs: Path, rhs: Path) -> Appended
-    ensures { λ r. ⌜ appendedOf r ≡ within (pathOf lhs ++ pathOf rhs) ⌝ }
+    ensures { λ r. ⌜ appendedOf r ≡ shortPath (pathOf lhs ++ pathOf rhs) ⌝ }
 {
     let n = lhs.len();
     let m = rhs.len();

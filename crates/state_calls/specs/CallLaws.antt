@@ -9,7 +9,7 @@ use Rattle.meaning.specs.Base.{any, keep, and-l, or-false}
 use Rattle.meaning.specs.Labels.{globalLabel}
 use Rattle.meaning.specs.Graph.{wellFormed, held}
 use Rattle.meaning.specs.Lookups as L
-use Rattle.meaning.specs.Running.{Outcome, done, violated, refused, then, fails, needs, known, Token, ofValue, ofRef, Operand, nonRef, reference, Running, Answer, Answers, answer, isMutable, borrowed, writable, newRef, operandNames, localNames, ascend, releaseAll, borrowFrom, handOver, notAcquired, parentsOf, returnValues, call, ret}
+use Rattle.meaning.specs.Running.{Outcome, done, violated, refused, then, fails, needs, needsName, Token, ofValue, ofRef, Operand, nonRef, reference, Running, Answer, Answers, answer, isMutable, borrowed, writable, newRef, operandNames, localNames, ascend, releaseAll, borrowFrom, handOver, notAcquired, parentsOf, returnValues, call, ret}
 use Rattle.abstract_state.specs.Models.{halted, heeding, failing}
 use Rattle.abstract_state.specs.ModelLaws.{here, halted-then, then-then}
 use Rattle.state_calls.specs.Models.{knownMutable}
@@ -43,17 +43,17 @@ acquire-step i is r = go (wellFormed (r .graph) && held (r .graph) (r .root)) (b
     go true false e = sym e
     go false b e = refl
 
-pub acquire-one : (i : ℕ) (r : Running) → failing (L.known (r .graph) (r .root) (borrowed (r .graph) (r .root) (some (globalLabel i)))) 109 r ≡ acquiring (i ∷ []) r
+pub acquire-one : (i : ℕ) (r : Running) → failing (L.ofName (r .graph) (r .root) (borrowed (r .graph) (r .root) (some (globalLabel i)))) 109 r ≡ acquiring (i ∷ []) r
 unfolding notAcquired
 acquire-one i r =
     failing-at (r .graph) (r .root) (borrowed (r .graph) (r .root) (some (globalLabel i))) r 109 refl
-    ∙ ap (λ (b : Bool). known (r .graph) (r .root) (fails b 109 (done r))) (sym (or-false (borrowed (r .graph) (r .root) (some (globalLabel i)))))
+    ∙ ap (λ (b : Bool). needsName (r .graph) (r .root) (fails b 109 (done r))) (sym (or-false (borrowed (r .graph) (r .root) (some (globalLabel i)))))
 
-pub acquire-none : (b : Bool) (r : Running) → heeding (L.known (r .graph) (r .root) b) r ≡ acquiring [] r
+pub acquire-none : (b : Bool) (r : Running) → heeding (L.ofName (r .graph) (r .root) b) r ≡ acquiring [] r
 unfolding notAcquired
 acquire-none b r = heeding-at (r .graph) (r .root) b r
 
-pub hand-one : (n c : ℕ) (r : Running) → eqb c 0 ≡ false → failing (L.known (r .graph) n (isMutable (r .graph) n && not (writable (r .graph) n))) c r ≡ handing c (reference n ∷ []) r
+pub hand-one : (n c : ℕ) (r : Running) → eqb c 0 ≡ false → failing (L.ofName (r .graph) n (isMutable (r .graph) n && not (writable (r .graph) n))) c r ≡ handing c (reference n ∷ []) r
 unfolding handOver
 hand-one n c r z = failing-at (r .graph) n (isMutable (r .graph) n && not (writable (r .graph) n)) r c z
 
@@ -69,7 +69,7 @@ hand-then [] c r k = refl
 hand-then {B} (n ∷ ns) c r k =
     let b : Bool = isMutable (r .graph) n && not (writable (r .graph) n) in
     known-fails-then (r .graph) n b c (handOver ns c r (done r)) k
-    ∙ ap (λ (o : Outcome B). known (r .graph) n (fails b c o)) (hand-then ns c r k)
+    ∙ ap (λ (o : Outcome B). needsName (r .graph) n (fails b c o)) (hand-then ns c r k)
 
 -- ---- the values returned
 
@@ -212,10 +212,10 @@ module _ (args : List Operand) (is : List ℕ) (ts : List Token) (ms ns : List �
 
 -- nothing may be borrowed from the frame
 abbrev pub framed : Running → Outcome Running
-framed s = known (s .graph) (s .root) (fails (borrowed (s .graph) (s .root) none) 113 (done s))
+framed s = needsName (s .graph) (s .root) (fails (borrowed (s .graph) (s .root) none) 113 (done s))
 
-pub frame-one : (r : Running) → failing (L.known (r .graph) (r .root) (not (not (borrowed (r .graph) (r .root) none)))) 113 r ≡ framed r
-frame-one r = ap (λ (b : Bool). failing (L.known (r .graph) (r .root) b) 113 r) (twice (borrowed (r .graph) (r .root) none)) ∙ failing-at (r .graph) (r .root) (borrowed (r .graph) (r .root) none) r 113 refl
+pub frame-one : (r : Running) → failing (L.ofName (r .graph) (r .root) (not (not (borrowed (r .graph) (r .root) none)))) 113 r ≡ framed r
+frame-one r = ap (λ (b : Bool). failing (L.ofName (r .graph) (r .root) b) 113 r) (twice (borrowed (r .graph) (r .root) none)) ∙ failing-at (r .graph) (r .root) (borrowed (r .graph) (r .root) none) r 113 refl
   where
     twice : (b : Bool) → not (not b) ≡ b
     twice true = refl
@@ -225,7 +225,7 @@ module _ (vs : List Operand) (ns : List ℕ) (r : Running) where
   ret-at : ns ≡ ascend (localNames (r .locals)) → then (releaseAll ns r) (λ s. then (framed s) (handing 114 vs)) ≡ ret vs r
   unfolding ret
   ret-at e =
-      let rest : Running → Outcome Running = λ s. known (s .graph) (s .root) (fails (borrowed (s .graph) (s .root) none) 113 (handing 114 vs s)) in
+      let rest : Running → Outcome Running = λ s. needsName (s .graph) (s .root) (fails (borrowed (s .graph) (s .root) none) 113 (handing 114 vs s)) in
       under (releaseAll ns r) (λ s. then (framed s) (handing 114 vs)) rest (λ s. known-fails-then (s .graph) (s .root) (borrowed (s .graph) (s .root) none) 113 (done s) (handing 114 vs))
       ∙ ap (λ (l : List ℕ). then (releaseAll l r) rest) e
 

@@ -8,7 +8,7 @@ use lib.ListN.{drop}
 use Rattle.meaning.specs.Base.{Ans, ok, guard}
 use Rattle.meaning.specs.Graph.{Graph, wellFormed, held}
 use Rattle.meaning.specs.Lookups as L
-use Rattle.meaning.specs.Running.{Outcome, done, violated, refused, then, fails, needs, known, Running}
+use Rattle.meaning.specs.Running.{Outcome, done, violated, refused, then, fails, needs, needsName, Running}
 use Rattle.abstract_state.specs.Models.{halted, heeding, failing}
 use Rattle.abstract_state.specs.ModelLaws.{here, halted-then, then-then}
 
@@ -28,14 +28,14 @@ pub asked : (v n : ℕ) (r : Running) (o : Outcome Running) (t k : Ans Bool) (do
 asked v n r o t k does f q p e = e ∙ ap (λ (x : Ans Bool). then (halted v n r) (does x)) q ∙ here v n r (does k) f p
 
 module _ (g : Graph) (n : ℕ) (b : Bool) (r : Running) where
-  pub heeding-at : heeding (L.known g n b) r ≡ known g n (done r)
+  pub heeding-at : heeding (L.ofName g n b) r ≡ needsName g n (done r)
   heeding-at = go (wellFormed g && held g n)
     where
       go : (x : Bool) → heeding (guard x 9 (ok b)) r ≡ needs x 9 (done r)
       go true = refl
       go false = refl
 
-  pub failing-at : (c : ℕ) → eqb c 0 ≡ false → failing (L.known g n b) c r ≡ known g n (fails b c (done r))
+  pub failing-at : (c : ℕ) → eqb c 0 ≡ false → failing (L.ofName g n b) c r ≡ needsName g n (fails b c (done r))
   failing-at c z = go (wellFormed g && held g n) b
     where
       go : (x y : Bool) → failing (guard x 9 (ok y)) c r ≡ needs x 9 (fails y c (done r))
@@ -43,7 +43,7 @@ module _ (g : Graph) (n : ℕ) (b : Bool) (r : Running) where
       go true false = refl
       go false y = refl
 
-pub known-fails-then : {A B : Type 0} (g : Graph) (n : ℕ) (b : Bool) (c : ℕ) (o : Outcome A) (k : A → Outcome B) → then (known g n (fails b c o)) k ≡ known g n (fails b c (then o k))
+pub known-fails-then : {A B : Type 0} (g : Graph) (n : ℕ) (b : Bool) (c : ℕ) (o : Outcome A) (k : A → Outcome B) → then (needsName g n (fails b c o)) k ≡ needsName g n (fails b c (then o k))
 known-fails-then {A} {B} g n b c o k = go (wellFormed g && held g n) b
   where
     go : (x y : Bool) → then (needs x 9 (fails y c o)) k ≡ needs x 9 (fails y c (then o k))

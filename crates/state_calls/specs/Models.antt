@@ -6,7 +6,7 @@ use mathlib.Core.List.{List, [], _∷_, map}
 use lib.ListN.{take}
 use Rattle.meaning.specs.Graph.{Graph, wellFormed, held}
 use Rattle.meaning.specs.State.{Local, absent, value, ref}
-use Rattle.meaning.specs.Running.{Outcome, Operand, nonRef, reference, Answers, isMutable, placeNumber}
+use Rattle.meaning.specs.Running.{Outcome, Operand, nonRef, reference, Answers, isMutable, putNumber}
 use Rattle.references.specs.declared.references.RefID.{RefID}
 use Rattle.abstract_state.specs.Models.{halted, runningOf, operandOf, operandsOf}
 use Rattle.abstract_state.specs.declared.state.AbstractState.{AbstractState}
@@ -38,7 +38,7 @@ localNameOf (ref n) = some n
 
 abbrev pub placed : Option ℕ → List ℕ → List ℕ
 placed none ns = ns
-placed (some n) ns = placeNumber n ns
+placed (some n) ns = putNumber n ns
 
 -- mutable, of a graph that answers
 abbrev pub knownMutable : Graph → ℕ → Bool

@@ -10,8 +10,8 @@ use Rattle.meaning.specs.Base.{ok, refuse, any, decide, and-l, and-r, eqb-eq, e
 use Rattle.meaning.specs.Graph.{Graph}
 use Rattle.meaning.specs.State as S
 use Rattle.meaning.specs.State.{State, absent, value, ref, eqLocal}
-use Rattle.meaning.specs.Rename.{renamed, indexOf, newNameOf, ownNames, crossed, crosses, canonical}
-use Rattle.meaning.specs.Remap.{changed}
+use Rattle.meaning.specs.Rename.{renamed, localHolding, newNameOf, ownNames, crossed, crosses, canonical}
+use Rattle.meaning.specs.Remap.{nameAfter}
 use Rattle.meaning.specs.Running.{then, nonRef, reference, Running}
 use Rattle.abstract_state.specs.Models.{halted}
 use Rattle.state_join.specs.Models.{heldBy, ownName, renames, canonicalEnd}
@@ -91,15 +91,15 @@ eqb-swap m n =
     (λ e. let z : n ≡ m = sym (eqb-eq e) in e ∙ sym (ap (λ (k : ℕ). eqb n k) (sym z) ∙ eqb-self n))
     (λ e. e ∙ sym (eqb-no {m = n} {n = m} (λ z. eqb-ne {m = m} {n = n} e (sym z))))
 
-renamed-to : (n i : ℕ) (xs : List S.Local) → changed (renames i xs) n ≡ indexOf n n i xs
-unfolding changed renames indexOf
+renamed-to : (n i : ℕ) (xs : List S.Local) → nameAfter (renames i xs) n ≡ localHolding n n i xs
+unfolding nameAfter renames localHolding
 renamed-to n i [] = refl
 renamed-to n i (absent ∷ xs) = renamed-to n (suc i) xs
 renamed-to n i (value ∷ xs) = renamed-to n (suc i) xs
 renamed-to n i (ref m ∷ xs) = λ j. cond (eqb-swap n m j) i (renamed-to n (suc i) xs j)
 
-pub new-name : (l : ℕ) (xs : List S.Local) (n : ℕ) → changed (record { old = l; new = l } ∷ renames 0 xs) n ≡ newNameOf l xs n
-unfolding changed newNameOf
+pub new-name : (l : ℕ) (xs : List S.Local) (n : ℕ) → nameAfter (record { old = l; new = l } ∷ renames 0 xs) n ≡ newNameOf l xs n
+unfolding nameAfter newNameOf
 new-name l xs n = ap (λ (k : ℕ). cond (eqb n l) l k) (renamed-to n 0 xs)
 
 -- ---- the end
@@ -109,7 +109,7 @@ module _ (l : ℕ) (s : State) where
   unfolding canonical
   canonical-16 e = rw e
 
-  pub canonical-ok : (xs : List S.Local) (g : Graph) → crosses (s .locals) 0 (s .locals) ≡ false → xs ≡ ownNames 0 (s .locals) → g ≡ renamed (changed (record { old = l; new = l } ∷ renames 0 (s .locals))) (s .graph)
+  pub canonical-ok : (xs : List S.Local) (g : Graph) → crosses (s .locals) 0 (s .locals) ≡ false → xs ≡ ownNames 0 (s .locals) → g ≡ renamed (nameAfter (record { old = l; new = l } ∷ renames 0 (s .locals))) (s .graph)
       → canonical l s ≡ ok (record { locals = xs; graph = g })
   unfolding canonical
   canonical-ok xs g e p q =

@@ -11,7 +11,7 @@ use lib.Seq.{append-snoc}
 use Rattle.meaning.specs.Base.{Ans, ok, andThen, leaves, all, decide, and-l, and-r, and-i, andThen-ok, leb-le, le-leb, leb-gt, eqb-eq}
 use Rattle.meaning.specs.ArrayLaws.{front-map-step}
 use Rattle.meaning.specs.Graph.{Name, Graph, holds, ascending, wellFormed, inOrder}
-use Rattle.meaning.specs.Borrow.{placeName, newName}
+use Rattle.meaning.specs.Borrow.{putName, newName}
 use Rattle.meaning.specs.State as S
 use Rattle.meaning.specs.Running.{Token, ofValue, ofRef, Running}
 use Rattle.meaning.specs.Listing.{tokenAs}
@@ -101,8 +101,8 @@ front (b ∷ ns) a rest h =
         (and-i (and-l (f m) (all f (ms ++ x ∷ ys)) e) (r .0), r .1)
 
 -- a name above all others goes behind them
-above-new : (ns : List Name) (a : Name) → all (λ m. ltb (m .id) (a .id)) ns ≡ true → (holds ns (a .id) ≡ false) × (placeName a ns ≡ ns ++ a ∷ [])
-unfolding holds placeName
+above-new : (ns : List Name) (a : Name) → all (λ m. ltb (m .id) (a .id)) ns ≡ true → (holds ns (a .id) ≡ false) × (putName a ns ≡ ns ++ a ∷ [])
+unfolding holds putName
 above-new [] a h = (refl, refl)
 above-new (b ∷ ns) a h =
     let f : Name → Bool = λ m. ltb (m .id) (a .id) in
@@ -110,7 +110,7 @@ above-new (b ∷ ns) a h =
     let z = above-new ns a (and-r (ltb (b .id) (a .id)) (all f ns) h) in
     let e : eqb (a .id) (b .id) ≡ false = decide (eqb (a .id) (b .id)) (λ t. let q : a .id ≡ b .id = eqb-eq t in absurd (omega arith)) (λ t. t) in
     let d : ltb (a .id) (b .id) ≡ false = decide (ltb (a .id) (b .id)) (λ t. let q : a .id < b .id = leb-le t in absurd (omega arith)) (λ t. t) in
-    (ap (λ (b : Bool). b || holds ns (a .id)) e ∙ z .0, ap (λ (c : Bool). cond c (a ∷ b ∷ ns) (b ∷ placeName a ns)) d ∙ ap (λ (ms : List Name). b ∷ ms) (z .1))
+    (ap (λ (b : Bool). b || holds ns (a .id)) e ∙ z .0, ap (λ (c : Bool). cond c (a ∷ b ∷ ns) (b ∷ putName a ns)) d ∙ ap (λ (ms : List Name). b ∷ ms) (z .1))
 
 new-last : (ns : List Name) (a : Name) (rest : List Name) → wellFormed (bare (ns ++ a ∷ rest)) ≡ true → newName (bare ns) (a .id) (a .mutable) ≡ ok (bare (ns ++ a ∷ []))
 unfolding newName wellFormed inOrder

@@ -10,7 +10,7 @@ use Rattle.meaning.specs.State.{State, Step, absent, value, ref, join, kept, ch
 use Rattle.meaning.specs.Rename.{canonical}
 use Rattle.meaning.specs.Remap.{Change}
 use Rattle.meaning.specs.Running.{Outcome, done, then, lift, Operand, nonRef, reference, Token, ofValue, ofRef, Running}
-use Rattle.meaning.specs.Blocks.{start, firstState}
+use Rattle.meaning.specs.Blocks.{startMachine, firstState}
 use Rattle.borrow_graph.specs.Models.{graphOf, told}
 use Rattle.abstract_state.specs.Models.{localOf, localsIn, runningOf, stateOf}
 use Rattle.abstract_state.specs.declared.state.AbstractState.{AbstractState}
@@ -28,7 +28,7 @@ heldBy (ref n) = reference n
 -- ---- the first state
 
 unfoldable pub firstRunning : ℕ → List Token → Running
-firstRunning l ts = start l (firstState l ts) .state
+firstRunning l ts = startMachine l (firstState l ts) .state
 
 -- the local at an index, of the tokens from there on
 abbrev pub firstAt : ℕ → List Token → S.Local
@@ -40,7 +40,7 @@ firstAt i (ofRef m ∷ ts) = ref i
 
 -- where names are changed, fresh names start at L + 1 again
 unfoldable pub canonicalEnd : Running → Outcome Running
-canonicalEnd r = then (lift (canonical (r .root) (record { locals = r .locals; graph = r .graph }))) (λ s. done (start (r .root) s .state))
+canonicalEnd r = then (lift (canonical (r .root) (record { locals = r .locals; graph = r .graph }))) (λ s. done (startMachine (r .root) s .state))
 
 abbrev pub ownName : ℕ → S.Local → S.Local
 ownName i absent = absent

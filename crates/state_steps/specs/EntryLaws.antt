@@ -10,7 +10,7 @@ use Rattle.meaning.specs.Labels.{localLabel, globalLabel, fieldLabel}
 use Rattle.meaning.specs.Graph.{Graph, wellFormed, held}
 use Rattle.meaning.specs.Lookups as L
 use Rattle.meaning.specs.State.{Local, absent, value, ref}
-use Rattle.meaning.specs.Running.{Outcome, done, violated, refused, then, fails, needs, known, Operand, nonRef, reference, ofRef, Running, Answer, answer, withLocal, isMutable, fullyBorrowed, borrowed, mutablyBorrowed, writable, readable, newRef, addCopy, addBorrow, addFieldBorrow, addLocalBorrow, addResourceBorrow, releaseName, valueFor, copyOf, copyLoc, moveOf, moveLoc, localOf, overwrite, stLoc, freezeRef, comparison, readRef, writeRef, borrowLoc, borrowField, borrowGlobal, moveFrom, vectorTest, vectorOp, vectorElementBorrow}
+use Rattle.meaning.specs.Running.{Outcome, done, violated, refused, then, fails, needs, needsName, Operand, nonRef, reference, ofRef, Running, Answer, answer, withLocal, isMutable, fullyBorrowed, borrowed, mutablyBorrowed, writable, readable, newRef, addCopy, addBorrow, addFieldBorrow, addLocalBorrow, addResourceBorrow, releaseName, valueFor, copyOf, copyLoc, moveOf, moveLoc, localOf, overwrite, stLoc, freezeRef, comparison, readRef, writeRef, borrowLoc, borrowField, borrowGlobal, moveFrom, vectorTest, vectorOp, vectorElementBorrow}
 use Rattle.borrow_graph.specs.Models.{told}
 use Rattle.abstract_state.specs.Models as M
 use Rattle.abstract_state.specs.Models.{halted, heeding, failing, needing, operandOf}
@@ -22,14 +22,14 @@ use Rattle.abstract_state.specs.ModelLaws.{here, then-then}
 -- ---- questions of a name, on the state that was asked
 
 module _ {A : Type 0} (g : Graph) (n : ℕ) (b : Bool) (r : Running) (k : Running → Outcome A) where
-  pub heed-at : then (heeding (L.known g n b) r) k ≡ known g n (k r)
+  pub heed-at : then (heeding (L.ofName g n b) r) k ≡ needsName g n (k r)
   heed-at = go (wellFormed g && held g n)
     where
       go : (x : Bool) → then (heeding (guard x 9 (ok b)) r) k ≡ needs x 9 (k r)
       go true = refl
       go false = refl
 
-  pub fail-at : (c : ℕ) → eqb c 0 ≡ false → then (failing (L.known g n b) c r) k ≡ known g n (fails b c (k r))
+  pub fail-at : (c : ℕ) → eqb c 0 ≡ false → then (failing (L.ofName g n b) c r) k ≡ needsName g n (fails b c (k r))
   fail-at c z = go (wellFormed g && held g n) b
     where
       go : (x y : Bool) → then (failing (guard x 9 (ok y)) c r) k ≡ needs x 9 (fails y c (k r))
@@ -37,7 +37,7 @@ module _ {A : Type 0} (g : Graph) (n : ℕ) (b : Bool) (r : Running) (k : Runnin
       go true false = refl
       go false y = refl
 
-  pub need-at : (c : ℕ) → eqb c 0 ≡ false → then (needing (L.known g n b) c r) k ≡ known g n (needs b c (k r))
+  pub need-at : (c : ℕ) → eqb c 0 ≡ false → then (needing (L.ofName g n b) c r) k ≡ needsName g n (needs b c (k r))
   need-at c z = go (wellFormed g && held g n) b
     where
       go : (x y : Bool) → then (needing (guard x 9 (ok y)) c r) k ≡ needs x 9 (needs y c (k r))
@@ -50,7 +50,7 @@ number (ok a) = 0
 number (refuse n) = n
 
 -- the answer itself goes into what follows
-pub heed-told : {A : Type 0} (g : Graph) (n m : ℕ) (b y : Bool) (r : Running) (k : Bool → Running → Outcome A) → told m b ≡ L.known g n y → then (heeding (told m b) r) (k b) ≡ known g n (k y r)
+pub heed-told : {A : Type 0} (g : Graph) (n m : ℕ) (b y : Bool) (r : Running) (k : Bool → Running → Outcome A) → told m b ≡ L.ofName g n y → then (heeding (told m b) r) (k b) ≡ needsName g n (k y r)
 heed-told {A} g n m b y r k e = go (wellFormed g && held g n) (eqb m 0) e
   where
     go : (x z : Bool) → cond z (ok b) (refuse m) ≡ guard x 9 (ok y) → then (heeding (cond z (ok b) (refuse m)) r) (k b) ≡ needs x 9 (k y r)
@@ -61,17 +61,17 @@ heed-told {A} g n m b y r k e = go (wellFormed g && held g n) (eqb m 0) e
 
 module _ {A : Type 0} (g : Graph) (n : ℕ) where
   -- known once, known again
-  pub known-needs : (b : Bool) (c : ℕ) (k : Outcome A) → known g n (needs b c (known g n k)) ≡ known g n (needs b c k)
+  pub known-needs : (b : Bool) (c : ℕ) (k : Outcome A) → needsName g n (needs b c (needsName g n k)) ≡ needsName g n (needs b c k)
   known-needs b c k = go (wellFormed g && held g n)
     where
       go : (x : Bool) → needs x 9 (needs b c (needs x 9 k)) ≡ needs x 9 (needs b c k)
       go true = refl
       go false = refl
 
-  pub known-under : (k l : Outcome A) → k ≡ l → known g n k ≡ known g n l
-  known-under k l e = ap (λ (o : Outcome A). known g n o) e
+  pub known-under : (k l : Outcome A) → k ≡ l → needsName g n k ≡ needsName g n l
+  known-under k l e = ap (λ (o : Outcome A). needsName g n o) e
 
-  pub known-then : {B : Type 0} (k : Outcome A) (f : A → Outcome B) → then (known g n k) f ≡ known g n (then k f)
+  pub known-then : {B : Type 0} (k : Outcome A) (f : A → Outcome B) → then (needsName g n k) f ≡ needsName g n (then k f)
   known-then k f = go (wellFormed g && held g n)
     where
       go : (x : Bool) → then (needs x 9 k) f ≡ needs x 9 (then k f)
@@ -172,7 +172,7 @@ module _ (v n : ℕ) (r : Running) where
 
 -- the same on the state r that goes on; `foreseen`: the code's x
 module _ (r : Running) (x : ℕ) (z : x ≡ cond (ltb (r .next) 65536) (r .next) 0) where
-  pub copy-ref : (i k m : ℕ) (b : Bool) → getD (r .locals) i absent ≡ ref k → told m b ≡ L.known (r .graph) k (isMutable (r .graph) k)
+  pub copy-ref : (i k m : ℕ) (b : Bool) → getD (r .locals) i absent ≡ ref k → told m b ≡ L.ofName (r .graph) k (isMutable (r .graph) k)
       → then (heeding (told m b) r) (λ t. then (newRef b t) (lend (addCopy k) x)) ≡ copyLoc i r
   unfolding copyLoc
   copy-ref i k m b l e =
@@ -180,14 +180,14 @@ module _ (r : Running) (x : ℕ) (z : x ≡ cond (ltb (r .next) 65536) (r .next)
       ∙ known-under (r .graph) k (then (newRef (isMutable (r .graph) k) r) (lend (addCopy k) x)) (then (newRef (isMutable (r .graph) k) r) (lend (addCopy k) (r .next))) (made (isMutable (r .graph) k) r x (lend (addCopy k)) z)
       ∙ ap (copyOf r i) (sym l)
 
-  pub freeze-at : (k : ℕ) → then (needing (L.known (r .graph) k (isMutable (r .graph) k)) 13 r) (λ s. then (failing (L.known (r .graph) k (mutablyBorrowed (r .graph) k none)) 104 s) (λ t. then (newRef false t) (pass (addCopy k) k x))) ≡ freezeRef k r
+  pub freeze-at : (k : ℕ) → then (needing (L.ofName (r .graph) k (isMutable (r .graph) k)) 13 r) (λ s. then (failing (L.ofName (r .graph) k (mutablyBorrowed (r .graph) k none)) 104 s) (λ t. then (newRef false t) (pass (addCopy k) k x))) ≡ freezeRef k r
   unfolding freezeRef
   freeze-at k =
       let b : Bool = isMutable (r .graph) k in
       let d : Bool = mutablyBorrowed (r .graph) k none in
       let g : Graph = r .graph in
       let rest : ℕ → Outcome Answer = λ y. then (newRef false r) (pass (addCopy k) k y) in
-      need-at g k b r (λ s. then (failing (L.known g k d) 104 s) (λ t. then (newRef false t) (pass (addCopy k) k x))) 13 refl
+      need-at g k b r (λ s. then (failing (L.ofName g k d) 104 s) (λ t. then (newRef false t) (pass (addCopy k) k x))) 13 refl
       ∙ known-under g k _ _ (needs-under b 13 _ _ (fail-at g k d r (λ t. then (newRef false t) (pass (addCopy k) k x)) 104 refl))
       ∙ known-needs g k b 13 (fails d 104 (rest x))
       ∙ known-under g k _ _ (needs-under b 13 _ _ (again d (made false r x (pass (addCopy k) k) z)))
@@ -197,34 +197,34 @@ module _ (r : Running) (x : ℕ) (z : x ≡ cond (ltb (r .next) 65536) (r .next)
       again true e = refl
       again false e = e
 
-  pub borrow-loc-at : (m : Bool) (i : ℕ) → then (failing (L.known (r .graph) (r .root) (not m && mutablyBorrowed (r .graph) (r .root) (some (localLabel i)))) 107 r) (λ t. then (newRef m t) (lend (addLocalBorrow i) x)) ≡ borrowLoc m i r
+  pub borrow-loc-at : (m : Bool) (i : ℕ) → then (failing (L.ofName (r .graph) (r .root) (not m && mutablyBorrowed (r .graph) (r .root) (some (localLabel i)))) 107 r) (λ t. then (newRef m t) (lend (addLocalBorrow i) x)) ≡ borrowLoc m i r
   unfolding borrowLoc
   borrow-loc-at m i =
       fail-at (r .graph) (r .root) (not m && mutablyBorrowed (r .graph) (r .root) (some (localLabel i))) r (λ t. then (newRef m t) (lend (addLocalBorrow i) x)) 107 refl
       ∙ known-under (r .graph) (r .root) _ _ (fails-under (not m && mutablyBorrowed (r .graph) (r .root) (some (localLabel i))) 107 _ _ (made m r x (lend (addLocalBorrow i)) z))
 
-  pub borrow-global-at : (m : Bool) (i : ℕ) → then (failing (L.known (r .graph) (r .root) ((m && borrowed (r .graph) (r .root) (some (globalLabel i))) || mutablyBorrowed (r .graph) (r .root) (some (globalLabel i)))) 109 r) (λ t. then (newRef m t) (lend (addResourceBorrow i) x)) ≡ borrowGlobal m i r
+  pub borrow-global-at : (m : Bool) (i : ℕ) → then (failing (L.ofName (r .graph) (r .root) ((m && borrowed (r .graph) (r .root) (some (globalLabel i))) || mutablyBorrowed (r .graph) (r .root) (some (globalLabel i)))) 109 r) (λ t. then (newRef m t) (lend (addResourceBorrow i) x)) ≡ borrowGlobal m i r
   unfolding borrowGlobal
   borrow-global-at m i =
       let b : Bool = (m && borrowed (r .graph) (r .root) (some (globalLabel i))) || mutablyBorrowed (r .graph) (r .root) (some (globalLabel i)) in
       fail-at (r .graph) (r .root) b r (λ t. then (newRef m t) (lend (addResourceBorrow i) x)) 109 refl
       ∙ known-under (r .graph) (r .root) _ _ (fails-under b 109 _ _ (made m r x (lend (addResourceBorrow i)) z))
 
-  pub borrow-field-at : (m : Bool) (k i : ℕ) → then (known (r .graph) k (fails (cond m (fullyBorrowed (r .graph) k) (not (readable (r .graph) k (some (fieldLabel i))))) 108 (done r))) (λ t. then (newRef m t) (pass (λ y. addFieldBorrow k i y) k x)) ≡ borrowField m k i r
+  pub borrow-field-at : (m : Bool) (k i : ℕ) → then (needsName (r .graph) k (fails (cond m (fullyBorrowed (r .graph) k) (not (readable (r .graph) k (some (fieldLabel i))))) 108 (done r))) (λ t. then (newRef m t) (pass (λ y. addFieldBorrow k i y) k x)) ≡ borrowField m k i r
   unfolding borrowField
   borrow-field-at m k i =
       let b : Bool = cond m (fullyBorrowed (r .graph) k) (not (readable (r .graph) k (some (fieldLabel i)))) in
       known-then (r .graph) k (fails b 108 (done r)) (λ t. then (newRef m t) (pass (λ y. addFieldBorrow k i y) k x))
       ∙ known-under (r .graph) k _ _ (fails-then b 108 (done r) (λ t. then (newRef m t) (pass (λ y. addFieldBorrow k i y) k x)) ∙ fails-under b 108 _ _ (made m r x (pass (λ y. addFieldBorrow k i y) k) z))
 
-  pub element-at : (m : Bool) (k : ℕ) → then (known (r .graph) k (vectorTest m (r .graph) k 111 (done r))) (λ t. then (newRef m t) (pass (addBorrow k) k x)) ≡ vectorElementBorrow (reference k) m r
+  pub element-at : (m : Bool) (k : ℕ) → then (needsName (r .graph) k (vectorTest m (r .graph) k 111 (done r))) (λ t. then (newRef m t) (pass (addBorrow k) k x)) ≡ vectorElementBorrow (reference k) m r
   unfolding vectorElementBorrow
   element-at m k =
       known-then (r .graph) k (vectorTest m (r .graph) k 111 (done r)) (λ t. then (newRef m t) (pass (addBorrow k) k x))
       ∙ known-under (r .graph) k _ _ (vector-then m (r .graph) k 111 (done r) (λ t. then (newRef m t) (pass (addBorrow k) k x)) ∙ ap {B = Outcome Answer} (λ (o : Outcome Answer). vectorTest m (r .graph) k 111 o) (made m r x (pass (addBorrow k) k) z))
 
 module _ (r : Running) where
-  pub copy-value : (i : ℕ) → getD (r .locals) i absent ≡ value → then (failing (L.known (r .graph) (r .root) (mutablyBorrowed (r .graph) (r .root) (some (localLabel i)))) 101 r) (λ s. answer s nonRef) ≡ copyLoc i r
+  pub copy-value : (i : ℕ) → getD (r .locals) i absent ≡ value → then (failing (L.ofName (r .graph) (r .root) (mutablyBorrowed (r .graph) (r .root) (some (localLabel i)))) 101 r) (λ s. answer s nonRef) ≡ copyLoc i r
   unfolding copyLoc
   copy-value i l = fail-at (r .graph) (r .root) (mutablyBorrowed (r .graph) (r .root) (some (localLabel i))) r (λ s. answer s nonRef) 101 refl ∙ ap (copyOf r i) (sym l)
 
@@ -237,10 +237,10 @@ module _ (r : Running) where
   move-ref i k l = ap (moveOf r i) (sym l)
 
   pub move-value : (i : ℕ) → getD (r .locals) i absent ≡ value
-      → then (then (failing (L.known (r .graph) (r .root) (borrowed (r .graph) (r .root) (some (localLabel i)))) 102 r) (λ s. done (withLocal s i absent))) (λ s. answer s nonRef) ≡ moveLoc i r
+      → then (then (failing (L.ofName (r .graph) (r .root) (borrowed (r .graph) (r .root) (some (localLabel i)))) 102 r) (λ s. done (withLocal s i absent))) (λ s. answer s nonRef) ≡ moveLoc i r
   unfolding moveLoc
   move-value i l =
-      then-then (failing (L.known (r .graph) (r .root) (borrowed (r .graph) (r .root) (some (localLabel i)))) 102 r) (λ s. done (withLocal s i absent)) (λ s. answer s nonRef)
+      then-then (failing (L.ofName (r .graph) (r .root) (borrowed (r .graph) (r .root) (some (localLabel i)))) 102 r) (λ s. done (withLocal s i absent)) (λ s. answer s nonRef)
       ∙ fail-at (r .graph) (r .root) (borrowed (r .graph) (r .root) (some (localLabel i))) r (λ s. answer (withLocal s i absent) nonRef) 102 refl
       ∙ ap (moveOf r i) (sym l)
 
@@ -253,35 +253,35 @@ module _ (r : Running) where
   store-over i w l e = ap (overwrite i (withLocal r i (localOf w))) (sym e)
 
   pub store-value : (i : ℕ) (w : Operand) → getD (r .locals) i absent ≡ value
-      → failing (L.known (r .graph) (r .root) (borrowed (r .graph) (r .root) (some (localLabel i)))) 103 (withLocal r i (localOf w)) ≡ stLoc i w r
+      → failing (L.ofName (r .graph) (r .root) (borrowed (r .graph) (r .root) (some (localLabel i)))) 103 (withLocal r i (localOf w)) ≡ stLoc i w r
   store-value i w l =
-      then-done (failing (L.known (r .graph) (r .root) (borrowed (r .graph) (r .root) (some (localLabel i)))) 103 (withLocal r i (localOf w)))
+      then-done (failing (L.ofName (r .graph) (r .root) (borrowed (r .graph) (r .root) (some (localLabel i)))) 103 (withLocal r i (localOf w)))
       ∙ fail-at (r .graph) (r .root) (borrowed (r .graph) (r .root) (some (localLabel i))) (withLocal r i (localOf w)) done 103 refl
       ∙ store-over i w value l
 
   -- the state goes on where the reference is readable
   abbrev pub unreadable : ℕ → Option ℕ → ℕ → Running → Outcome Running
-  unreadable k at c s = known (s .graph) k (fails (not (readable (s .graph) k at)) c (done s))
+  unreadable k at c s = needsName (s .graph) k (fails (not (readable (s .graph) k at)) c (done s))
 
-  pub unreadable-then : {A : Type 0} (k : ℕ) (at : Option ℕ) (c : ℕ) (f : Running → Outcome A) → then (known (r .graph) k (fails (not (readable (r .graph) k at)) c (done r))) f ≡ known (r .graph) k (fails (not (readable (r .graph) k at)) c (f r))
+  pub unreadable-then : {A : Type 0} (k : ℕ) (at : Option ℕ) (c : ℕ) (f : Running → Outcome A) → then (needsName (r .graph) k (fails (not (readable (r .graph) k at)) c (done r))) f ≡ needsName (r .graph) k (fails (not (readable (r .graph) k at)) c (f r))
   unreadable-then k at c f =
       known-then (r .graph) k (fails (not (readable (r .graph) k at)) c (done r)) f
       ∙ known-under (r .graph) k _ _ (fails-then (not (readable (r .graph) k at)) c (done r) f)
 
-  pub read-at : (k : ℕ) → then (then (known (r .graph) k (fails (not (readable (r .graph) k none)) 105 (done r))) (releaseName k)) (λ s. answer s nonRef) ≡ readRef k r
+  pub read-at : (k : ℕ) → then (then (needsName (r .graph) k (fails (not (readable (r .graph) k none)) 105 (done r))) (releaseName k)) (λ s. answer s nonRef) ≡ readRef k r
   unfolding readRef
   read-at k =
-      then-then (known (r .graph) k (fails (not (readable (r .graph) k none)) 105 (done r))) (releaseName k) (λ s. answer s nonRef)
+      then-then (needsName (r .graph) k (fails (not (readable (r .graph) k none)) 105 (done r))) (releaseName k) (λ s. answer s nonRef)
       ∙ unreadable-then k none 105 (λ s. then (releaseName k s) (λ t. answer t nonRef))
 
-  pub write-at : (k : ℕ) → then (then (needing (L.known (r .graph) k (isMutable (r .graph) k)) 13 r) (failing (L.known (r .graph) k (borrowed (r .graph) k none)) 106)) (releaseName k) ≡ writeRef k r
+  pub write-at : (k : ℕ) → then (then (needing (L.ofName (r .graph) k (isMutable (r .graph) k)) 13 r) (failing (L.ofName (r .graph) k (borrowed (r .graph) k none)) 106)) (releaseName k) ≡ writeRef k r
   unfolding writeRef
   write-at k =
       let g : Graph = r .graph in
       let b : Bool = isMutable g k in
       let d : Bool = borrowed g k none in
-      then-then (needing (L.known g k b) 13 r) (failing (L.known g k d) 106) (releaseName k)
-      ∙ need-at g k b r (λ s. then (failing (L.known g k d) 106 s) (releaseName k)) 13 refl
+      then-then (needing (L.ofName g k b) 13 r) (failing (L.ofName g k d) 106) (releaseName k)
+      ∙ need-at g k b r (λ s. then (failing (L.ofName g k d) 106 s) (releaseName k)) 13 refl
       ∙ known-under g k _ _ (needs-under b 13 _ _ (fail-at g k d r (releaseName k) 106 refl))
       ∙ known-needs g k b 13 (fails d 106 (releaseName k r))
       ∙ known-under g k _ _ (needs-under b 13 _ _ (twice d))
@@ -290,17 +290,17 @@ module _ (r : Running) where
       twice true = refl
       twice false = refl
 
-  pub move-from-at : (i : ℕ) → then (failing (L.known (r .graph) (r .root) (borrowed (r .graph) (r .root) (some (globalLabel i)))) 109 r) (λ s. answer s nonRef) ≡ moveFrom i r
+  pub move-from-at : (i : ℕ) → then (failing (L.ofName (r .graph) (r .root) (borrowed (r .graph) (r .root) (some (globalLabel i)))) 109 r) (λ s. answer s nonRef) ≡ moveFrom i r
   unfolding moveFrom
   move-from-at i = fail-at (r .graph) (r .root) (borrowed (r .graph) (r .root) (some (globalLabel i))) r (λ s. answer s nonRef) 109 refl
 
-  pub vector-mutable : (k c : ℕ) → eqb c 0 ≡ false → then (needing (L.known (r .graph) k (isMutable (r .graph) k)) 13 r) (failing (L.known (r .graph) k (borrowed (r .graph) k none)) c) ≡ known (r .graph) k (vectorTest true (r .graph) k c (done r))
+  pub vector-mutable : (k c : ℕ) → eqb c 0 ≡ false → then (needing (L.ofName (r .graph) k (isMutable (r .graph) k)) 13 r) (failing (L.ofName (r .graph) k (borrowed (r .graph) k none)) c) ≡ needsName (r .graph) k (vectorTest true (r .graph) k c (done r))
   vector-mutable k c z =
       let g : Graph = r .graph in
       let b : Bool = isMutable g k in
       let d : Bool = borrowed g k none in
-      need-at g k b r (failing (L.known g k d) c) 13 refl
-      ∙ known-under g k _ _ (needs-under b 13 _ _ (then-done (failing (L.known g k d) c r) ∙ fail-at g k d r done c z))
+      need-at g k b r (failing (L.ofName g k d) c) 13 refl
+      ∙ known-under g k _ _ (needs-under b 13 _ _ (then-done (failing (L.ofName g k d) c r) ∙ fail-at g k d r done c z))
       ∙ known-needs g k b 13 (fails d c (done r))
       ∙ known-under g k _ _ (needs-under b 13 _ _ (twice d))
     where
@@ -308,7 +308,7 @@ module _ (r : Running) where
       twice true = refl
       twice false = refl
 
-  pub vector-op-at : (m : Bool) (k : ℕ) → then (known (r .graph) k (vectorTest m (r .graph) k 110 (done r))) (releaseName k) ≡ vectorOp (reference k) m r
+  pub vector-op-at : (m : Bool) (k : ℕ) → then (needsName (r .graph) k (vectorTest m (r .graph) k 110 (done r))) (releaseName k) ≡ vectorOp (reference k) m r
   unfolding vectorOp
   vector-op-at m k =
       known-then (r .graph) k (vectorTest m (r .graph) k 110 (done r)) (releaseName k)

@@ -170,7 +170,7 @@ fn compare_refs(state: AbstractState, id1: RefID, id2: RefID) -> AbstractState
 // The violation, where the reference is not readable.
 fn fail_unreadable(state: AbstractState, id: RefID, at: LabelFilter, code: u8) -> AbstractState
     requires { ⌜ (code ≡ 0 → ⊥) ⌝ }
-    ensures { λ r. ⌜ outcomeOf r ≡ then (outcomeOf state) (λ s. R.known (s .graph) (id .0) (R.fails (not (R.readable (s .graph) (id .0) (filterOf at))) code (R.Outcome.done s))) ⌝ }
+    ensures { λ r. ⌜ outcomeOf r ≡ then (outcomeOf state) (λ s. R.needsName (s .graph) (id .0) (R.fails (not (R.readable (s .graph) (id .0) (filterOf at))) code (R.Outcome.done s))) ⌝ }
 {
     let b = state.is_readable(id, at);
     state.fail(
@@ -230,7 +230,7 @@ pub fn borrow_field(state: AbstractState, mutable: bool, id: RefID, field: u16) 
 
 // A mutable borrow fails on an empty-path borrow; another one, where the field is not readable.
 fn fail_field(state: AbstractState, mutable: bool, id: RefID, field: u16) -> AbstractState
-    ensures { λ r. ⌜ outcomeOf r ≡ then (outcomeOf state) (λ s. R.known (s .graph) (id .0) (R.fails (cond mutable (R.fullyBorrowed (s .graph) (id .0)) (not (R.readable (s .graph) (id .0) (some (fieldLabel field))))) 108 (R.Outcome.done s))) ⌝ }
+    ensures { λ r. ⌜ outcomeOf r ≡ then (outcomeOf state) (λ s. R.needsName (s .graph) (id .0) (R.fails (cond mutable (R.fullyBorrowed (s .graph) (id .0)) (not (R.readable (s .graph) (id .0) (some (fieldLabel field))))) 108 (R.Outcome.done s))) ⌝ }
 {
     if mutable {
         let b = state.has_full_borrows(id);
@@ -268,7 +268,7 @@ pub fn move_from(state: AbstractState, resource: u16) -> AbstractState
 // A mutable vector step wants a mutable reference with no borrow.
 fn vector_test(state: AbstractState, mutable: bool, id: RefID, code: u8) -> AbstractState
     requires { ⌜ (code ≡ 0 → ⊥) ⌝ }
-    ensures { λ r. ⌜ outcomeOf r ≡ then (outcomeOf state) (λ s. R.known (s .graph) (id .0) (R.vectorTest mutable (s .graph) (id .0) code (R.Outcome.done s))) ⌝ }
+    ensures { λ r. ⌜ outcomeOf r ≡ then (outcomeOf state) (λ s. R.needsName (s .graph) (id .0) (R.vectorTest mutable (s .graph) (id .0) code (R.Outcome.done s))) ⌝ }
 {
     let m = state.is_mutable(id);
     if mutable {

@@ -4,7 +4,7 @@ use Prim.Native.Nat.{ℕ, _-_, _%_, _/_, _≤_, _<_}
 use mathlib.Core.Bool.{_&&_}
 use mathlib.Core.List.{List}
 use lib.ListN.{length, take, drop, length-drop}
-use Rattle.meaning.specs.Listing.{fitsBody, withinLimits, width}
+use Rattle.meaning.specs.Listing.{fitsBody, withinLimits, fieldWidth}
 use Rattle.records.specs.Models.{fieldOf, packed, FieldFor, bodyFault}
 use Rattle.records.proofs.Laws.{tail-part, fields-here, fields-end, some-width, fit-wide, fit-stop, fit-go, fit-turn, fit-over, fit-done, within-turn, within-done}
 use native.Mathlib.Omega.{arith}
@@ -32,9 +32,9 @@ part-rest-end c = omega arith
 returns : tie.Need-returns Inv-loop μ-loop
 unfolding bodyFault
 returns c = let d : length (drop ((c .before .before .before .loop) .i) ((c .before .before .before .before .before .args) .b .now)) ≡ length ((c .before .before .before .before .before .args) .b .now) - (c .before .before .before .loop) .i = length-drop ((c .before .before .before .loop) .i) ((c .before .before .before .before .before .args) .b .now) in
-    let p : 0 < width (fieldOf ((c .before .before .before .loop) .fields % 16)) (drop ((c .before .before .before .loop) .i) ((c .before .before .before .before .before .args) .b .now)) = some-width (fieldOf ((c .before .before .before .loop) .fields % 16)) (drop ((c .before .before .before .loop) .i) ((c .before .before .before .before .before .args) .b .now)) in
-    let h : length (drop ((c .before .before .before .loop) .i) ((c .before .before .before .before .before .args) .b .now)) < width (fieldOf ((c .before .before .before .loop) .fields % 16)) (drop ((c .before .before .before .loop) .i) ((c .before .before .before .before .before .args) .b .now)) = omega arith in
-    rw (← fit-wide ((c .before .before .before .before .before .args) .locals) (packed 4 ((c .before .before .before .loop) .fields)) (packed 4 ((c .before .before .before .loop) .fields / 16)) ((c .before .before .before .before .before .args) .b .now) ((c .before .before .before .loop) .i) (width (fieldOf ((c .before .before .before .loop) .fields % 16)) (drop ((c .before .before .before .loop) .i) ((c .before .before .before .before .before .args) .b .now))) (fieldOf ((c .before .before .before .loop) .fields % 16)) (fields-here ((c .before .before .before .loop) .fields) ((c .before .before .before .loop) .inv .1) ((c .before .before .loop-test) .taken)) refl _ ((c .before .before .before .loop) .inv .2) h)
+    let p : 0 < fieldWidth (fieldOf ((c .before .before .before .loop) .fields % 16)) (drop ((c .before .before .before .loop) .i) ((c .before .before .before .before .before .args) .b .now)) = some-width (fieldOf ((c .before .before .before .loop) .fields % 16)) (drop ((c .before .before .before .loop) .i) ((c .before .before .before .before .before .args) .b .now)) in
+    let h : length (drop ((c .before .before .before .loop) .i) ((c .before .before .before .before .before .args) .b .now)) < fieldWidth (fieldOf ((c .before .before .before .loop) .fields % 16)) (drop ((c .before .before .before .loop) .i) ((c .before .before .before .before .before .args) .b .now)) = omega arith in
+    rw (← fit-wide ((c .before .before .before .before .before .args) .locals) (packed 4 ((c .before .before .before .loop) .fields)) (packed 4 ((c .before .before .before .loop) .fields / 16)) ((c .before .before .before .before .before .args) .b .now) ((c .before .before .before .loop) .i) (fieldWidth (fieldOf ((c .before .before .before .loop) .fields % 16)) (drop ((c .before .before .before .loop) .i) ((c .before .before .before .before .before .args) .b .now))) (fieldOf ((c .before .before .before .loop) .fields % 16)) (fields-here ((c .before .before .before .loop) .fields) ((c .before .before .before .loop) .inv .1) ((c .before .before .loop-test) .taken)) refl _ ((c .before .before .before .loop) .inv .2) h)
 
 test-field-requires : tie.Need-test-field-requires Inv-loop μ-loop
 test-field-requires c κs = let d : length (drop ((c .before .before .before .loop) .i) ((c .before .before .before .before .before .args) .b .now)) ≡ length ((c .before .before .before .before .before .args) .b .now) - (c .before .before .before .loop) .i = length-drop ((c .before .before .before .loop) .i) ((c .before .before .before .before .before .args) .b .now) in

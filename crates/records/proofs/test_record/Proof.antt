@@ -3,7 +3,7 @@ use mathlib.Core.Path.{_≡_, sym, ap, _∙_}
 use borrow.Author.Tests.{not-true, not-false}
 use mathlib.Core.Bool.{true, false, Bool·beq}
 use lib.Dec.{eqb}
-use Rattle.meaning.specs.Listing.{known, kindAt, fieldsOf, faultAt}
+use Rattle.meaning.specs.Listing.{kindInUse, kindAt, fieldsOf, faultAt}
 use Rattle.records.specs.Models.{fieldsIn}
 use Rattle.records.proofs.Laws.{record-inv, short-inv, end-inv, refused-test, fault-1, fault-2, fault-4, fault-body, inside}
 use borrow.Author.Needs.{needs}
@@ -24,7 +24,7 @@ failed-requires c κs = search needs
 
 returns : tie.Need-returns
 returns c = let v = record-inv (c .before .before .before .before .before .before .before .before .before .args .s .now) (c .before .before .before .before .before .before .before .before .before .args .at) (c .before .before .before .before .before .kind .given .0 .0) (c .before .before .before .before .before .kind .given .0 .1 .0) (sym (c .before .before .before .before .before .before .before .read .ensures) ∙ c .before .before .before .before .before .kind .given .1) in
-    let k : known (kindAt (c .before .before .before .before .before .before .before .before .before .args .s .now) (c .before .before .before .before .before .before .before .before .before .args .at)) ≡ false = rw (v .1) at (sym (c .before .before .before .shape-of .ensures .known) ∙ not-true _ (c .before .if1 .taken)) in
+    let k : kindInUse (kindAt (c .before .before .before .before .before .before .before .before .before .args .s .now) (c .before .before .before .before .before .before .before .before .before .args .at)) ≡ false = rw (v .1) at (sym (c .before .before .before .shape-of .ensures .known) ∙ not-true _ (c .before .if1 .taken)) in
     refused-test (c .before .before .before .before .before .before .before .before .before .args .s .now) (c .before .before .before .before .before .before .before .before .before .args .at) (c .before .before .before .before .before .before .before .before .before .args .locals) (c .failed .result) 1 (c .failed .ensures) (fault-2 (c .before .before .before .before .before .before .before .before .before .args .s .now) (c .before .before .before .before .before .before .before .before .before .args .at) (c .before .before .before .before .before .before .before .before .before .args .locals) (v .0) k)
 
 misplaced-requires : tie.Need-misplaced-requires
@@ -35,7 +35,7 @@ failed-requires-2 c κs = search needs
 
 returns-2 : tie.Need-returns-2
 returns-2 c = let v = record-inv (c .before .before .before .before .before .before .before .before .before .before .before .args .s .now) (c .before .before .before .before .before .before .before .before .before .before .before .args .at) (c .before .before .before .before .before .before .before .kind .given .0 .0) (c .before .before .before .before .before .before .before .kind .given .0 .1 .0) (sym (c .before .before .before .before .before .before .before .before .before .read .ensures) ∙ c .before .before .before .before .before .before .before .kind .given .1) in
-    let k : known (kindAt (c .before .before .before .before .before .before .before .before .before .before .before .args .s .now) (c .before .before .before .before .before .before .before .before .before .before .before .args .at)) ≡ true = rw (v .1) at (sym (c .before .before .before .before .before .shape-of .ensures .known) ∙ not-false _ (c .before .before .before .if1 .left)) in
+    let k : kindInUse (kindAt (c .before .before .before .before .before .before .before .before .before .before .before .args .s .now) (c .before .before .before .before .before .before .before .before .before .before .before .args .at)) ≡ true = rw (v .1) at (sym (c .before .before .before .before .before .shape-of .ensures .known) ∙ not-false _ (c .before .before .before .if1 .left)) in
     let b′ : Bool·beq (eqb (c .before .before .before .before .before .before .before .kind .given .0 .0) 1) (eqb (c .before .before .before .before .before .before .before .before .before .before .before .args .at) 0) ≡ false = not-true _ (sym (c .before .before .misplaced .ensures) ∙ c .before .if2 .taken) in
     let b : Bool·beq (eqb (kindAt (c .before .before .before .before .before .before .before .before .before .before .before .args .s .now) (c .before .before .before .before .before .before .before .before .before .before .before .args .at)) 1) (eqb (c .before .before .before .before .before .before .before .before .before .before .before .args .at) 0) ≡ false = rw (v .1) at b′ in
     refused-test (c .before .before .before .before .before .before .before .before .before .before .before .args .s .now) (c .before .before .before .before .before .before .before .before .before .before .before .args .at) (c .before .before .before .before .before .before .before .before .before .before .before .args .locals) (c .failed2 .result) 3 (c .failed2 .ensures) (fault-4 (c .before .before .before .before .before .before .before .before .before .before .before .args .s .now) (c .before .before .before .before .before .before .before .before .before .before .before .args .at) (c .before .before .before .before .before .before .before .before .before .before .before .args .locals) (v .0) k b)
@@ -60,7 +60,7 @@ failed-requires-4 c κs = search needs
 
 returns-3 : tie.Need-returns-3
 returns-3 c = let v = record-inv (c .before .before .before .before .before .before .before .before .before .before .before .before .args .s .now) (c .before .before .before .before .before .before .before .before .before .before .before .before .args .at) (c .before .before .before .before .before .before .before .before .kind .given .0 .0) (c .before .before .before .before .before .before .before .before .kind .given .0 .1 .0) (sym (c .before .before .before .before .before .before .before .before .before .before .read .ensures) ∙ c .before .before .before .before .before .before .before .before .kind .given .1) in
-    let k : known (kindAt (c .before .before .before .before .before .before .before .before .before .before .before .before .args .s .now) (c .before .before .before .before .before .before .before .before .before .before .before .before .args .at)) ≡ true = rw (v .1) at (sym (c .before .before .before .before .before .before .shape-of .ensures .known) ∙ not-false _ (c .before .before .before .before .if1 .left)) in
+    let k : kindInUse (kindAt (c .before .before .before .before .before .before .before .before .before .before .before .before .args .s .now) (c .before .before .before .before .before .before .before .before .before .before .before .before .args .at)) ≡ true = rw (v .1) at (sym (c .before .before .before .before .before .before .shape-of .ensures .known) ∙ not-false _ (c .before .before .before .before .if1 .left)) in
     let b′ : Bool·beq (eqb (c .before .before .before .before .before .before .before .before .kind .given .0 .0) 1) (eqb (c .before .before .before .before .before .before .before .before .before .before .before .before .args .at) 0) ≡ true = not-false _ (sym (c .before .before .before .misplaced .ensures) ∙ c .before .before .if2 .left) in
     let b : Bool·beq (eqb (kindAt (c .before .before .before .before .before .before .before .before .before .before .before .before .args .s .now) (c .before .before .before .before .before .before .before .before .before .before .before .before .args .at)) 1) (eqb (c .before .before .before .before .before .before .before .before .before .before .before .before .args .at) 0) ≡ true = rw (v .1) at b′ in
     let f : fieldsIn (c .before .before .before .before .before .before .shape-of .result) ≡ fieldsOf (kindAt (c .before .before .before .before .before .before .before .before .before .before .before .before .args .s .now) (c .before .before .before .before .before .before .before .before .before .before .before .before .args .at)) = c .before .before .before .before .before .before .shape-of .ensures .fields ∙ ap fieldsOf (v .1) in

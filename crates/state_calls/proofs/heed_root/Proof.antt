@@ -23,7 +23,7 @@ heed-requires c κs = search needs
 returns : tie.Need-returns
 returns c =
     let g = graphOf ((c .before .before .before .args) .state .«borrow_graph») in
-    asked ((c .before .before .before .args) .state .violation) ((c .before .before .before .args) .state .refusal) (runningOf ((c .before .before .before .args) .state)) (outcomeOf ((c .heed) .result)) (toldOf ((c .before .is-mutable) .result)) _ heeding (acquiring []) ((c .before .is-mutable) .ensures ∙ ap (λ (n : ℕ). L.known g n (isMutable g n)) ((c .before .before .frame-root) .ensures)) (acquire-none (isMutable g ((c .before .before .before .args) .state .«num_locals»)) (runningOf ((c .before .before .before .args) .state))) ((c .heed) .ensures)
+    asked ((c .before .before .before .args) .state .violation) ((c .before .before .before .args) .state .refusal) (runningOf ((c .before .before .before .args) .state)) (outcomeOf ((c .heed) .result)) (toldOf ((c .before .is-mutable) .result)) _ heeding (acquiring []) ((c .before .is-mutable) .ensures ∙ ap (λ (n : ℕ). L.ofName g n (isMutable g n)) ((c .before .before .frame-root) .ensures)) (acquire-none (isMutable g ((c .before .before .before .args) .state .«num_locals»)) (runningOf ((c .before .before .before .args) .state))) ((c .heed) .ensures)
 
 pub heed-root-spec : {M : Type 1} → statement M
 heed-root-spec = tie.close (tie.spec frame-root-requires is-mutable-requires heed-requires returns)

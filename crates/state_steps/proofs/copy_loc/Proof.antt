@@ -54,7 +54,7 @@ give-requires-2 : tie.Need-give-requires-2
 give-requires-2 c κs = search needs
 
 returns-2 : tie.Need-returns-2
-returns-2 c = E.test-law ((c .before .before .before .before .before .before .before .args) .state .violation) ((c .before .before .before .before .before .before .before .args) .state .refusal) (runningOf ((c .before .before .before .before .before .before .before .args) .state)) (failing (L.known (graphOf ((c .before .before .before .before .before .before .before .args) .state .«borrow_graph»)) ((c .before .before .before .before .before .before .before .args) .state .«num_locals») (R.mutablyBorrowed (graphOf ((c .before .before .before .before .before .before .before .args) .state .«borrow_graph»)) ((c .before .before .before .before .before .before .before .args) .state .«num_locals») (some (localLabel ((c .before .before .before .before .before .before .before .args) .local .0))))) 101) (R.copyLoc ((c .before .before .before .before .before .before .before .args) .local .0)) R.Operand.nonRef _ _ (E.copy-value (runningOf ((c .before .before .before .before .before .before .before .args) .state)) ((c .before .before .before .before .before .before .before .args) .local .0) (sym ((c .before .before .before .before .before .before .local) .ensures) ∙ E.local-told ((c .before .before .before .before .before .before .local) .result) NonReference ((c .before .before .before .before .before .if1) .taken) ((c .before .before .before .enum-told) .given .1))) ((c .before .fail) .ensures ∙ ap (λ (t : Ans Bool). then (outcomeOf ((c .before .before .before .before .before .before .before .args) .state)) (failing t 101)) ((c .before .before .is-local-mutably-borrowed) .ensures)) ((c .give2) .ensures)
+returns-2 c = E.test-law ((c .before .before .before .before .before .before .before .args) .state .violation) ((c .before .before .before .before .before .before .before .args) .state .refusal) (runningOf ((c .before .before .before .before .before .before .before .args) .state)) (failing (L.ofName (graphOf ((c .before .before .before .before .before .before .before .args) .state .«borrow_graph»)) ((c .before .before .before .before .before .before .before .args) .state .«num_locals») (R.mutablyBorrowed (graphOf ((c .before .before .before .before .before .before .before .args) .state .«borrow_graph»)) ((c .before .before .before .before .before .before .before .args) .state .«num_locals») (some (localLabel ((c .before .before .before .before .before .before .before .args) .local .0))))) 101) (R.copyLoc ((c .before .before .before .before .before .before .before .args) .local .0)) R.Operand.nonRef _ _ (E.copy-value (runningOf ((c .before .before .before .before .before .before .before .args) .state)) ((c .before .before .before .before .before .before .before .args) .local .0) (sym ((c .before .before .before .before .before .before .local) .ensures) ∙ E.local-told ((c .before .before .before .before .before .before .local) .result) NonReference ((c .before .before .before .before .before .if1) .taken) ((c .before .before .before .enum-told) .given .1))) ((c .before .fail) .ensures ∙ ap (λ (t : Ans Bool). then (outcomeOf ((c .before .before .before .before .before .before .before .args) .state)) (failing t 101)) ((c .before .before .is-local-mutably-borrowed) .ensures)) ((c .give2) .ensures)
 
 refuse-requires : tie.Need-refuse-requires
 refuse-requires c κs = search needs

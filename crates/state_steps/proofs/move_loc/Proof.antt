@@ -47,7 +47,7 @@ give-requires-2 : tie.Need-give-requires-2
 give-requires-2 c κs = search needs
 
 returns-2 : tie.Need-returns-2
-returns-2 c = E.test-law ((c .before .before .before .before .before .before .before .before .args) .state .violation) ((c .before .before .before .before .before .before .before .before .args) .state .refusal) (runningOf ((c .before .before .before .before .before .before .before .before .args) .state)) (λ s. then (failing (L.known (graphOf ((c .before .before .before .before .before .before .before .before .args) .state .«borrow_graph»)) ((c .before .before .before .before .before .before .before .before .args) .state .«num_locals») (R.borrowed (graphOf ((c .before .before .before .before .before .before .before .before .args) .state .«borrow_graph»)) ((c .before .before .before .before .before .before .before .before .args) .state .«num_locals») (some (localLabel ((c .before .before .before .before .before .before .before .before .args) .local .0))))) 102 s) (λ u. done (R.withLocal u ((c .before .before .before .before .before .before .before .before .args) .local .0) S.Local.absent))) (R.moveLoc ((c .before .before .before .before .before .before .before .before .args) .local .0)) R.Operand.nonRef _ _ (E.move-value (runningOf ((c .before .before .before .before .before .before .before .before .args) .state)) ((c .before .before .before .before .before .before .before .before .args) .local .0) (sym ((c .before .before .before .before .before .before .before .local) .ensures) ∙ E.local-told ((c .before .before .before .before .before .before .before .local) .result) NonReference ((c .before .before .before .before .before .before .if1) .taken) ((c .before .before .before .before .enum-told) .given .1))) (O.link (outcomeOf ((c .before .before .before .before .before .before .before .before .args) .state)) _ _ (failing (L.known (graphOf ((c .before .before .before .before .before .before .before .before .args) .state .«borrow_graph»)) ((c .before .before .before .before .before .before .before .before .args) .state .«num_locals») (R.borrowed (graphOf ((c .before .before .before .before .before .before .before .before .args) .state .«borrow_graph»)) ((c .before .before .before .before .before .before .before .before .args) .state .«num_locals») (some (localLabel ((c .before .before .before .before .before .before .before .before .args) .local .0))))) 102) (λ u. done (R.withLocal u ((c .before .before .before .before .before .before .before .before .args) .local .0) S.Local.absent)) ((c .before .before .fail) .ensures ∙ ap (λ (t : Ans Bool). then (outcomeOf ((c .before .before .before .before .before .before .before .before .args) .state)) (failing t 102)) ((c .before .before .before .is-local-borrowed) .ensures)) ((c .before .set-local2) .ensures)) ((c .give2) .ensures)
+returns-2 c = E.test-law ((c .before .before .before .before .before .before .before .before .args) .state .violation) ((c .before .before .before .before .before .before .before .before .args) .state .refusal) (runningOf ((c .before .before .before .before .before .before .before .before .args) .state)) (λ s. then (failing (L.ofName (graphOf ((c .before .before .before .before .before .before .before .before .args) .state .«borrow_graph»)) ((c .before .before .before .before .before .before .before .before .args) .state .«num_locals») (R.borrowed (graphOf ((c .before .before .before .before .before .before .before .before .args) .state .«borrow_graph»)) ((c .before .before .before .before .before .before .before .before .args) .state .«num_locals») (some (localLabel ((c .before .before .before .before .before .before .before .before .args) .local .0))))) 102 s) (λ u. done (R.withLocal u ((c .before .before .before .before .before .before .before .before .args) .local .0) S.Local.absent))) (R.moveLoc ((c .before .before .before .before .before .before .before .before .args) .local .0)) R.Operand.nonRef _ _ (E.move-value (runningOf ((c .before .before .before .before .before .before .before .before .args) .state)) ((c .before .before .before .before .before .before .before .before .args) .local .0) (sym ((c .before .before .before .before .before .before .before .local) .ensures) ∙ E.local-told ((c .before .before .before .before .before .before .before .local) .result) NonReference ((c .before .before .before .before .before .before .if1) .taken) ((c .before .before .before .before .enum-told) .given .1))) (O.link (outcomeOf ((c .before .before .before .before .before .before .before .before .args) .state)) _ _ (failing (L.ofName (graphOf ((c .before .before .before .before .before .before .before .before .args) .state .«borrow_graph»)) ((c .before .before .before .before .before .before .before .before .args) .state .«num_locals») (R.borrowed (graphOf ((c .before .before .before .before .before .before .before .before .args) .state .«borrow_graph»)) ((c .before .before .before .before .before .before .before .before .args) .state .«num_locals») (some (localLabel ((c .before .before .before .before .before .before .before .before .args) .local .0))))) 102) (λ u. done (R.withLocal u ((c .before .before .before .before .before .before .before .before .args) .local .0) S.Local.absent)) ((c .before .before .fail) .ensures ∙ ap (λ (t : Ans Bool). then (outcomeOf ((c .before .before .before .before .before .before .before .before .args) .state)) (failing t 102)) ((c .before .before .before .is-local-borrowed) .ensures)) ((c .before .set-local2) .ensures)) ((c .give2) .ensures)
 
 refuse-requires : tie.Need-refuse-requires
 refuse-requires c κs = search needs

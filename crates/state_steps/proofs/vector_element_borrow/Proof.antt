@@ -38,7 +38,7 @@ give-requires-2 : tie.Need-give-requires-2
 give-requires-2 c κs = search needs
 
 returns : tie.Need-returns
-returns c = rw ((c .before .before .before .before .before .before .before .vector) .given .1) (E.pass-law ((c .before .before .before .before .before .before .before .before .before .args) .state .violation) ((c .before .before .before .before .before .before .before .before .before .args) .state .refusal) (runningOf ((c .before .before .before .before .before .before .before .before .before .args) .state)) (λ s. R.known (s .graph) ((c .before .before .before .before .before .before .before .vector) .given .0 .0 .0) (R.vectorTest ((c .before .before .before .before .before .before .before .before .before .args) .mutable) (s .graph) ((c .before .before .before .before .before .before .before .vector) .given .0 .0 .0) 111 (done s))) ((c .before .before .before .before .before .before .before .before .before .args) .mutable) (R.addBorrow ((c .before .before .before .before .before .before .before .vector) .given .0 .0 .0)) ((c .before .before .before .before .before .fresh) .result .0) ((c .before .before .before .before .before .before .before .vector) .given .0 .0 .0) _ _ _ _ _ (R.vectorElementBorrow (R.Operand.reference ((c .before .before .before .before .before .before .before .vector) .given .0 .0 .0)) ((c .before .before .before .before .before .before .before .before .before .args) .mutable)) (E.element-at (runningOf ((c .before .before .before .before .before .before .before .before .before .args) .state)) ((c .before .before .before .before .before .fresh) .result .0) ((c .before .before .before .before .before .fresh) .ensures) ((c .before .before .before .before .before .before .before .before .before .args) .mutable) ((c .before .before .before .before .before .before .before .vector) .given .0 .0 .0)) ((c .before .before .before .before .vector-test) .ensures) ((c .before .before .before .new-ref) .ensures) ((c .before .before .add-borrow) .ensures) ((c .before .release) .ensures) ((c .give) .ensures))
+returns c = rw ((c .before .before .before .before .before .before .before .vector) .given .1) (E.pass-law ((c .before .before .before .before .before .before .before .before .before .args) .state .violation) ((c .before .before .before .before .before .before .before .before .before .args) .state .refusal) (runningOf ((c .before .before .before .before .before .before .before .before .before .args) .state)) (λ s. R.needsName (s .graph) ((c .before .before .before .before .before .before .before .vector) .given .0 .0 .0) (R.vectorTest ((c .before .before .before .before .before .before .before .before .before .args) .mutable) (s .graph) ((c .before .before .before .before .before .before .before .vector) .given .0 .0 .0) 111 (done s))) ((c .before .before .before .before .before .before .before .before .before .args) .mutable) (R.addBorrow ((c .before .before .before .before .before .before .before .vector) .given .0 .0 .0)) ((c .before .before .before .before .before .fresh) .result .0) ((c .before .before .before .before .before .before .before .vector) .given .0 .0 .0) _ _ _ _ _ (R.vectorElementBorrow (R.Operand.reference ((c .before .before .before .before .before .before .before .vector) .given .0 .0 .0)) ((c .before .before .before .before .before .before .before .before .before .args) .mutable)) (E.element-at (runningOf ((c .before .before .before .before .before .before .before .before .before .args) .state)) ((c .before .before .before .before .before .fresh) .result .0) ((c .before .before .before .before .before .fresh) .ensures) ((c .before .before .before .before .before .before .before .before .before .args) .mutable) ((c .before .before .before .before .before .before .before .vector) .given .0 .0 .0)) ((c .before .before .before .before .vector-test) .ensures) ((c .before .before .before .new-ref) .ensures) ((c .before .before .add-borrow) .ensures) ((c .before .release) .ensures) ((c .give) .ensures))
 
 returns-2 : tie.Need-returns-2
 unfolding R.vectorElementBorrow

@@ -6,7 +6,7 @@ use lib.ListN.{drop, getD}
 use Rattle.meaning.specs.Base.{Ans, andThen}
 use Rattle.meaning.specs.Sets.{EdgeSet}
 use Rattle.meaning.specs.Graph.{GEdge}
-use Rattle.meaning.specs.Pairs.{Pair, ends, loopAt, replaceLim}
+use Rattle.meaning.specs.Pairs.{Pair, pairOf, loopAt, replaceLim}
 use Rattle.meaning.specs.PairLaws.{Neat, pass-end}
 use Rattle.meaning.specs.Passes.{joinSet, pairsFrom}
 use Rattle.meaning.specs.PairCallLaws.{firsts-end}
@@ -40,11 +40,11 @@ next : (c : tie.In-loop Inv-loop μ-loop) → pairsFrom (prior c) (drop ((c .bef
 next c = ap (λ (xs : List GEdge). pairsFrom (prior c) xs) (edges-step ((c .before .before .before .args) .t3) ((c .before .loop) .i) (omega arith))
 
 turn : (c : tie.Then1 Inv-loop μ-loop) →
-    andThen (replaceLim ((c .before .before .before .before .before .before .before .before .before .args) .shrinking) (new (c .before .before .before .before .before .before)) (ends (here (c .before .before .before .before .before .before)) ∷ []) (edgesOf ((c .before .before .before .before .before .before .before .loop) .es))) (λ fs. replaceLim ((c .before .before .before .before .before .before .before .before .before .args) .shrinking) (new (c .before .before .before .before .before .before)) (pairsFrom (ends (here (c .before .before .before .before .before .before))) (drop ((c .before .before .before .before .before .before .before .loop) .i + 1) (edgesOf ((c .before .before .before .before .before .before .before .before .before .args) .t3)))) fs)
+    andThen (replaceLim ((c .before .before .before .before .before .before .before .before .before .args) .shrinking) (new (c .before .before .before .before .before .before)) (pairOf (here (c .before .before .before .before .before .before)) ∷ []) (edgesOf ((c .before .before .before .before .before .before .before .loop) .es))) (λ fs. replaceLim ((c .before .before .before .before .before .before .before .before .before .args) .shrinking) (new (c .before .before .before .before .before .before)) (pairsFrom (pairOf (here (c .before .before .before .before .before .before))) (drop ((c .before .before .before .before .before .before .before .loop) .i + 1) (edgesOf ((c .before .before .before .before .before .before .before .before .before .args) .t3)))) fs)
     ≡ replaceLim ((c .before .before .before .before .before .before .before .before .before .args) .shrinking) (new (c .before .before .before .before .before .before)) (pairsFrom (loopAt 0) (edgesOf ((c .before .before .before .before .before .before .before .before .before .args) .t3))) (edgesOf ((c .before .before .before .before .before .before .before .before .before .args) .edges))
 turn c =
     let d = (c .before .before .before .before .before .before) in
-    sym (pass-first ((c .before .before .before .before .before .before .before .before .before .args) .shrinking) (new d) (pairsFrom (prior d) (drop ((c .before .before .before .before .before .before .before .loop) .i) (edgesOf ((c .before .before .before .before .before .before .before .before .before .args) .t3)))) (ends (here d)) (pairsFrom (ends (here d)) (drop ((c .before .before .before .before .before .before .before .loop) .i + 1) (edgesOf ((c .before .before .before .before .before .before .before .before .before .args) .t3)))) (edgesOf ((c .before .before .before .before .before .before .before .loop) .es))
+    sym (pass-first ((c .before .before .before .before .before .before .before .before .before .args) .shrinking) (new d) (pairsFrom (prior d) (drop ((c .before .before .before .before .before .before .before .loop) .i) (edgesOf ((c .before .before .before .before .before .before .before .before .before .args) .t3)))) (pairOf (here d)) (pairsFrom (pairOf (here d)) (drop ((c .before .before .before .before .before .before .before .loop) .i + 1) (edgesOf ((c .before .before .before .before .before .before .before .before .before .args) .t3)))) (edgesOf ((c .before .before .before .before .before .before .before .loop) .es))
     (next d ∙ pairs-take (prior d) (here d) (drop ((c .before .before .before .before .before .before .before .loop) .i + 1) (edgesOf ((c .before .before .before .before .before .before .before .before .before .args) .t3))) ((c .if1) .taken))) ∙ (c .before .before .before .before .before .before .before .loop) .inv .1
 
 len-requires : tie.Need-len-requires Inv-loop μ-loop
@@ -72,7 +72,7 @@ loop-again : tie.Need-loop-again Inv-loop μ-loop
 loop-again c =
     let r = (c .before .before .before .before .before .join-pair) .result in
     let d = (c .before .before .before .before .before .before .before .before .before .before .before .before) in (
-      pass-neat ((c .before .before .before .before .before .before .before .before .before .before .before .before .before .before .before .args) .shrinking) (new d) (joinSet-ok (edgesOf ((c .before .before .before .before .before .before .before .before .before .before .before .before .before .before .before .args) .ours)) (edgesOf ((c .before .before .before .before .before .before .before .before .before .before .before .before .before .before .before .args) .t3)) ((c .before .before .before .before .before .before .before .before .before .before .before .before .before .before .before .pre) .1)) (ends (here d) ∷ []) (edgesOf ((c .before .before .before .before .before .before .before .before .before .before .before .before .before .loop) .es)) (edgesOf (r .edges)) ((c .before .before .before .before .before .before .before .before .before .before .before .before .before .loop) .inv .0) (sym ((c .before .before .before .before .before .join-pair) .ensures) ∙ told-yes (r .refusal) (edgesOf (r .edges)) ((c .before .before .before .if2) .taken)),
+      pass-neat ((c .before .before .before .before .before .before .before .before .before .before .before .before .before .before .before .args) .shrinking) (new d) (joinSet-ok (edgesOf ((c .before .before .before .before .before .before .before .before .before .before .before .before .before .before .before .args) .ours)) (edgesOf ((c .before .before .before .before .before .before .before .before .before .before .before .before .before .before .before .args) .t3)) ((c .before .before .before .before .before .before .before .before .before .before .before .before .before .before .before .pre) .1)) (pairOf (here d) ∷ []) (edgesOf ((c .before .before .before .before .before .before .before .before .before .before .before .before .before .loop) .es)) (edgesOf (r .edges)) ((c .before .before .before .before .before .before .before .before .before .before .before .before .before .loop) .inv .0) (sym ((c .before .before .before .before .before .join-pair) .ensures) ∙ told-yes (r .refusal) (edgesOf (r .edges)) ((c .before .before .before .if2) .taken)),
       told-on (r .refusal) (edgesOf (r .edges)) _ _ _ ((c .before .before .before .before .before .join-pair) .ensures) (turn (c .before .before .before .before .before .before)) ((c .before .before .before .if2) .taken),
     )
 

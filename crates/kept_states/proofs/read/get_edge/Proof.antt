@@ -1,4 +1,4 @@
-use Rattle.meaning.specs.Area.{upTo, word, labelIn}
+use Rattle.meaning.specs.Area.{upTo, wordAt, labelIn}
 use Rattle.meaning.specs.AreaLaws.{edge-read}
 use mathlib.Core.Path.{ap, _∙_}
 use Prim.Native.Nat.{ℕ, _+_}
@@ -42,7 +42,7 @@ cast-c : tie.Need-cast-c
 cast-c c = search needs
 
 returns : tie.Need-returns
-returns c = edge-read (word (c .before .before .before .before .before .args .ws .now)) (c .before .before .before .before .before .args .at) _ (c .get-path .ensures ∙ ap (λ (k : ℕ). upTo k (λ i. labelIn (getD (c .before .before .before .before .before .args .ws .now) (c .before .before .before .before .before .args .at + 2 + i) 0))) (c .before .lesser .ensures))
+returns c = edge-read (wordAt (c .before .before .before .before .before .args .ws .now)) (c .before .before .before .before .before .args .at) _ (c .get-path .ensures ∙ ap (λ (k : ℕ). upTo k (λ i. labelIn (getD (c .before .before .before .before .before .args .ws .now) (c .before .before .before .before .before .args .at + 2 + i) 0))) (c .before .lesser .ensures))
 
 pub get-edge-spec : {M : Type 1} → statement M
 get-edge-spec =

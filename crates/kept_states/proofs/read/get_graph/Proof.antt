@@ -1,4 +1,4 @@
-use Rattle.meaning.specs.Area.{edgeIn, word}
+use Rattle.meaning.specs.Area.{edgeIn, wordAt}
 use Rattle.meaning.specs.AreaLaws.{Filled, filled-none, filled-one}
 use Rattle.borrow_graph.specs.Models.{refsOf, gedgeOf}
 use Rattle.borrow_graph.specs.ModelLaws.{no-gedge}
@@ -11,7 +11,7 @@ use Rattle.kept_states.proofs.read.get_graph.Statement.{statement}
 use Rattle.kept_states.proofs.read.get_graph.Tie as tie
 
 abbrev Inv-loop : tie.InvT-loop
-Inv-loop ws at n g₀ i₀ g i = (i ≤ n) × (g .refs ≡ g₀ .refs) × (g .len ≡ n) × Filled gedgeOf no-gedge (λ j. edgeIn (word ws) (at + 10 * j)) 96 i (g .edges)
+Inv-loop ws at n g₀ i₀ g i = (i ≤ n) × (g .refs ≡ g₀ .refs) × (g .len ≡ n) × Filled gedgeOf no-gedge (λ j. edgeIn (wordAt ws) (at + 10 * j)) 96 i (g .edges)
 
 abbrev μ-loop : tie.MeasureT-loop
 μ-loop ws at n g₀ i₀ g i = n - i
@@ -49,7 +49,7 @@ loop-again c = (omega arith, c .before .before .loop .inv .1, c .before .before 
 returns : tie.Need-returns Inv-loop μ-loop
 returns c =
     let a = c .before .loop .inv .1 in
-    let e = edges-filled (λ j. edgeIn (word (c .before .before .before .args .ws .now)) (c .before .before .before .args .at + 10 * j)) (c .before .loop .g .edges) (c .before .loop .g .len) (c .before .before .before .args .n) (c .before .loop .i) (c .before .loop .inv .2) (omega arith) (omega arith) (c .before .loop .inv .3) in
+    let e = edges-filled (λ j. edgeIn (wordAt (c .before .before .before .args .ws .now)) (c .before .before .before .args .at + 10 * j)) (c .before .loop .g .edges) (c .before .loop .g .len) (c .before .before .before .args .n) (c .before .loop .i) (c .before .loop .inv .2) (omega arith) (omega arith) (c .before .loop .inv .3) in
     λ j. record { names = refsOf (a j); edges = e j }
 
 pub get-graph-spec : {M : Type 1} → statement M

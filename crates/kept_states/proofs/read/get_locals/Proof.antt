@@ -1,4 +1,4 @@
-use Rattle.meaning.specs.Area.{localIn, from}
+use Rattle.meaning.specs.Area.{localIn, wordsFrom}
 use Rattle.meaning.specs.AreaLaws.{Filled, filled-none, filled-one}
 use Rattle.abstract_state.specs.Models.{localOf}
 use Rattle.kept_states.specs.ModelLaws.{past-local, locals-filled}
@@ -10,7 +10,7 @@ use Rattle.kept_states.proofs.read.get_locals.Statement.{statement}
 use Rattle.kept_states.proofs.read.get_locals.Tie as tie
 
 abbrev Inv-loop : tie.InvT-loop
-Inv-loop ws at num-locals n out₀ i₀ out i = (i ≤ n) × (n ≡ min num-locals 16) × Filled localOf past-local (λ j. localIn (from ws at j)) 16 i out
+Inv-loop ws at num-locals n out₀ i₀ out i = (i ≤ n) × (n ≡ min num-locals 16) × Filled localOf past-local (λ j. localIn (wordsFrom ws at j)) 16 i out
 
 abbrev μ-loop : tie.MeasureT-loop
 μ-loop ws at num-locals n out₀ i₀ out i = n - i

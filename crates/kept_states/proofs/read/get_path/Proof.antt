@@ -1,7 +1,7 @@
 use Prim.Native.Nat.{_+_, _-_, _≤_}
 use mathlib.Core.Path.{refl}
 use lib.ListN.{getD}
-use Rattle.meaning.specs.Area.{labelIn, from}
+use Rattle.meaning.specs.Area.{labelIn, wordsFrom}
 use Rattle.references.specs.ModelLaws.{unit-le}
 use Rattle.kept_states.specs.ModelLaws.{Labels, labels-none, labels-one, unit-room, path-filled}
 use native.Mathlib.Omega.{arith}
@@ -9,7 +9,7 @@ use Rattle.kept_states.proofs.read.get_path.Statement.{statement}
 use Rattle.kept_states.proofs.read.get_path.Tie as tie
 
 abbrev Inv-loop : tie.InvT-loop
-Inv-loop ws at n labels₀ kinds₀ unit₀ i₀ labels kinds unit i = (i ≤ n) × Labels (λ j. labelIn (from ws at j)) i kinds unit labels
+Inv-loop ws at n labels₀ kinds₀ unit₀ i₀ labels kinds unit i = (i ≤ n) × Labels (λ j. labelIn (wordsFrom ws at j)) i kinds unit labels
 
 abbrev μ-loop : tie.MeasureT-loop
 μ-loop ws at n labels₀ kinds₀ unit₀ i₀ labels kinds unit i = n - i

@@ -1,4 +1,4 @@
-use Rattle.meaning.specs.Area.{nameIn, from}
+use Rattle.meaning.specs.Area.{nameIn, wordsFrom}
 use Rattle.meaning.specs.AreaLaws.{Filled, filled-none, filled-one}
 use Rattle.borrow_graph.specs.Models.{refOf}
 use Rattle.borrow_graph.specs.ModelLaws.{no-ref}
@@ -11,7 +11,7 @@ use Rattle.kept_states.proofs.read.get_refs.Statement.{statement}
 use Rattle.kept_states.proofs.read.get_refs.Tie as tie
 
 abbrev Inv-loop : tie.InvT-loop
-Inv-loop ws at n out₀ i₀ out i = (i ≤ n) × Filled refOf no-ref (λ j. nameIn (from ws at j)) 48 i out
+Inv-loop ws at n out₀ i₀ out i = (i ≤ n) × Filled refOf no-ref (λ j. nameIn (wordsFrom ws at j)) 48 i out
 
 abbrev μ-loop : tie.MeasureT-loop
 μ-loop ws at n out₀ i₀ out i = n - i

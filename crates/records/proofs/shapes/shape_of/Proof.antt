@@ -17,10 +17,10 @@ table = 137 ∷ 1621 ∷ 0 ∷ 4 ∷ 4 ∷ 4 ∷ 0 ∷ 0 ∷ 0 ∷ 0 ∷ 20 ∷ 
 
 -- a row of the table and the row of the definition
 abbrev Right : ℕ → Type 0
-Right i = (D.known (getD kinds i 0) ≡ true) × (packed 4 (getD table i 0) ≡ D.fieldsOf (getD kinds i 0))
+Right i = (D.kindInUse (getD kinds i 0) ≡ true) × (packed 4 (getD table i 0) ≡ D.fieldsOf (getD kinds i 0))
 
 rule : Every Right 20
-unfolding D.known D.fieldsOf D.inUse D.fieldsIn packed
+unfolding D.kindInUse D.fieldsOf D.inUse D.fieldsIn packed
 rule =
     ((((((((((((((((((((tt, (refl, refl)), (refl, refl)), (refl, refl)), (refl, refl)), (refl, refl)), (refl, refl)), (refl, refl)), (refl, refl)), (refl, refl)), (refl, refl)), (refl, refl)), (refl, refl)), (refl, refl)), (refl, refl)), (refl, refl)), (refl, refl)), (refl, refl)), (refl, refl)), (refl, refl)), (refl, refl))
 

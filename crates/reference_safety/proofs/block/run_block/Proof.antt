@@ -9,7 +9,7 @@ use Rattle.meaning.specs.State.{State}
 use Rattle.meaning.specs.Running.{Outcome, done, then, Running}
 use Rattle.meaning.specs.Steps.{Machine, step}
 use Rattle.meaning.specs.Loop.{Result}
-use Rattle.meaning.specs.Blocks.{start, settle, runFrom, runBlock}
+use Rattle.meaning.specs.Blocks.{startMachine, settle, runFrom, runBlock}
 use Rattle.listing.specs.Models.{decodedAt, decodedOf, blockOf, routineOf}
 use Rattle.abstract_state.specs.Models.{halted, runningOf, stateOf}
 use Rattle.abstract_state.specs.ModelLaws.{goes}
@@ -69,7 +69,7 @@ cast-k c = omega arith
 loop-holds : tie.Need-loop-holds Inv-loop μ-loop
 loop-holds c = (
   going ((c .before .before .before .before .before .begin) .result .violation) ((c .before .before .before .before .before .begin) .result .refusal) ((c .before .before .before .before .before .begin) .ensures .0) ((c .before .before .before .before .before .begin) .ensures .1),
-  block-start (routineOf ((c .before .before .before .before .before .before .before .args) .listing .now) ((c .before .before .before .before .before .before .before .args) .t2)) (blockOf ((c .before .before .before .before .before .before .before .args) .b)) (stateOf ((c .before .before .before .before .before .begin) .result)) ((c .before .before .lesser) .result) (runningOf ((c .before .before .before .before .before .begin) .result)) (stackOf ((c .before .empty) .result)) ((c .before .before .before .before .before .begin) .ensures .2 ∙ ap {B = Running} (λ (x : State). start ((c .before .before .before .before .before .before .before .args) .t2 .locals) x .state) (sym (ap {B = State} (λ (x : Running). record { locals = x .locals; graph = x .graph }) ((c .before .before .before .before .before .begin) .ensures .2)))) ((c .before .empty) .ensures) (omega (arith, (c .before .before .before .before .code-len) .ensures .1, code-length (decodedAt ((c .before .before .before .before .before .before .before .args) .listing .now)) ((c .before .before .before .before .before .before .before .args) .t2 .code) ((c .before .before .before .before .before .before .before .args) .t2 .«code_count»), (c .before .before .before .before .code-len) .ensures .0, (c .before .before .lesser) .ensures, (c .before .before .before .past) .ensures)),
+  block-start (routineOf ((c .before .before .before .before .before .before .before .args) .listing .now) ((c .before .before .before .before .before .before .before .args) .t2)) (blockOf ((c .before .before .before .before .before .before .before .args) .b)) (stateOf ((c .before .before .before .before .before .begin) .result)) ((c .before .before .lesser) .result) (runningOf ((c .before .before .before .before .before .begin) .result)) (stackOf ((c .before .empty) .result)) ((c .before .before .before .before .before .begin) .ensures .2 ∙ ap {B = Running} (λ (x : State). startMachine ((c .before .before .before .before .before .before .before .args) .t2 .locals) x .state) (sym (ap {B = State} (λ (x : Running). record { locals = x .locals; graph = x .graph }) ((c .before .before .before .before .before .begin) .ensures .2)))) ((c .before .empty) .ensures) (omega (arith, (c .before .before .before .before .code-len) .ensures .1, code-length (decodedAt ((c .before .before .before .before .before .before .before .args) .listing .now)) ((c .before .before .before .before .before .before .before .args) .t2 .code) ((c .before .before .before .before .before .before .before .args) .t2 .«code_count»), (c .before .before .before .before .code-len) .ensures .0, (c .before .before .lesser) .ensures, (c .before .before .before .past) .ensures)),
 )
 
 mul-decode : tie.Need-mul-decode Inv-loop μ-loop

@@ -5,7 +5,7 @@ use borrow.Author.Tests.{lt-leb, le-leb}
 use Prim.Native.Nat.{ℕ, _+_, _-_, _<_, _≤_}
 use lib.ListN.{length, take, drop, length-set, length-append}
 use Rattle.meaning.specs.Base.{Ans, ok}
-use Rattle.meaning.specs.Sets.{within}
+use Rattle.meaning.specs.Sets.{shortPath}
 use Rattle.meaning.specs.ArrayLaws.{push}
 use Rattle.references.specs.Models.{numbered, indicesOf, pathOf}
 use Rattle.references.specs.ModelLaws.{path-made, path-joined, indices-front, indices-step, indices-end}
@@ -30,7 +30,7 @@ add-if1 : tie.Need-add-if1 Inv-loop μ-loop
 add-if1 c = omega arith
 
 returns : tie.Need-returns Inv-loop μ-loop
-unfolding within
+unfolding shortPath
 returns c =
     let h : 8 < length (pathOf ((c .before .before .before .args) .lhs) ++ pathOf ((c .before .before .before .args) .t2)) = simp length-append (omega arith) in
     rw (lt-leb _ _ h)
@@ -76,7 +76,7 @@ cast-t23 : tie.Need-cast-t23 Inv-loop μ-loop
 cast-t23 c = omega arith
 
 returns-2 : tie.Need-returns-2 Inv-loop μ-loop
-unfolding within
+unfolding shortPath
 returns-2 c =
     let l = (c .before .before .loop) in
     let a = (c .before .before .before .before .before .before .before .args) .lhs in

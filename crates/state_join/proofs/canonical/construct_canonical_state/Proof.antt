@@ -1,6 +1,6 @@
 use mathlib.Core.Path.{sym, ap, _∙_}
 use mathlib.Core.List.{List}
-use Rattle.meaning.specs.Remap.{Change, changed}
+use Rattle.meaning.specs.Remap.{Change, nameAfter}
 use Rattle.meaning.specs.Rename.{renamed}
 use Rattle.borrow_graph.specs.Models.{graphOf}
 use Rattle.abstract_state.specs.Models.{runningOf, stateOf}
@@ -42,7 +42,7 @@ returns-2 c =
     let s = (c .before .before .before .before .before .before .before .before .before .before .args) .state in
     end-ok (s .violation) (s .refusal) (runningOf s) _ _ ((c .before .before .before .before .before .before .before .if1) .taken)
     (canonical-ok (s .«num_locals») (stateOf s) _ _ (sym ((c .before .before .before .before .before .crosses) .ensures) ∙ (c .before .before .before .before .if2) .left) ((c .before .before .own-names) .ensures)
-    ((c .renamed) .ensures ∙ ap (λ (ms : List Change). renamed (changed ms) (graphOf (s .«borrow_graph»))) ((c .before .before .before .id-map) .ensures)))
+    ((c .renamed) .ensures ∙ ap (λ (ms : List Change). renamed (nameAfter ms) (graphOf (s .«borrow_graph»))) ((c .before .before .before .id-map) .ensures)))
 
 returns-3 : tie.Need-returns-3
 returns-3 c =

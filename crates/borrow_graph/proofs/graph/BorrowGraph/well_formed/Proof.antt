@@ -5,7 +5,7 @@ use Prim.Native.Nat.{_+_, _-_, _≤_}
 use lib.ListN.{length, drop, getD}
 use Rattle.meaning.specs.Base.{not-true}
 use Rattle.meaning.specs.Graph.{GEdge, pairOk, wellFormed}
-use Rattle.meaning.specs.Chain.{chain, start, climbs}
+use Rattle.meaning.specs.Chain.{chain, noEdge, climbs}
 use Rattle.meaning.specs.ChainLaws.{chain-wellFormed}
 use Rattle.meaning.specs.ArrayLaws.{length-of-map}
 use Rattle.borrow_graph.specs.Models.{gedgeOf, refsOf, heldOf, graphOf}
@@ -18,13 +18,13 @@ use Rattle.borrow_graph.proofs.graph.BorrowGraph.well_formed.Statement.
 use Rattle.borrow_graph.proofs.graph.BorrowGraph.well_formed.Tie as tie
 
 abbrev Inv-loop : tie.InvT-loop
-Inv-loop self rs n last₀ count₀ i₀ last count i = chain (pairOk (refsOf rs)) count (gedgeOf last) (drop i (heldOf self)) ≡ chain (pairOk (refsOf rs)) 0 start (heldOf self)
+Inv-loop self rs n last₀ count₀ i₀ last count i = chain (pairOk (refsOf rs)) count (gedgeOf last) (drop i (heldOf self)) ≡ chain (pairOk (refsOf rs)) 0 noEdge (heldOf self)
 
 abbrev μ-loop : tie.MeasureT-loop
 μ-loop self rs n last₀ count₀ i₀ last count i = n - i
 
 -- the answer, by the test of the names and that of the edges
-answer : (c : tie.After-len Inv-loop μ-loop) (a b : Bool) → climbs 0 (refsOf ((c .before .before .args) .t1 .refs)) ≡ a → chain (pairOk (refsOf ((c .before .before .args) .t1 .refs))) 0 start (heldOf ((c .before .before .args) .t1)) ≡ b → a && b ≡ wellFormed (graphOf ((c .before .before .args) .t1))
+answer : (c : tie.After-len Inv-loop μ-loop) (a b : Bool) → climbs 0 (refsOf ((c .before .before .args) .t1 .refs)) ≡ a → chain (pairOk (refsOf ((c .before .before .args) .t1 .refs))) 0 noEdge (heldOf ((c .before .before .args) .t1)) ≡ b → a && b ≡ wellFormed (graphOf ((c .before .before .args) .t1))
 answer c a b p q =
     (λ i. sym p i && sym q i) ∙ chain-wellFormed (graphOf ((c .before .before .args) .t1)) (refs-few ((c .before .before .args) .t1 .refs) (search length-of-map)) (omega (arith, (c .len) .ensures))
 
@@ -40,7 +40,7 @@ ascend-requires : tie.Need-ascend-requires Inv-loop μ-loop
 ascend-requires c κs = search needs
 
 returns : tie.Need-returns Inv-loop μ-loop
-returns c = answer (c .before .before) false (chain (pairOk (refsOf ((c .before .before .before .before .args) .t1 .refs))) 0 start (heldOf ((c .before .before .before .before .args) .t1))) (sym ((c .before .ascend) .ensures) ∙ not-true ((c .if1) .taken)) refl
+returns c = answer (c .before .before) false (chain (pairOk (refsOf ((c .before .before .before .before .args) .t1 .refs))) 0 noEdge (heldOf ((c .before .before .before .before .args) .t1))) (sym ((c .before .ascend) .ensures) ∙ not-true ((c .if1) .taken)) refl
 
 none-requires : tie.Need-none-requires Inv-loop μ-loop
 none-requires c κs = search needs
