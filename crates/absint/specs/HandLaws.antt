@@ -9,13 +9,13 @@ use mathlib.Core.List.{List, [], _∷_}
 use borrow.Author.Tests.{le-leb, lt-ltb}
 use lib.Dec.{leb}
 use lib.ListN.{length, take, set}
-use Rattle.meaning.specs.Base.{ok, refuse}
+use Rattle.meaning.specs.Answers.{ok, refuse}
 use Rattle.meaning.specs.Area.{keptOf, Stored}
-use Rattle.meaning.specs.State.{State, join, changed}
+use Rattle.meaning.specs.AbstractState.{State, join, changed}
 use Rattle.meaning.specs.Loop as M
 use Rattle.meaning.specs.Loop.{Status, fine, Next, at, stopped, position, toNext}
-use Rattle.meaning.specs.FitLaws as F
-use Rattle.meaning.specs.FitLaws.{Does, spreadTo}
+use Rattle.meaning.specs.Laws.Fit as F
+use Rattle.meaning.specs.Laws.Fit.{Does, spreadTo}
 use Rattle.absint.specs.Models.{statusesOf, nextOf, SameCounts, HandedOn, SpreadOut}
 use Rattle.absint.specs.declared.tally.Tally.{Tally}
 

@@ -8,10 +8,10 @@ use lib.Dec.{eqb, ltb}
 use native.Mathlib.Numerals.{add-one}
 use lib.Seq.{drop-cons}
 use lib.ListN.{length, drop, getD, set, replicate, length-map, length-take, drop-of-length-le}
-use Rattle.meaning.specs.ArrayLaws.{front-map-step, map-step}
+use Rattle.meaning.specs.Laws.Array.{front-map-step, map-step}
 use Rattle.meaning.specs.Loop as M
 use Rattle.meaning.specs.Loop.{Status, fine, position, Verdict, violation, entryOf, lowestOf}
-use Rattle.meaning.specs.FitLaws.{lowestBy}
+use Rattle.meaning.specs.Laws.Fit.{lowestBy}
 use Rattle.listing.specs.Models.{blockOf, blocksIn}
 use Rattle.listing.specs.declared.Block.{Block}
 use Rattle.absint.specs.Models.{statusOf, statusesOf, lowestVerdict}

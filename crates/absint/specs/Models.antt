@@ -6,13 +6,15 @@ use mathlib.Core.Option.{some}
 use mathlib.Core.List.{List, map}
 use lib.ListN.{length, drop, getD}
 use Rattle.meaning.specs.Area.{keptOf}
-use Rattle.meaning.specs.State.{State, join, changed}
-use Rattle.meaning.specs.Blocks.{Routine, exec, Strong, promised}
+use Rattle.meaning.specs.AbstractState.{State, join, changed}
+use Rattle.meaning.specs.Blocks.{Routine, exec}
+use Rattle.meaning.specs.Laws.Forms.{Strong}
+use Rattle.meaning.specs.Laws.Promised.{promised}
 use Rattle.meaning.specs.Loop as M
 use Rattle.meaning.specs.Loop.{Result, Status, fine, failed, Next, at, stopped, Run, blank, turn, Verdict, accept, violation, refusal, toNext}
 use Rattle.meaning.specs.Listing.{readListing, read, refused}
 use Rattle.meaning.specs.Verify.{Answered, runOf}
-use Rattle.meaning.specs.FitLaws.{Does, Reached, spreadTo, lowestBy}
+use Rattle.meaning.specs.Laws.Fit.{Does, Reached, spreadTo, lowestBy}
 use Rattle.listing.specs.Models.{routineOf}
 use Rattle.listing.specs.declared.Routine as D
 use Rattle.abstract_state.specs.declared.state.AbstractState.{AbstractState}

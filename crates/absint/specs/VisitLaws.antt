@@ -11,19 +11,22 @@ use mathlib.Core.List.{List, [], _∷_, map}
 use borrow.Author.Tests.{ne-eqb, eq-eqb, lt-ltb, le-ltb, ltb-false}
 use lib.Dec.{eqb, leb, ltb}
 use lib.ListN.{length, take, drop, getD, set, length-map}
-use Rattle.meaning.specs.ArrayLaws.{front-all}
+use Rattle.meaning.specs.Laws.Array.{front-all}
 use Rattle.meaning.specs.Area.{keptOf, Stored, Forgotten}
-use Rattle.meaning.specs.State.{State, join, changed}
-use Rattle.meaning.specs.Running as R
-use Rattle.meaning.specs.Running.{Outcome, done, Running}
-use Rattle.meaning.specs.Base.{and-l, leb-le, all}
-use Rattle.meaning.specs.Blocks.{Routine, exec, runBlock, firstState, promised, withinFrame, instrsOf, retsPlaced as placed-rets}
-use Rattle.meaning.specs.BlockLaws.{exec-keeps}
+use Rattle.meaning.specs.AbstractState.{State, join, changed, firstState}
+use Rattle.meaning.specs.EntryPoints as R
+use Rattle.meaning.specs.Answers.{Outcome, done}
+use Rattle.meaning.specs.EntryPoints.{Running}
+use Rattle.meaning.specs.Laws.Base.{and-l, leb-le}
+use Rattle.meaning.specs.Lists.{all}
+use Rattle.meaning.specs.Blocks.{Routine, exec, runBlock, instrsOf}
+use Rattle.meaning.specs.Laws.Promised.{promised, withinFrame, retsPlaced as placed-rets}
+use Rattle.meaning.specs.Laws.Block.{exec-keeps}
 use Rattle.meaning.specs.Loop as M
 use Rattle.meaning.specs.Loop.{Result, Status, fine, failed, Next, at, stopped, Run, noBlock, turn, turns, run, hasEnded}
-use Rattle.meaning.specs.FitLaws as F
-use Rattle.meaning.specs.FitLaws.{Reached}
-use Rattle.meaning.specs.RunLaws as RunLaws
+use Rattle.meaning.specs.Laws.Fit as F
+use Rattle.meaning.specs.Laws.Fit.{Reached}
+use Rattle.meaning.specs.Laws.Run as RunLaws
 use Rattle.meaning.specs.Verify.{mostVisits, runOf}
 use Rattle.listing.specs.Models.{blockOf, blocksIn, routineOf}
 use Rattle.listing.specs.declared.Block.{Block}
@@ -31,7 +34,7 @@ use Rattle.listing.specs.declared.Routine as D
 use Rattle.abstract_state.specs.Models.{halted, localOf, localsIn, runningOf, outcomeOf, answerOf, operandOf, stateOf}
 use Rattle.abstract_state.specs.declared.state.Local.{Local}
 use Rattle.abstract_state.specs.declared.state.AbstractState.{AbstractState}
-use Rattle.state_join.specs.Models.{firstRunning}
+use Rattle.abstract_state_join.specs.Models.{firstRunning}
 use Rattle.reference_safety.specs.Models.{placed}
 use Rattle.absint.specs.Models.{statusesOf, nextOf, SpreadOut, At, Readable, Ready, Turned, Started, Analyzed}
 use Rattle.absint.specs.LoopLaws.{past-block}

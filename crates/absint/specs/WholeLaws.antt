@@ -7,13 +7,13 @@ use mathlib.Core.List.{List, map, _++_}
 use borrow.Author.Tests.{lt-ltb, le-ltb, eq-eqb, ne-eqb}
 use lib.Dec.{leb}
 use lib.ListN.{length, take, getD, length-take}
-use Rattle.meaning.specs.Base.{decide, leb-le, leb-gt}
-use Rattle.meaning.specs.ArrayLaws.{front-all}
+use Rattle.meaning.specs.Laws.Base.{decide, leb-le, leb-gt}
+use Rattle.meaning.specs.Laws.Array.{front-all}
 use Rattle.meaning.specs.Area.{keptOf, cleared, zeros}
-use Rattle.meaning.specs.AreaLaws.{cleared-long}
+use Rattle.meaning.specs.Laws.Area.{cleared-long}
 use Rattle.meaning.specs.Blocks.{Routine}
 use Rattle.meaning.specs.Loop.{at, stopped, blank, visits, Verdict, accept, refusal, verdict, verdictAt}
-use Rattle.meaning.specs.FitLaws.{lowestBy, lowest-by}
+use Rattle.meaning.specs.Laws.Fit.{lowestBy, lowest-by}
 use Rattle.meaning.specs.Listing.{Listed, read, refused, readListing}
 use Rattle.meaning.specs.Verify as Whole
 use Rattle.meaning.specs.Verify.{runOf}

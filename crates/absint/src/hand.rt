@@ -2,10 +2,10 @@
 use crate::tally::Tally;
 use abstract_state::state::AbstractState;
 use file_format::CodeOffset;
-use kept_states::load;
-use kept_states::store;
+use absint_area::load;
+use absint_area::store;
 use listing::Block;
-use state_join::join::join;
+use abstract_state_join::join::join;
 ghost use mathlib.Core.Path.{_≡_};
 ghost use Prim.Native.Nat.{_≤_};
 ghost use lib.ListN.{length};

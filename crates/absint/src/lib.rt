@@ -7,7 +7,7 @@ mod visit;
 use crate::error::rule;
 use crate::visit::visit_all;
 use file_format::CodeOffset;
-use kept_states::clear;
+use absint_area::clear;
 use listing::Routine;
 use listing::read_listing;
 ghost use mathlib.Core.Path.{_≡_};

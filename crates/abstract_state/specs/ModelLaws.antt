@@ -7,13 +7,13 @@ use native.Mathlib.Nat.{not-suc-le-zero, le-of-suc-le-suc}
 use native.Mathlib.Numerals.{add-one}
 use lib.Dec.{eqb, ltb}
 use lib.ListN.{length, drop, getD, set, length-map, length-take}
-use Rattle.meaning.specs.ArrayLaws.{front-map-step}
-use Rattle.meaning.specs.Base.{Ans, ok, refuse, guard, ok-inj, refuse≢ok}
-use Rattle.meaning.specs.Graph.{Graph, wellFormed, held}
-use Rattle.meaning.specs.State as S
-use Rattle.meaning.specs.Running.{Outcome, done, violated, refused, then, lift, Running, onGraph, newRef}
-use Rattle.meaning.specs.Lookups as L
-use Rattle.meaning.specs.Borrow.{newName}
+use Rattle.meaning.specs.Laws.Array.{front-map-step}
+use Rattle.meaning.specs.Answers.{Ans, ok, refuse, guard, Outcome, done, violated, refused, then, lift}
+use Rattle.meaning.specs.Laws.Base.{ok-inj, refuse≢ok}
+use Rattle.meaning.specs.BorrowGraph.{Graph, wellFormed, held, newName}
+use Rattle.meaning.specs.AbstractState as S
+use Rattle.meaning.specs.EntryPoints.{Running, onGraph, newRef}
+use Rattle.meaning.specs.BorrowGraph as L
 use Rattle.borrow_graph.specs.Models.{told}
 use Rattle.abstract_state.specs.Models.{halted, heeding, failing, needing, localOf, localsIn}
 use Rattle.abstract_state.specs.declared.state.AbstractValue.the-variants.{Reference}

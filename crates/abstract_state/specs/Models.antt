@@ -4,11 +4,11 @@ use mathlib.Core.Bool.{Bool, cond}
 use mathlib.Core.List.{List, map}
 use lib.Dec.{eqb}
 use lib.ListN.{take}
-use Rattle.meaning.specs.Base.{Ans}
-use Rattle.meaning.specs.State as S
-use Rattle.meaning.specs.State.{State}
-use Rattle.meaning.specs.Running as R
-use Rattle.meaning.specs.Running.{Outcome, done, violated, refused, then, lift, Operand, nonRef, reference, Running, Answer}
+use Rattle.meaning.specs.Answers.{Ans, Outcome, done, violated, refused, then, lift}
+use Rattle.meaning.specs.AbstractState as S
+use Rattle.meaning.specs.AbstractState.{State, Operand, nonRef, reference}
+use Rattle.meaning.specs.EntryPoints as R
+use Rattle.meaning.specs.EntryPoints.{Running, Answer}
 use Rattle.borrow_graph.specs.Models.{graphOf}
 use Rattle.abstract_state.specs.declared.state.AbstractValue.{AbstractValue}
 use Rattle.abstract_state.specs.declared.state.AbstractValue.the-variants.{Reference, NonReference}

@@ -3,8 +3,9 @@ use Prim.Native.Nat.{ℕ, suc}
 use mathlib.Core.Path.{_≡_, refl, ap, _∙_}
 use mathlib.Core.Bool.{Bool, true, false, cond}
 use lib.Dec.{ltb}
-use Rattle.meaning.specs.Borrow.{newName}
-use Rattle.meaning.specs.Running.{Outcome, done, violated, refused, then, lift, needs, Running, newRef}
+use Rattle.meaning.specs.BorrowGraph.{newName}
+use Rattle.meaning.specs.Answers.{Outcome, done, violated, refused, then, lift, needs}
+use Rattle.meaning.specs.EntryPoints.{Running, newRef}
 use Rattle.abstract_state.specs.ModelLaws.{then-then}
 
 pub link : {A B C : Type 0} (h : Outcome A) (o : Outcome B) (p : Outcome C) (f : A → Outcome B) (g : B → Outcome C) → o ≡ then h f → p ≡ then o g → p ≡ then h (λ s. then (f s) g)

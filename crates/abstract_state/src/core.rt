@@ -2,11 +2,11 @@
 use crate::state::AbstractState;
 use crate::state::AbstractValue;
 use crate::state::Local;
-use borrow_calls::borrow::add_strong_borrow;
-use borrow_calls::borrow::add_strong_field_borrow;
-use borrow_calls::borrow::add_weak_borrow;
-use borrow_calls::borrow::add_weak_field_borrow;
-use borrow_calls::release::release;
+use borrow_graph_edit::borrow::add_strong_borrow;
+use borrow_graph_edit::borrow::add_strong_field_borrow;
+use borrow_graph_edit::borrow::add_weak_borrow;
+use borrow_graph_edit::borrow::add_weak_field_borrow;
+use borrow_graph_edit::release::release;
 use borrow_graph::graph::Answer;
 use borrow_graph::graph::Told;
 use file_format::LocalIndex;
@@ -16,8 +16,9 @@ ghost use mathlib.Core.Path.{_≡_};
 ghost use mathlib.Core.Bool.{cond};
 ghost use lib.Dec.{ltb};
 ghost use lib.ListN.{getD};
-ghost use Rattle.meaning.specs.State as S;
-ghost use Rattle.meaning.specs.Running.{done, then, answer, withLocal, onGraph, newRef, addCopy, addBorrow, addFieldBorrow, addLocalBorrow, addResourceBorrow, releaseName};
+ghost use Rattle.meaning.specs.AbstractState as S;
+ghost use Rattle.meaning.specs.Answers.{done, then};
+ghost use Rattle.meaning.specs.EntryPoints.{answer, withLocal, onGraph, newRef, addCopy, addBorrow, addFieldBorrow, addLocalBorrow, addResourceBorrow, releaseName};
 ghost use Rattle.borrow_graph.specs.Models as G;
 ghost use Rattle.abstract_state.specs.Models.{operandOf, localOf, localsIn, halted, heeding, failing, needing, outcomeOf, answerOf};
 

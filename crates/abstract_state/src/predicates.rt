@@ -9,8 +9,8 @@ ghost use mathlib.Core.Path.{_≡_};
 ghost use mathlib.Core.Bool.{not};
 ghost use mathlib.Core.Option.{none, some};
 ghost use Rattle.meaning.specs.Labels.{localLabel, globalLabel};
-ghost use Rattle.meaning.specs.Lookups.{ofName};
-ghost use Rattle.meaning.specs.Running.{isMutable, fullyBorrowed, borrowed, mutablyBorrowed, writable, freezable, readable};
+ghost use Rattle.meaning.specs.BorrowGraph.{ofName, isMutable, fullyBorrowed, borrowed, mutablyBorrowed};
+ghost use Rattle.meaning.specs.EntryPoints.{writable, freezable, readable};
 ghost use Rattle.borrow_graph.specs.Models.{graphOf, toldOf, filterOf};
 
 impl AbstractState {

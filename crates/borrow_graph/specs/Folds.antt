@@ -8,13 +8,12 @@ use native.Mathlib.Omega.{arith}
 use borrow.Author.Tests.{lt-ltb}
 use lib.Dec.{leb, ltb, eqb}
 use lib.ListN.{length}
-use Rattle.meaning.specs.Sets.{Edge, weakest, short, ltEdge, eqEdge}
-use Rattle.meaning.specs.Base.{any, and-l}
-use Rattle.meaning.specs.ArrayLaws.{empty-length}
-use Rattle.meaning.specs.Graph.{GEdge, Name, isBefore}
-use Rattle.meaning.specs.Running.{mutableIn, meetsLabel, emptyPath}
-use Rattle.meaning.specs.Lookups.{Borrows}
-use Rattle.meaning.specs.Chain.{same, link, nextCount, chain, climbs}
+use Rattle.meaning.specs.References.{Edge, weakest, short, ltEdge, eqEdge}
+use Rattle.meaning.specs.Lists.{any}
+use Rattle.meaning.specs.Laws.Base.{and-l}
+use Rattle.meaning.specs.Laws.Array.{empty-length}
+use Rattle.meaning.specs.BorrowGraph.{GEdge, Name, isBefore, mutableIn, meetsLabel, emptyPath, Borrows}
+use Rattle.meaning.specs.Refinement.Chain.{same, link, nextCount, chain, climbs}
 
 -- ---- names that ascend
 

@@ -7,9 +7,9 @@ use native.Mathlib.Omega.{arith}
 use borrow.Author.Tests.{eq-eqb, ne-eqb}
 use lib.Dec.{eqb}
 use lib.ListN.{length, take, drop, getD, drop-of-length-le, length-map, length-take}
-use Rattle.meaning.specs.Base.{Ans, ok, refuse, andThen, leaves}
-use Rattle.meaning.specs.Pairs.{or21}
-use Rattle.meaning.specs.ArrayLaws.{front-map-step, front-take}
+use Rattle.meaning.specs.Answers.{Ans, ok, refuse, andThen, leaves}
+use Rattle.meaning.specs.Refinement.Pairs.{or21}
+use Rattle.meaning.specs.Laws.Array.{front-map-step, front-take}
 use Rattle.references.specs.ModelLaws as R
 use Rattle.borrow_graph.specs.Models.{refOf, refsOf, gedgeOf, edgesOf, listAt, heldOf, told, changeOf, mapOf}
 use Rattle.borrow_graph.specs.declared.graph.Ref.{Ref}

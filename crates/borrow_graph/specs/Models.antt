@@ -5,11 +5,9 @@ use mathlib.Core.List.{List, map}
 use Prim.Native.Nat.{ℕ}
 use lib.Dec.{eqb}
 use lib.ListN.{take}
-use Rattle.meaning.specs.Base.{Ans, ok, refuse}
+use Rattle.meaning.specs.Answers.{Ans, ok, refuse}
 use Rattle.meaning.specs.Labels.{numberOf}
-use Rattle.meaning.specs.Graph.{Name, GEdge, Graph, eqPair}
-use Rattle.meaning.specs.Lookups.{Borrows}
-use Rattle.meaning.specs.Remap.{Change}
+use Rattle.meaning.specs.BorrowGraph.{Name, GEdge, Graph, eqPair, Borrows, Change}
 use Rattle.references.specs.Models.{labelOf, edgeOf}
 use Rattle.borrow_graph.specs.declared.graph.Ref.{Ref}
 use Rattle.borrow_graph.specs.declared.graph.Refs.{Refs}

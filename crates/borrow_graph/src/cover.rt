@@ -3,10 +3,10 @@ use crate::graph::BorrowGraph;
 use crate::graph::Refs;
 use crate::graph::Told;
 ghost use mathlib.Core.Path.{_≡_};
-ghost use Rattle.meaning.specs.Base.{all};
-ghost use Rattle.meaning.specs.Graph as G;
-ghost use Rattle.meaning.specs.Lookups.{covering};
-ghost use Rattle.meaning.specs.CoverLaws.{coveredIn};
+ghost use Rattle.meaning.specs.Lists.{all};
+ghost use Rattle.meaning.specs.BorrowGraph as G;
+ghost use Rattle.meaning.specs.BorrowGraph.{covering};
+ghost use Rattle.meaning.specs.Laws.Cover.{coveredIn};
 ghost use Rattle.borrow_graph.specs.Models.{refsOf, heldOf, graphOf, toldOf};
 
 impl Refs {

@@ -8,7 +8,7 @@ use references::references::RefID;
 ghost use mathlib.Core.Path.{_≡_};
 ghost use Prim.Native.Nat.{_≤_};
 ghost use lib.ListN.{length};
-ghost use Rattle.meaning.specs.CutLaws as Cut;
+ghost use Rattle.meaning.specs.Laws.Cut as Cut;
 ghost use Rattle.references.specs.Models.{orderingOf};
 ghost use Rattle.borrow_graph.specs.Models.{gedgeOf, edgesOf, heldOf};
 

@@ -9,13 +9,11 @@ use references::references::RefID;
 ghost use mathlib.Core.Path.{_≡_};
 ghost use mathlib.Core.Bool.{true};
 ghost use mathlib.Core.List.{[]};
-ghost use Rattle.meaning.specs.Base.{leaves};
-ghost use Rattle.meaning.specs.Graph.{emptyGraph, wellFormed};
+ghost use Rattle.meaning.specs.Answers.{leaves};
+ghost use Rattle.meaning.specs.BorrowGraph.{emptyGraph, wellFormed, newName, mutableOf, containsId, allRefs};
 ghost use mathlib.Core.Bool.{cond};
-ghost use Rattle.meaning.specs.Chain as C;
-ghost use Rattle.meaning.specs.Chain.{noEdge, nextCount};
-ghost use Rattle.meaning.specs.Borrow.{newName};
-ghost use Rattle.meaning.specs.Lookups.{mutableOf, containsId, allRefs};
+ghost use Rattle.meaning.specs.Refinement.Chain as C;
+ghost use Rattle.meaning.specs.Refinement.Chain.{noEdge, nextCount};
 ghost use Rattle.borrow_graph.specs.Models.{gedgeOf, graphOf, answerOf, toldOf, namesOf};
 
 // A name, and whether its reference is mutable.

@@ -1,6 +1,6 @@
 -- What the code's tokens mean in the definitions.
 use mathlib.Core.Bool.{true, false}
-use Rattle.meaning.specs.Running.{Token, ofValue, ofRef}
+use Rattle.meaning.specs.AbstractState.{Token, ofValue, ofRef}
 use Rattle.file_format.specs.declared.SignatureToken.{SignatureToken}
 use Rattle.file_format.specs.declared.SignatureToken.the-variants.{Value, Reference, MutableReference}
 

@@ -11,17 +11,18 @@ use lib.ListN.{length, take, drop, getD, length-take, List·getD-eq-default}
 use lib.Seq.{getD-take, take-take, take-nil}
 use lib.Dec.{leb, ltb, eqb, eqb·suc-zero}
 use borrow.Author.Tests.{lt-ltb, le-ltb, eq-eqb, ne-eqb}
-use Rattle.meaning.specs.Base.{any, decide, leb-le, leb-gt, or-false, empty}
+use Rattle.meaning.specs.Lists.{any, empty}
+use Rattle.meaning.specs.Laws.Base.{decide, leb-le, leb-gt, or-false}
 use Rattle.meaning.specs.Loop.{noBlock}
 use Rattle.meaning.specs.Loop as M
 use Rattle.meaning.specs.Steps as I
-use Rattle.meaning.specs.Blocks.{isRet}
+use Rattle.meaning.specs.Steps.{isRet}
 use Rattle.meaning.specs.Listing.{series}
 use Rattle.meaning.specs.Listing as D
-use Rattle.meaning.specs.ListingLaws.{Every, every-at}
+use Rattle.meaning.specs.Laws.Listing.{Every, every-at}
 use Rattle.listing.specs.declared.Block.{Block}
 use Rattle.listing.specs.Models.{blockOf, blocksIn, faultySuccessors}
-use Rattle.records.proofs.Lists.{eqb-iff, or-true, map-take, any-stop, any-turn, any-end, counted, element, within-list}
+use Rattle.listing_records.proofs.Lists.{eqb-iff, or-true, map-take, any-stop, any-turn, any-end, counted, element, within-list}
 
 -- ---- the blocks of an array
 

@@ -5,14 +5,14 @@ use mathlib.Core.Bool.{Bool, true, false, _&&_, _||_}
 use mathlib.Core.List.{List, [], _∷_, map}
 use lib.ListN.{length, getD, take}
 use lib.Dec.{leb, eqb}
-use Rattle.meaning.specs.Base.{all, any}
-use Rattle.meaning.specs.Running.{Token}
+use Rattle.meaning.specs.Lists.{all, any}
+use Rattle.meaning.specs.AbstractState.{Token}
 use Rattle.meaning.specs.Steps as I
 use Rattle.meaning.specs.Loop as M
 use Rattle.meaning.specs.Blocks as Q
 use Rattle.meaning.specs.Listing as D
 use Rattle.file_format.specs.Models.{tokenOf}
-use Rattle.records.specs.declared.Places.{Places}
+use Rattle.listing_records.specs.declared.Places.{Places}
 use Rattle.listing.specs.declared.decode.Instruction.{Instruction}
 use Rattle.listing.specs.declared.decode.Instruction.the-variants.{Pop, CopyLoc, MoveLoc, StLoc, FreezeRef, Compare, ReadRef, WriteRef, BorrowLoc, BorrowField, BorrowGlobal, MoveFrom, Call, Ret, Values, MoveTo, VectorOp, BorrowElement}
 use Rattle.listing.specs.declared.decode.Decoded.{Decoded}

@@ -3,23 +3,23 @@ pub mod decode;
 mod rules;
 
 use file_format::CodeOffset;
-use reader::head;
-use records::Cursor;
-use records::Places;
-use records::body;
-use records::byte_at;
-use records::place;
-use records::read_places;
-use records::u16_at;
+use listing_reader::head;
+use listing_records::Cursor;
+use listing_records::Places;
+use listing_records::body;
+use listing_records::byte_at;
+use listing_records::place;
+use listing_records::read_places;
+use listing_records::u16_at;
 ghost use mathlib.Core.Path.{_≡_};
 ghost use mathlib.Core.Bool.{true};
 ghost use mathlib.Core.List.{map};
 ghost use Prim.Native.Nat.{_≤_, _<_};
 ghost use lib.ListN.{take};
-ghost use Rattle.meaning.specs.Base.{all};
+ghost use Rattle.meaning.specs.Lists.{all};
 ghost use Rattle.meaning.specs.Listing.{blockAt, readListing};
 ghost use Rattle.listing.specs.Models.{blockOf, blocksIn, twoAt, Sound, ruledPlaces, listedOf};
-ghost use Rattle.records.specs.Models.{placesIn};
+ghost use Rattle.listing_records.specs.Models.{placesIn};
 
 // A block: its first and its last instruction, and the entries of its successors, of which `count` (0 to 2) are in use.
 pub struct Block {

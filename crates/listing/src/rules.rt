@@ -1,12 +1,12 @@
 // The rules on blocks and on Ret (refusal 5).
 use crate::Block;
-use records::place;
-use records::u16_at;
+use listing_records::place;
+use listing_records::u16_at;
 ghost use mathlib.Core.Path.{_≡_};
 ghost use Prim.Native.Nat.{_≤_, _<_};
 ghost use mathlib.Core.List.{map};
 ghost use lib.ListN.{take, drop};
-ghost use Rattle.meaning.specs.Base.{any};
+ghost use Rattle.meaning.specs.Lists.{any};
 ghost use Rattle.meaning.specs.Listing.{overlap, entryIn, endsBlock, faultySuccessor, faultyBlock, firstOf, strayRet, instrAt};
 ghost use Rattle.listing.specs.Models.{blockOf, blocksIn, faultySuccessors};
 

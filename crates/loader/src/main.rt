@@ -1,12 +1,12 @@
 // Reads a listing from standard input to its end, and prints the line of its verdict. Where a read fails it prints nothing.
-use answer_line::Line;
-use answer_line::answer_line;
+use loader_line::Line;
+use loader_line::answer_line;
 use libc::STDIN_FILENO;
 use libc::STDOUT_FILENO;
 ghost use mathlib.Core.Path.{_≡_};
 ghost use lib.ListN.{length};
 ghost use Rattle.io.specs.Counts.{Counts};
-ghost use Rattle.answer_line.specs.Models.{Within};
+ghost use Rattle.loader_line.specs.Models.{Within};
 
 // The bytes at the start of a buffer that were read.
 struct Input {

@@ -3,21 +3,17 @@
 --   word 16 + i           name i
 --   words 64 + 10 × i on  edge i: its ends; its marks and how many labels; up to eight labels
 -- A count beyond a limit of document 01 reads as the limit, and words of what is not held are free.
-use Prim.Native.Nat.{ℕ, zero, suc, _+_, _*_, _/_, _%_, min}
-use mathlib.Core.Path.{_≡_}
+use Prim.Native.Nat.{ℕ, _/_, _%_, min, _+_, _*_}
+use mathlib.Core.Bool.{cond, Bool, true, false, _&&_}
+use mathlib.Core.List.{List, _++_}
 use mathlib.Core.Logic.{_≢_}
-use mathlib.Core.Bool.{Bool, true, false, _&&_, cond}
 use mathlib.Core.Option.{Option, none, some}
-use mathlib.Core.List.{List, [], _∷_, _++_}
-use lib.Dec.{leb, ltb, eqb}
-use lib.ListN.{length, drop, getD, replicate}
-use Rattle.meaning.specs.Graph.{Name, GEdge}
-use Rattle.meaning.specs.State.{State, Local, absent, value, ref}
-
--- f 0, f 1 and so on: n of them
-unfoldable pub upTo : {A : Type 0} → ℕ → (ℕ → A) → List A
-upTo zero f = []
-upTo (suc n) f = f 0 ∷ upTo n (λ i. f (suc i))
+use mathlib.Core.Path.{_≡_}
+use lib.Dec.{eqb, leb, ltb}
+use lib.ListN.{getD, length, drop, replicate}
+use Rattle.meaning.specs.Lists.{upTo}
+use Rattle.meaning.specs.BorrowGraph.{Name, GEdge}
+use Rattle.meaning.specs.AbstractState.{Local, absent, value, ref, State}
 
 -- in units of 65,536 the kind, and below that the name of a reference
 abbrev pub localAs : ℕ → ℕ → Local

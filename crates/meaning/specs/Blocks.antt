@@ -1,17 +1,12 @@
 -- One block's run, from its kept state to the state that its successors get; and a routine's blocks as the loop runs them.
-use Prim.Native.Nat.{ℕ, zero, suc, _+_, _-_, _≤_, _<_}
-use mathlib.Core.Path.{_≡_, refl}
-use mathlib.Core.Bool.{Bool, true, false, not, _&&_, _||_, cond}
-use mathlib.Core.List.{List, [], _∷_, _++_}
-use lib.ListN.{length, getD, take, drop}
-use lib.Dec.{leb, ltb, eqb}
-use Rattle.meaning.specs.Base.{Ans, ok, refuse, all, empty}
-use Rattle.meaning.specs.State.{State, Form, Local, absent, value, ref}
-use Rattle.meaning.specs.Graph.{Name, held}
-use Rattle.meaning.specs.Rename.{canonical}
-use Rattle.meaning.specs.Running.{Outcome, done, violated, refused, Operand, Token, ofValue, ofRef, Running}
-use Rattle.meaning.specs.Steps.{Instr, Pop, CopyLoc, MoveLoc, StLoc, FreezeRef, Compare, ReadRef, WriteRef, BorrowLoc, BorrowField, BorrowGlobal, MoveFrom, Call, Ret, Values, MoveTo, VectorOp, BorrowElement, Machine, step}
-use Rattle.meaning.specs.Loop.{Result, Block, noBlock}
+use Prim.Native.Nat.{ℕ, suc, _-_}
+use mathlib.Core.List.{List, [], _∷_}
+use lib.ListN.{take, drop, getD}
+use Rattle.meaning.specs.Answers.{Ans, ok, refuse, Outcome, done, violated, refused}
+use Rattle.meaning.specs.AbstractState.{Token, State, canonical, Operand}
+use Rattle.meaning.specs.EntryPoints.{Running}
+use Rattle.meaning.specs.Steps.{Instr, Machine, step}
+use Rattle.meaning.specs.Loop.{Block, Result, noBlock}
 
 pub record Routine : Type 0 where
   pub params : List Token
@@ -62,84 +57,3 @@ runBlock q b s = runFrom (q .returns) b s (b .entry) (instrsOf b (q .code)) (sta
 unfoldable pub exec : Routine → ℕ → State → Result State
 unfolding runBlock
 exec q i s = runBlock q (getD (q .blocks) i noBlock) s
-
--- ---- the first state: the parameters present, no edges (AbstractState::new)
-
--- n locals from index i on; a parameter's reference is named by its index
-unfoldable pub firstLocals : ℕ → ℕ → List Token → List Local
-firstLocals i zero ts = []
-firstLocals i (suc n) [] = absent ∷ firstLocals (suc i) n []
-firstLocals i (suc n) (ofValue ∷ ts) = value ∷ firstLocals (suc i) n ts
-firstLocals i (suc n) (ofRef m ∷ ts) = ref i ∷ firstLocals (suc i) n ts
-
--- their names, and last the root's
-unfoldable pub firstNames : ℕ → ℕ → List Token → List Name
-firstNames i zero ts = record { id = i; mutable = true } ∷ []
-firstNames i (suc n) [] = firstNames (suc i) n []
-firstNames i (suc n) (ofValue ∷ ts) = firstNames (suc i) n ts
-firstNames i (suc n) (ofRef m ∷ ts) = record { id = i; mutable = m } ∷ firstNames (suc i) n ts
-
-unfoldable pub firstState : ℕ → List Token → State
-unfolding firstLocals firstNames
-firstState l ts = record { locals = firstLocals 0 l ts; graph = record { names = firstNames 0 l ts; edges = [] } }
-
--- ---- the form of the states that the blocks of a run hand on: the names held are the root's and the references', all of them
-
-pub record Strong (l : ℕ) (s : State) : Type 0 where
-  pub form : Form l s
-  pub root : held (s .graph) l ≡ true
-  pub refs : (i : ℕ) → getD (s .locals) i absent ≡ ref i → held (s .graph) i ≡ true
-
--- ---- what the reader promises (refusals 3, 5 and 6)
-
-abbrev pub withinFrame : ℕ → Instr → Bool
-withinFrame l Pop = true
-withinFrame l (CopyLoc a) = true
-withinFrame l (MoveLoc a) = true
-withinFrame l (StLoc a) = ltb a l
-withinFrame l FreezeRef = true
-withinFrame l Compare = true
-withinFrame l ReadRef = true
-withinFrame l WriteRef = true
-withinFrame l (BorrowLoc a b) = true
-withinFrame l (BorrowField a b) = true
-withinFrame l (BorrowGlobal a b) = true
-withinFrame l (MoveFrom a) = true
-withinFrame l (Call a b c) = leb (length c) 8
-withinFrame l Ret = true
-withinFrame l (Values a b c) = true
-withinFrame l MoveTo = true
-withinFrame l (VectorOp a b c d) = true
-withinFrame l (BorrowElement a) = true
-
-abbrev pub isRet : Instr → Bool
-isRet Pop = false
-isRet (CopyLoc a) = false
-isRet (MoveLoc a) = false
-isRet (StLoc a) = false
-isRet FreezeRef = false
-isRet Compare = false
-isRet ReadRef = false
-isRet WriteRef = false
-isRet (BorrowLoc a b) = false
-isRet (BorrowField a b) = false
-isRet (BorrowGlobal a b) = false
-isRet (MoveFrom a) = false
-isRet (Call a b c) = false
-isRet Ret = true
-isRet (Values a b c) = false
-isRet MoveTo = false
-isRet (VectorOp a b c d) = false
-isRet (BorrowElement a) = false
-
--- Ret stands only at the exit of a block without successors
-unfoldable pub retsPlaced : List ℕ → List Instr → Bool
-retsPlaced es [] = true
-retsPlaced es (i ∷ is) = (not (isRet i) || (empty is && empty es)) && retsPlaced es is
-
-unfoldable pub promised : Routine → Bool
-unfolding retsPlaced instrsOf
-promised q =
-    (leb (q .locals) 16 && leb (length (q .code)) 512)
-    && (all (withinFrame (q .locals)) (q .code)
-    && all (λ b. retsPlaced (b .successors) (instrsOf b (q .code))) (q .blocks))

@@ -1,7 +1,7 @@
 -- Labels: Local, Global and Field, each with a 16-bit number. A label's own number is kind × 65,536 + index, so that labels
 -- stand in the order of their numbers: Local < Global < Field, then the index.
 use Prim.Native.Nat.{ℕ, _+_, _%_}
-use mathlib.Core.Bool.{Bool, true, false, cond}
+use mathlib.Core.Bool.{cond, Bool, true, false}
 use lib.Dec.{ltb}
 
 pub data Label : Type 0 where

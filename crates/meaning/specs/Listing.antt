@@ -1,15 +1,15 @@
 -- The listing of one routine (document 01, "Listing of one routine" and "Who can cause a refusal"): what its bytes mean, a routine, or a
 -- refusal with its number and place.
-use Prim.Native.Nat.{ℕ, zero, suc, _+_, _*_, _-_}
-use mathlib.Core.Bool.{Bool, true, false, not, _&&_, _||_, cond, Bool·beq}
+use Prim.Native.Nat.{ℕ, _+_, _*_, zero, suc, _-_}
+use mathlib.Core.Bool.{Bool, cond, true, _&&_, false, Bool·beq, _||_, not}
 use mathlib.Core.List.{List, [], _∷_, _++_, map}
-use lib.ListN.{length, getD, take, drop}
-use lib.Dec.{leb, ltb, eqb}
-use Rattle.meaning.specs.Base.{all, any, empty}
-use Rattle.meaning.specs.Running.{Token, ofValue, ofRef}
-use Rattle.meaning.specs.Steps.{Instr, Pop, CopyLoc, MoveLoc, StLoc, FreezeRef, Compare, ReadRef, WriteRef, BorrowLoc, BorrowField, BorrowGlobal, MoveFrom, Call, Ret, Values, MoveTo, VectorOp, BorrowElement}
+use lib.Dec.{leb, eqb, ltb}
+use lib.ListN.{getD, length, take, drop}
+use Rattle.meaning.specs.Lists.{any, all, empty}
+use Rattle.meaning.specs.AbstractState.{Token, ofValue, ofRef}
+use Rattle.meaning.specs.Steps.{Instr, Call, Pop, CopyLoc, MoveLoc, StLoc, FreezeRef, Compare, ReadRef, WriteRef, BorrowLoc, BorrowField, BorrowGlobal, MoveFrom, Ret, Values, MoveTo, VectorOp, BorrowElement, isRet}
+use Rattle.meaning.specs.Blocks.{Routine}
 use Rattle.meaning.specs.Loop.{Block, noBlock}
-use Rattle.meaning.specs.Blocks.{Routine, isRet}
 
 -- ---- records: 2-byte body length, 2-byte kind, body; little-endian
 

@@ -1,12 +1,11 @@
 -- The block loop (absint.rs), over any state with a join and any block execution.
-use Prim.Native.Nat.{ℕ, zero, suc, _+_, _*_, _≤_, _<_}
-use mathlib.Core.Path.{_≡_, refl}
-use mathlib.Core.Bool.{Bool, true, false, not, _&&_, _||_, cond}
-use mathlib.Core.Option.{Option, none, some}
+use Prim.Native.Nat.{ℕ, zero, suc}
+use mathlib.Core.Bool.{cond, Bool, true, false, not}
 use mathlib.Core.List.{List, [], _∷_, map}
+use mathlib.Core.Option.{Option, none, some}
+use lib.Dec.{eqb, leb, ltb}
 use lib.ListN.{length, getD, set}
-use lib.Dec.{leb, ltb, eqb}
-use Rattle.meaning.specs.Base.{Ans, ok, refuse}
+use Rattle.meaning.specs.Answers.{Ans, ok, refuse}
 
 -- what running a block answers: the end state, renamed; a violation, code and offset; a refusal, number and place
 pub data Result (St : Type 0) : Type 0 where

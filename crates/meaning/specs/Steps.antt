@@ -1,11 +1,12 @@
 -- The instructions, the operand stack, and one instruction's step (mod.rs).
-use Prim.Native.Nat.{ℕ, zero, suc, _+_, _≤_, _<_}
-use mathlib.Core.Path.{_≡_, refl}
-use mathlib.Core.Bool.{Bool, true, false, not, _&&_, _||_, cond}
-use mathlib.Core.List.{List, [], _∷_, _++_}
+use Prim.Native.Nat.{ℕ, zero, suc}
+use mathlib.Core.Bool.{Bool, true, false}
+use mathlib.Core.List.{List, [], _∷_}
+use lib.Dec.{ltb}
 use lib.ListN.{length}
-use lib.Dec.{leb, ltb, eqb}
-use Rattle.meaning.specs.Running.{Outcome, done, violated, refused, then, needs, Operand, nonRef, reference, Token, Running, Answer, Answers, needRef, needValue, valueFor, releaseValue, copyLoc, moveLoc, stLoc, freezeRef, comparison, readRef, writeRef, borrowLoc, borrowField, borrowGlobal, moveFrom, vectorOp, vectorElementBorrow, call, ret}
+use Rattle.meaning.specs.Answers.{Outcome, refused, done, needs, then}
+use Rattle.meaning.specs.AbstractState.{Token, Operand}
+use Rattle.meaning.specs.EntryPoints.{Running, needRef, needValue, Answer, valueFor, releaseValue, copyLoc, moveLoc, stLoc, freezeRef, comparison, readRef, writeRef, borrowLoc, borrowField, borrowGlobal, moveFrom, vectorOp, vectorElementBorrow, call, ret}
 
 -- kinds 10 to 27
 pub data Instr : Type 0 where
@@ -96,3 +97,23 @@ stepOn returns (BorrowElement m) vs r = popValue vs (λ ws. pop ws (λ v us. pus
 
 unfoldable pub step : ℕ → Instr → Machine → Outcome Machine
 step returns i m = stepOn returns i (m .stack) (m .state)
+
+abbrev pub isRet : Instr → Bool
+isRet Pop = false
+isRet (CopyLoc a) = false
+isRet (MoveLoc a) = false
+isRet (StLoc a) = false
+isRet FreezeRef = false
+isRet Compare = false
+isRet ReadRef = false
+isRet WriteRef = false
+isRet (BorrowLoc a b) = false
+isRet (BorrowField a b) = false
+isRet (BorrowGlobal a b) = false
+isRet (MoveFrom a) = false
+isRet (Call a b c) = false
+isRet Ret = true
+isRet (Values a b c) = false
+isRet MoveTo = false
+isRet (VectorOp a b c d) = false
+isRet (BorrowElement a) = false

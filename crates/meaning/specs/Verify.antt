@@ -1,13 +1,13 @@
 -- The answer to a listing, from its bytes to the verdict: document 01 as a whole.
 use Prim.Native.Nat.{ℕ, _+_, _*_}
-use mathlib.Core.Bool.{Bool, cond}
-use mathlib.Core.Option.{Option, none}
+use mathlib.Core.Bool.{cond}
 use mathlib.Core.List.{List}
-use lib.ListN.{length, getD}
+use mathlib.Core.Option.{Option, none}
 use lib.Dec.{ltb}
-use Rattle.meaning.specs.State.{State, join, changed}
-use Rattle.meaning.specs.Blocks.{Routine, exec, firstState}
-use Rattle.meaning.specs.Loop.{Run, run, visits, blank, Verdict, refusal, verdict}
+use lib.ListN.{length, getD}
+use Rattle.meaning.specs.AbstractState.{State, join, changed, firstState}
+use Rattle.meaning.specs.Blocks.{Routine, exec}
+use Rattle.meaning.specs.Loop.{Run, run, visits, Verdict, verdict, refusal, blank}
 use Rattle.meaning.specs.Listing.{Listed, read, refused, readListing}
 
 -- B × (1 + B × (11 × L × L + L)) for B blocks and L locals

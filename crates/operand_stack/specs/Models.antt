@@ -3,7 +3,8 @@ use Prim.Native.Nat.{ℕ}
 use mathlib.Core.List.{List, [], _∷_, reverse}
 use lib.ListN.{length}
 use lib.Dec.{ltb}
-use Rattle.meaning.specs.Running.{Outcome, done, needs, Operand}
+use Rattle.meaning.specs.Answers.{Outcome, done, needs}
+use Rattle.meaning.specs.AbstractState.{Operand}
 use Rattle.meaning.specs.Steps as T
 use Rattle.abstract_state.specs.Models.{operandOf, operandsIn, operandsOf, halted}
 use Rattle.abstract_state.specs.declared.state.Operand as D

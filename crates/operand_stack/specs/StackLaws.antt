@@ -10,8 +10,10 @@ use borrow.Author.Tests.{lt-ltb, le-ltb, eq-eqb, ne-eqb}
 use lib.Dec.{eqb, ltb}
 use lib.ListN.{length, take, drop, getD, set, replicate, length-map, length-take, length-reverse, drop-of-length-le}
 use lib.Seq.{take-suc, take-suc-set, take-all}
-use Rattle.meaning.specs.ArrayLaws.{front-map-step}
-use Rattle.meaning.specs.Running.{Outcome, done, refused, then, needs, Operand, nonRef, reference, ofValue, Running, valueFor}
+use Rattle.meaning.specs.Laws.Array.{front-map-step}
+use Rattle.meaning.specs.Answers.{Outcome, done, refused, then, needs}
+use Rattle.meaning.specs.AbstractState.{Operand, nonRef, reference, ofValue}
+use Rattle.meaning.specs.EntryPoints.{Running, valueFor}
 use Rattle.meaning.specs.Steps.{Machine, pop, popRef, popValues, popMany, push, pushAll, pushNew}
 use Rattle.abstract_state.specs.Models.{operandOf, operandsIn, halted}
 use Rattle.abstract_state.specs.declared.state.Operand as D

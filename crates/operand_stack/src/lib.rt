@@ -9,7 +9,7 @@ ghost use mathlib.Core.Path.{_≡_};
 ghost use mathlib.Core.List.{[], _∷_};
 ghost use Prim.Native.Nat.{_≤_};
 ghost use lib.ListN.{length, replicate};
-ghost use Rattle.meaning.specs.Running.{nonRef};
+ghost use Rattle.meaning.specs.AbstractState.{nonRef};
 ghost use Rattle.abstract_state.specs.Models.{operandOf, operandsOf};
 ghost use Rattle.operand_stack.specs.Models.{stackIn, stackOf, poppedOf, poppedRefOf, poppedManyOf, restOf, popOne, popOneRef, popSome, popRest, popUnder, pushEach};
 

@@ -8,11 +8,10 @@ use native.Mathlib.Omega.{arith}
 use lib.Dec.{eqb}
 use lib.ListN.{length, take, drop, getD, length-drop, length-map, length-take}
 use lib.Seq.{take-nil}
-use Rattle.meaning.specs.Base.{Ans, ok, refuse}
-use Rattle.meaning.specs.State.{State}
-use Rattle.meaning.specs.Rename.{canonical}
-use Rattle.meaning.specs.ArrayLaws.{front-map-step}
-use Rattle.meaning.specs.Running.{Outcome, done, violated, refused, then, lift, Operand, Running}
+use Rattle.meaning.specs.Answers.{Ans, ok, refuse, Outcome, done, violated, refused, then, lift}
+use Rattle.meaning.specs.AbstractState.{State, canonical, Operand}
+use Rattle.meaning.specs.Laws.Array.{front-map-step}
+use Rattle.meaning.specs.EntryPoints.{Running}
 use Rattle.meaning.specs.Steps.{Instr, Machine, stepOn, step}
 use Rattle.meaning.specs.Loop.{Result, Block}
 use Rattle.meaning.specs.Blocks.{Routine, instrsOf, startMachine, renamedEnd, finish, settle, runFrom, runBlock}
@@ -23,7 +22,7 @@ use Rattle.listing.specs.declared.decode.Instruction.{Instruction}
 use Rattle.listing.specs.declared.decode.Decoded.{Decoded}
 use Rattle.reference_safety.specs.Models.{with, placed}
 use Rattle.reference_safety.specs.MachineLaws.{apart}
-use Rattle.state_join.specs.Models.{canonicalEnd}
+use Rattle.abstract_state_join.specs.Models.{canonicalEnd}
 use Rattle.meaning.specs.Listing.{tokenAs}
 
 -- ---- one instruction

@@ -5,7 +5,9 @@ use mathlib.Core.Bool.{Bool, true, false, _&&_, cond}
 use mathlib.Core.List.{List, [], _∷_}
 use lib.Dec.{eqb}
 use lib.ListN.{replicate}
-use Rattle.meaning.specs.Running.{Outcome, done, violated, refused, then, Operand, nonRef, Token, Running, Answers, valueFor}
+use Rattle.meaning.specs.Answers.{Outcome, done, violated, refused, then}
+use Rattle.meaning.specs.AbstractState.{Operand, nonRef, Token}
+use Rattle.meaning.specs.EntryPoints.{Running, Answers, valueFor}
 use Rattle.meaning.specs.Steps.{Machine, pop, popRef, popValues, popMany, pushed, pushAll, pushNew, unchanged}
 use Rattle.abstract_state.specs.Models.{halted}
 use Rattle.abstract_state.specs.ModelLaws.{halted-then, stays, then-then}

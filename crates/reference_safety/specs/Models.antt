@@ -4,8 +4,9 @@ use mathlib.Core.Path.{_≡_}
 use mathlib.Core.Bool.{true}
 use mathlib.Core.List.{List}
 use lib.ListN.{set, replicate}
-use Rattle.meaning.specs.State.{State}
-use Rattle.meaning.specs.Running.{Outcome, done, violated, refused, then, Operand, nonRef, Running}
+use Rattle.meaning.specs.AbstractState.{State, Operand, nonRef}
+use Rattle.meaning.specs.Answers.{Outcome, done, violated, refused, then}
+use Rattle.meaning.specs.EntryPoints.{Running}
 use Rattle.meaning.specs.Steps as T
 use Rattle.meaning.specs.Steps.{Instr}
 use Rattle.meaning.specs.Loop.{Result}

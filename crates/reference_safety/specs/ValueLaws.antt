@@ -5,9 +5,11 @@ use mathlib.Core.Bool.{Bool, true, false, _&&_, cond, true≢false}
 use mathlib.Core.List.{List, [], _∷_, map}
 use lib.Dec.{eqb}
 use lib.ListN.{take, getD, set, replicate}
-use Rattle.meaning.specs.Base.{and-l, and-r}
-use Rattle.meaning.specs.State as S
-use Rattle.meaning.specs.Running.{Outcome, done, violated, refused, then, Operand, nonRef, reference, Token, Running, withLocal, releaseValue, overwrite, stLoc, comparison}
+use Rattle.meaning.specs.Laws.Base.{and-l, and-r}
+use Rattle.meaning.specs.AbstractState as S
+use Rattle.meaning.specs.Answers.{Outcome, done, violated, refused, then}
+use Rattle.meaning.specs.AbstractState.{Operand, nonRef, reference, Token}
+use Rattle.meaning.specs.EntryPoints.{Running, withLocal, releaseValue, overwrite, stLoc, comparison}
 use Rattle.meaning.specs.Steps.{Instr, Machine, popValues, pushNew, unchanged, step}
 use Rattle.meaning.specs.Listing.{tokenAs}
 use Rattle.abstract_state.specs.Models.{localsIn, halted}

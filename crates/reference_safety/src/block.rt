@@ -14,13 +14,13 @@ use meaning::MAX_INSTRUCTIONS;
 use meaning::lesser;
 use operand_stack::depth;
 use operand_stack::empty;
-use state_join::canonical::construct_canonical_state;
+use abstract_state_join::canonical::construct_canonical_state;
 ghost use mathlib.Core.Path.{_≡_};
 ghost use mathlib.Core.Bool.{true, _&&_};
 ghost use Prim.Native.Nat.{suc, _+_, _-_, min};
 ghost use lib.Dec.{eqb};
 ghost use lib.ListN.{length};
-ghost use Rattle.meaning.specs.Running.{then};
+ghost use Rattle.meaning.specs.Answers.{then};
 ghost use Rattle.meaning.specs.Steps.{step};
 ghost use Rattle.meaning.specs.Blocks as Q;
 ghost use Rattle.listing.specs.Models.{decodedOf, blockOf, routineOf};
@@ -42,15 +42,15 @@ pub fn execute(m: Machine, d: Decoded, returns: u8) -> Machine
     let i = d.instruction;
     match i {
         Instruction::Pop => steps::pop_top(state, stack),
-        Instruction::CopyLoc(local) => pushed(state_steps::copy_loc(state, local), stack),
-        Instruction::MoveLoc(local) => pushed(state_steps::move_loc(state, local), stack),
+        Instruction::CopyLoc(local) => pushed(abstract_state_steps::copy_loc(state, local), stack),
+        Instruction::MoveLoc(local) => pushed(abstract_state_steps::move_loc(state, local), stack),
         Instruction::StLoc(local) => steps::st_loc(state, stack, local),
         Instruction::FreezeRef => steps::freeze_ref(state, stack),
         Instruction::Compare => steps::compare(state, stack),
         Instruction::ReadRef => steps::read_ref(state, stack),
         Instruction::WriteRef => steps::write_ref(state, stack),
         Instruction::BorrowLoc(local, mutable) => {
-            pushed(state_steps::borrow_loc(state, mutable, local), stack)
+            pushed(abstract_state_steps::borrow_loc(state, mutable, local), stack)
         }
         Instruction::BorrowField(n, mutable) => steps::borrow_field(state, stack, n, mutable),
         Instruction::BorrowGlobal(n, mutable) => steps::borrow_global(state, stack, n, mutable),

@@ -6,7 +6,8 @@ use operand_stack::push;
 use operand_stack::push_all;
 use operand_stack::push_values;
 ghost use mathlib.Core.Path.{_≡_};
-ghost use Rattle.meaning.specs.Running.{then, valueFor};
+ghost use Rattle.meaning.specs.Answers.{then};
+ghost use Rattle.meaning.specs.EntryPoints.{valueFor};
 ghost use Rattle.meaning.specs.Steps as T;
 ghost use Rattle.file_format.specs.Models.{tokenOf};
 ghost use Rattle.abstract_state.specs.Models.{operandsOf, outcomeOf, answerOf, halted};
@@ -77,7 +78,7 @@ fn push_one(m: Machine, token: SignatureToken) -> Machine
 {
     let state = m.state;
     let stack = m.stack;
-    let s = state_steps::value_for(state, token);
+    let s = abstract_state_steps::value_for(state, token);
     pushed(s, stack)
 }
 

@@ -17,7 +17,7 @@ use operand_stack::pop_values;
 ghost use mathlib.Core.Path.{_≡_};
 ghost use mathlib.Core.List.{map};
 ghost use lib.ListN.{take};
-ghost use Rattle.meaning.specs.Running.{then};
+ghost use Rattle.meaning.specs.Answers.{then};
 ghost use Rattle.meaning.specs.Listing.{tokenAs};
 ghost use Rattle.meaning.specs.Steps.{Instr, stepOn};
 ghost use Rattle.file_format.specs.Models.{tokenOf};
@@ -34,7 +34,7 @@ pub(crate) fn pop_top(state: AbstractState, stack: Operands) -> Machine
         return stop(state, rest, p.refusal);
     }
     let v = p.value;
-    let s = state_steps::release_value(state, v);
+    let s = abstract_state_steps::release_value(state, v);
     Machine {
         state: s,
         stack: rest,
@@ -50,7 +50,7 @@ pub(crate) fn st_loc(state: AbstractState, stack: Operands, local: LocalIndex) -
         return stop(state, rest, p.refusal);
     }
     let v = p.value;
-    let s = state_steps::st_loc(state, local, v);
+    let s = abstract_state_steps::st_loc(state, local, v);
     Machine {
         state: s,
         stack: rest,
@@ -66,7 +66,7 @@ pub(crate) fn freeze_ref(state: AbstractState, stack: Operands) -> Machine
         return stop(state, rest, p.refusal);
     }
     let id = p.id;
-    let s = state_steps::freeze_ref(state, id);
+    let s = abstract_state_steps::freeze_ref(state, id);
     pushed(s, rest)
 }
 
@@ -85,7 +85,7 @@ pub(crate) fn compare(state: AbstractState, stack: Operands) -> Machine
     }
     let v = p.value;
     let w = q.value;
-    let s = state_steps::comparison(state, v, w);
+    let s = abstract_state_steps::comparison(state, v, w);
     pushed(s, left)
 }
 
@@ -98,7 +98,7 @@ pub(crate) fn read_ref(state: AbstractState, stack: Operands) -> Machine
         return stop(state, rest, p.refusal);
     }
     let id = p.id;
-    let s = state_steps::read_ref(state, id);
+    let s = abstract_state_steps::read_ref(state, id);
     pushed(s, rest)
 }
 
@@ -116,7 +116,7 @@ pub(crate) fn write_ref(state: AbstractState, stack: Operands) -> Machine
         return stop(state, left, q.refusal);
     }
     let id = p.id;
-    let s = state_steps::write_ref(state, id);
+    let s = abstract_state_steps::write_ref(state, id);
     Machine {
         state: s,
         stack: left,
@@ -137,7 +137,7 @@ pub(crate) fn borrow_field(
         return stop(state, rest, p.refusal);
     }
     let id = p.id;
-    let s = state_steps::borrow_field(state, mutable, id, field);
+    let s = abstract_state_steps::borrow_field(state, mutable, id, field);
     pushed(s, rest)
 }
 
@@ -154,7 +154,7 @@ pub(crate) fn borrow_global(
     if p.refusal != 0 {
         return stop(state, rest, p.refusal);
     }
-    let s = state_steps::borrow_global(state, mutable, resource);
+    let s = abstract_state_steps::borrow_global(state, mutable, resource);
     pushed(s, rest)
 }
 
@@ -166,7 +166,7 @@ pub(crate) fn move_from(state: AbstractState, stack: Operands, resource: u16) ->
     if p.refusal != 0 {
         return stop(state, rest, p.refusal);
     }
-    let s = state_steps::move_from(state, resource);
+    let s = abstract_state_steps::move_from(state, resource);
     pushed(s, rest)
 }
 
@@ -187,7 +187,7 @@ pub(crate) fn call(
         return stop(state, rest, p.refusal);
     }
     let arguments = p.values;
-    let a = state_calls::call(
+    let a = abstract_state_calls::call(
         state,
         arguments,
         acquired,
@@ -209,7 +209,7 @@ pub(crate) fn ret(state: AbstractState, stack: Operands, returns: u8) -> Machine
         return stop(state, rest, p.refusal);
     }
     let values = p.values;
-    let s = state_calls::ret(state, values);
+    let s = abstract_state_calls::ret(state, values);
     Machine {
         state: s,
         stack: rest,
@@ -242,7 +242,7 @@ pub(crate) fn move_to(state: AbstractState, stack: Operands) -> Machine
         return stop(state, rest, p.refusal);
     }
     let v = p.value;
-    let s = state_steps::release_value(state, v);
+    let s = abstract_state_steps::release_value(state, v);
     Machine {
         state: s,
         stack: rest,
@@ -265,7 +265,7 @@ pub(crate) fn vector_op(
         return stop(state, rest, p.refusal);
     }
     let v = p.value;
-    let s = state_steps::vector_op(state, v, mutable);
+    let s = abstract_state_steps::vector_op(state, v, mutable);
     push_new(s, rest, pushes as u16, token)
 }
 
@@ -278,6 +278,6 @@ pub(crate) fn borrow_element(state: AbstractState, stack: Operands, mutable: boo
         return stop(state, rest, p.refusal);
     }
     let v = p.value;
-    let s = state_steps::vector_element_borrow(state, v, mutable);
+    let s = abstract_state_steps::vector_element_borrow(state, v, mutable);
     pushed(s, rest)
 }

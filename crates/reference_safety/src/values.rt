@@ -13,7 +13,7 @@ ghost use mathlib.Core.Path.{_≡_};
 ghost use mathlib.Core.Bool.{true};
 ghost use Prim.Native.Nat.{_<_};
 ghost use lib.ListN.{set};
-ghost use Rattle.meaning.specs.Running.{Token};
+ghost use Rattle.meaning.specs.AbstractState.{Token};
 ghost use Rattle.meaning.specs.Steps.{Instr};
 ghost use Rattle.file_format.specs.Models.{tokenOf};
 ghost use Rattle.listing.specs.Models.{decodedOf};

@@ -7,7 +7,7 @@ use absint::verify;
 ghost use mathlib.Core.Path.{_≡_};
 ghost use Prim.Native.Nat.{_≤_};
 ghost use lib.ListN.{length};
-ghost use Rattle.meaning.specs.AnswerLaws.{Low};
+ghost use Rattle.meaning.specs.Laws.Answer.{Low};
 ghost use Rattle.meaning.specs.Verify as Whole;
 ghost use Rattle.absint.specs.Models.{rulingOf, verdictOf};
 ghost use Rattle.reference_safety_lib.specs.Words.{fits, written, areaAfter, putWords, wordsOf};

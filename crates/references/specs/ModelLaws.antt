@@ -7,7 +7,7 @@ use native.Mathlib.Nat.{not-suc-le-zero, le-of-suc-le-suc, le-refl, mod-lt, div-
 use native.Mathlib.Omega.{arith}
 use lib.Pow.{pow-pos, pow-mono, pow-add, shl-exact, shr-shr, field, mod-mod-pow}
 use lib.ListN.{length, take, drop, getD, length-take, length-append, drop-of-length-le}
-use Rattle.meaning.specs.ArrayLaws.{front-step, front-map-step, front-all, front-take}
+use Rattle.meaning.specs.Laws.Array.{front-step, front-map-step, front-all, front-take}
 use Rattle.meaning.specs.Labels as L
 use Rattle.references.specs.Models.{labelOf, firstNumber, kindsFrom, joinedKinds, numbered, indicesOf, pathOf, edgeOf, edgesOf}
 use Rattle.references.specs.declared.paths.Label.{Label}

@@ -5,9 +5,9 @@ use mathlib.Core.List.{List, [], _∷_, map}
 use Prim.Native.Nat.{ℕ, _+_, _*_, _/_, _%_, _^_}
 use lib.Dec.{eqb}
 use lib.ListN.{take}
-use Rattle.meaning.specs.Base.{Ans, ok, refuse}
+use Rattle.meaning.specs.Answers.{Ans, ok, refuse}
 use Rattle.meaning.specs.Labels as L
-use Rattle.meaning.specs.Sets.{Cmp, less, equal, greater, Edge, EdgeSet}
+use Rattle.meaning.specs.References.{Cmp, less, equal, greater, Edge, EdgeSet}
 use Rattle.references.specs.declared.paths.Label.{Label}
 use Rattle.references.specs.declared.paths.Label.the-variants.{Local, Global, Field}
 use Rattle.references.specs.declared.paths.Ordering.{Ordering}

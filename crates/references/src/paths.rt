@@ -5,7 +5,7 @@ ghost use mathlib.Core.List.{[], _∷_, _++_};
 ghost use Prim.Native.Nat.{_*_, _^_, _≤_, _<_};
 ghost use lib.ListN.{length, drop};
 ghost use Rattle.meaning.specs.Labels.{numberOf, labelAt, kindOf, indexOf};
-ghost use Rattle.meaning.specs.Sets.{prefix, comparePaths, shortPath};
+ghost use Rattle.meaning.specs.References.{prefix, comparePaths, shortPath};
 ghost use Rattle.references.specs.Models.{labelOf, orderingOf, firstNumber, kindsFrom, joinedKinds, pathOf, appendedOf};
 
 // Document 01's label. Its number puts the kind before the index, so that labels stand in the order of their numbers.

@@ -8,10 +8,11 @@ ghost use mathlib.Core.Bool.{true, false};
 ghost use mathlib.Core.List.{_∷_, _++_};
 ghost use Prim.Native.Nat.{_+_, _≤_, _<_};
 ghost use lib.ListN.{length, take, drop};
-ghost use Rattle.meaning.specs.Base.{empty, leaves, nth};
-ghost use Rattle.meaning.specs.Sets;
-ghost use Rattle.meaning.specs.PlaceLaws;
-ghost use Rattle.meaning.specs.Sets.{emptySet, blur, compareEdges, eqEdge, ltEdge, covers, covered, has, offer};
+ghost use Rattle.meaning.specs.Lists.{empty, nth};
+ghost use Rattle.meaning.specs.Answers.{leaves};
+ghost use Rattle.meaning.specs.References as Sets;
+ghost use Rattle.meaning.specs.Laws.Place as PlaceLaws;
+ghost use Rattle.meaning.specs.References.{emptySet, blur, compareEdges, eqEdge, ltEdge, covers, covered, has, offer};
 ghost use Rattle.references.specs.Models.{orderingOf, edgeOf, edgesOf, setOf, candidateOf, insertedOf, gotOf};
 
 // A reference's name.

@@ -2,7 +2,7 @@ use mathlib.Core.Path.{_≡_, sym, ap, _∙_}
 use lib.ListN.{length}
 use Rattle.meaning.specs.Listing.{Listed, read, readListing}
 use Rattle.meaning.specs.Blocks.{Routine}
-use Rattle.meaning.specs.ListingLaws.{accepted-promised}
+use Rattle.meaning.specs.Laws.Listing.{accepted-promised}
 use Rattle.listing.specs.Models.{routineOf}
 use Rattle.absint.specs.Models.{rulingOf}
 use Rattle.absint.specs.WholeLaws as Law

@@ -1,7 +1,7 @@
 use native.Mathlib.Omega.{arith}
 use mathlib.Core.Path.{_≡_, refl}
 use lib.ListN.{length}
-use Rattle.meaning.specs.ArrayLaws.{length-of-map}
+use Rattle.meaning.specs.Laws.Array.{length-of-map}
 use Rattle.listing.specs.Models.{routineOf}
 use Rattle.absint.specs.LoopLaws.{blocks-count}
 use Rattle.absint.specs.WholeLaws.{clipped}

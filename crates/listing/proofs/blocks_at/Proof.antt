@@ -5,7 +5,7 @@ use mathlib.Core.List.{map}
 use lib.ListN.{length, take, length-set}
 use Rattle.meaning.specs.Listing.{blockAt}
 use Rattle.listing.specs.Models.{blockOf, blocksIn, twoAt}
-use Rattle.records.proofs.Lists.{map-filled, all-get}
+use Rattle.listing_records.proofs.Lists.{map-filled, all-get}
 use borrow.Author.Needs.{needs}
 use native.Mathlib.Omega.{arith}
 use Rattle.listing.proofs.blocks_at.Statement.{statement}

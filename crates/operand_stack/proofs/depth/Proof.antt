@@ -2,7 +2,7 @@
 use Prim.Native.Nat.{_≤_}
 use mathlib.Core.Path.{_≡_, refl, ap, _∙_}
 use lib.ListN.{length}
-use Rattle.meaning.specs.ArrayLaws.{length-of-map}
+use Rattle.meaning.specs.Laws.Array.{length-of-map}
 use Rattle.operand_stack.specs.Models.{stackIn}
 use Rattle.operand_stack.specs.StackLaws.{stack-length, stack-over}
 use native.Mathlib.Omega.{arith}

@@ -1,6 +1,8 @@
 -- `operand_stack::pop_ref` meets its contract. Assumes nothing.
 use mathlib.Core.Path.{sym, ap, _∙_}
-use Rattle.meaning.specs.Running.{Outcome, Operand, needRef}
+use Rattle.meaning.specs.Answers.{Outcome}
+use Rattle.meaning.specs.AbstractState.{Operand}
+use Rattle.meaning.specs.EntryPoints.{needRef}
 use Prim.Native.Nat.{ℕ}
 use mathlib.Core.List.{List}
 use Rattle.abstract_state.specs.Models.{operandOf}

@@ -1,6 +1,6 @@
 -- `operand_stack::pop_under` meets its contract. Assumes nothing.
 use mathlib.Core.Path.{_∙_}
-use Rattle.meaning.specs.Running.{nonRef}
+use Rattle.meaning.specs.AbstractState.{nonRef}
 use Rattle.operand_stack.specs.Models.{stackOf, popOne, popRest}
 use Rattle.operand_stack.specs.StackLaws.{stopped-then, went-then, rest-then}
 use borrow.Author.Needs.{needs}

@@ -2,7 +2,7 @@
 use Prim.Native.Nat.{ℕ, suc, _≤_, _-_}
 use mathlib.Core.Path.{_≡_, sym, ap, _∙_}
 use lib.ListN.{length, replicate, length-set}
-use Rattle.meaning.specs.Running.{nonRef}
+use Rattle.meaning.specs.AbstractState.{nonRef}
 use Rattle.abstract_state.specs.declared.state.AbstractValue.the-variants.{NonReference}
 use Rattle.operand_stack.specs.Models.{stackIn, stackOf, pushEach}
 use Rattle.operand_stack.specs.StackLaws.{push-full, push-turn}

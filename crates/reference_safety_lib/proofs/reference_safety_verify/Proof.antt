@@ -5,7 +5,7 @@ use mathlib.Core.Path.{sym, ap, _∙_, subst}
 use mathlib.Core.List.{List}
 use lib.ListN.{length}
 use Rattle.meaning.specs.Verify.{Answered, verify}
-use Rattle.meaning.specs.AnswerLaws.{Low, low-answer}
+use Rattle.meaning.specs.Laws.Answer.{Low, low-answer}
 use Rattle.reference_safety_lib.specs.Words.{wordsOf, putWords}
 use Rattle.reference_safety_lib.specs.WordLaws.{no-room, room}
 use borrow.Author.Needs.{needs}

@@ -2,7 +2,7 @@
 use mathlib.Core.Path.{sym, ap, subst}
 use Prim.Native.Nat.{_≤_}
 use native.Mathlib.Omega.{arith}
-use Rattle.meaning.specs.AnswerLaws.{Low}
+use Rattle.meaning.specs.Laws.Answer.{Low}
 use Rattle.absint.specs.Models.{rulingOf}
 use Rattle.absint.specs.declared.Ruling.{Ruling}
 use Rattle.reference_safety_lib.specs.Words.{rulingWords}

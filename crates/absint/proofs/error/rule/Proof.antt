@@ -2,9 +2,9 @@ use mathlib.Core.Path.{_≡_, refl, sym, ap, _∙_}
 use mathlib.Core.Bool.{Bool, cond}
 use Prim.Native.Nat.{_-_, _+_, _<_}
 use lib.ListN.{length, drop, getD}
-use Rattle.meaning.specs.ArrayLaws.{length-of-map}
+use Rattle.meaning.specs.Laws.Array.{length-of-map}
 use Rattle.meaning.specs.Loop.{accept, violation, refusal}
-use Rattle.meaning.specs.FitLaws.{lowestBy}
+use Rattle.meaning.specs.Laws.Fit.{lowestBy}
 use Rattle.listing.specs.Models.{blockOf, blocksIn}
 use Rattle.absint.specs.Models.{statusesOf, statusOf, lowestVerdict}
 use Rattle.absint.specs.LoopLaws.{past-block, past-status, blocks-step, blocks-end, statuses-step, lowest-step, lowest-end, statuses-count}

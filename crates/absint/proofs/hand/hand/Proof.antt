@@ -3,13 +3,13 @@ use mathlib.Core.Bool.{Bool, cond}
 use mathlib.Core.Option.{Option, none, some}
 use Prim.Native.Nat.{_≤_, _<_}
 use borrow.Author.Tests.{le-leb, lt-leb}
-use Rattle.meaning.specs.State.{State}
-use Rattle.meaning.specs.Running.{Running}
+use Rattle.meaning.specs.AbstractState.{State}
+use Rattle.meaning.specs.EntryPoints.{Running}
 use Rattle.meaning.specs.Loop.{Next, at, stopped}
 use Rattle.borrow_graph.specs.ModelLaws.{told-yes, told-no}
 use Rattle.listing.specs.Models.{blockOf, blocksIn}
 use Rattle.abstract_state.specs.Models.{stateOf}
-use Rattle.state_join.specs.Models.{changedBy}
+use Rattle.abstract_state_join.specs.Models.{changedBy}
 use Rattle.absint.specs.Models.{statusesOf}
 use Rattle.absint.specs.HandLaws as H
 use Rattle.absint.specs.VisitLaws.{kept-root, loaded-root}

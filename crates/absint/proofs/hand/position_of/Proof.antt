@@ -2,7 +2,7 @@ use mathlib.Core.Path.{_≡_}
 use Prim.Native.Nat.{_+_, _-_}
 use borrow.Author.Tests.{eq-eqb, ne-eqb}
 use lib.ListN.{length, drop, getD}
-use Rattle.meaning.specs.ArrayLaws.{length-of-map}
+use Rattle.meaning.specs.Laws.Array.{length-of-map}
 use Rattle.meaning.specs.Loop.{position}
 use Rattle.listing.specs.Models.{blockOf, blocksIn}
 use Rattle.absint.specs.LoopLaws.{past-block, blocks-count, blocks-step, blocks-end, position-found, position-passed, position-none}

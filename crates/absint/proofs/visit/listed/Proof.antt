@@ -1,6 +1,6 @@
 use mathlib.Core.Path.{_≡_}
 use lib.ListN.{length}
-use Rattle.meaning.specs.ArrayLaws.{length-of-map}
+use Rattle.meaning.specs.Laws.Array.{length-of-map}
 use Rattle.absint.specs.LoopLaws.{blocks-count}
 use Rattle.absint.specs.VisitLaws.{block-at}
 use native.Mathlib.Omega.{arith}

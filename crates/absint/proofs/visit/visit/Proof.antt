@@ -4,7 +4,7 @@ use mathlib.Core.Bool.{Bool, cond}
 use mathlib.Core.Option.{Option, none, some}
 use Prim.Native.Nat.{_+_}
 use Rattle.meaning.specs.Area.{keptOf}
-use Rattle.meaning.specs.State.{State}
+use Rattle.meaning.specs.AbstractState.{State}
 use Rattle.meaning.specs.Loop.{Next, at, stopped, Result}
 use Rattle.meaning.specs.Blocks.{exec}
 use Rattle.borrow_graph.specs.Models.{graphOf}

@@ -4,7 +4,7 @@ use Prim.Native.Nat.{_+_, _≤_, _-_}
 use lib.ListN.{length, getD, take, length-set}
 use mathlib.Core.List.{map}
 use Rattle.meaning.specs.Listing.{series}
-use Rattle.records.proofs.Lists.{filled, map-id}
+use Rattle.listing_records.proofs.Lists.{filled, map-id}
 use borrow.Author.Needs.{needs}
 use native.Mathlib.Omega.{arith}
 use Rattle.listing.proofs.decode.bytes_at.Statement.{statement}

@@ -6,7 +6,7 @@ use mathlib.Core.List.{map}
 use lib.ListN.{getD, take}
 use Rattle.meaning.specs.Listing.{callOf, series, tokenAs}
 use Rattle.listing.specs.Models.{callFor, decodedOf}
-use Rattle.records.proofs.Lists.{map-series}
+use Rattle.listing_records.proofs.Lists.{map-series}
 use borrow.Author.Needs.{needs}
 use Rattle.listing.proofs.decode.decode_call.Statement.{statement}
 use Rattle.listing.proofs.decode.decode_call.Tie as tie

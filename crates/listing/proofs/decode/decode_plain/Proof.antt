@@ -2,10 +2,10 @@
 use Prim.Native.Nat.{_≤_}
 use mathlib.Core.Logic.{inl, inr}
 use lib.Dec.{leb}
-use Rattle.meaning.specs.Base.{decide, leb-le, leb-gt}
+use Rattle.meaning.specs.Laws.Base.{decide, leb-le, leb-gt}
 use Rattle.meaning.specs.Listing.{instrOf}
 use Rattle.listing.proofs.Laws.{pop-else}
-use Rattle.records.proofs.Lists.{up}
+use Rattle.listing_records.proofs.Lists.{up}
 use borrow.Author.Needs.{needs}
 use Rattle.listing.proofs.decode.decode_plain.Statement.{statement}
 use Rattle.listing.proofs.decode.decode_plain.Tie as tie

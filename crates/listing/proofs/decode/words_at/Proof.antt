@@ -4,7 +4,7 @@ use Prim.Native.Nat.{_+_, _*_, _≤_, _-_}
 use lib.ListN.{length, take, length-set}
 use mathlib.Core.List.{map}
 use Rattle.meaning.specs.Listing.{u16At, series}
-use Rattle.records.proofs.Lists.{filled, map-id}
+use Rattle.listing_records.proofs.Lists.{filled, map-id}
 use borrow.Author.Needs.{needs}
 use native.Mathlib.Omega.{arith}
 use Rattle.listing.proofs.decode.words_at.Statement.{statement}

@@ -4,10 +4,10 @@ use Prim.Native.Nat.{_-_}
 use mathlib.Core.Bool.{_&&_}
 use lib.ListN.{length, drop}
 use lib.Dec.{eqb}
-use Rattle.meaning.specs.Base.{any, empty}
+use Rattle.meaning.specs.Lists.{any, empty}
 use Rattle.listing.specs.Models.{blocksIn}
 use Rattle.listing.proofs.Laws.{found, passed, missed, no-successor}
-use Rattle.records.proofs.Lists.{unmapped}
+use Rattle.listing_records.proofs.Lists.{unmapped}
 use native.Mathlib.Omega.{arith}
 use Rattle.listing.proofs.rules.ends_block.Statement.{statement}
 use Rattle.listing.proofs.rules.ends_block.Tie as tie

@@ -4,10 +4,10 @@ use borrow.Author.Tests.{eq-eqb, ne-eqb}
 use Prim.Native.Nat.{_-_}
 use lib.ListN.{length, drop}
 use lib.Dec.{eqb}
-use Rattle.meaning.specs.Base.{any}
+use Rattle.meaning.specs.Lists.{any}
 use Rattle.listing.specs.Models.{blocksIn}
 use Rattle.listing.proofs.Laws.{found, passed, missed}
-use Rattle.records.proofs.Lists.{unmapped}
+use Rattle.listing_records.proofs.Lists.{unmapped}
 use native.Mathlib.Omega.{arith}
 use Rattle.listing.proofs.rules.entry_from.Statement.{statement}
 use Rattle.listing.proofs.rules.entry_from.Tie as tie

@@ -3,7 +3,7 @@ use mathlib.Core.Path.{_≡_, sym, _∙_}
 use borrow.Author.Tests.{lt-ltb, le-ltb, le-leb, lt-leb}
 use lib.ListN.{length}
 use Rattle.listing.proofs.Laws.{faulty-eq}
-use Rattle.records.proofs.Lists.{unmapped}
+use Rattle.listing_records.proofs.Lists.{unmapped}
 use borrow.Author.Needs.{needs}
 use Rattle.listing.proofs.rules.faulty_block.Statement.{statement}
 use Rattle.listing.proofs.rules.faulty_block.Tie as tie

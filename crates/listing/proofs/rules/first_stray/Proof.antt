@@ -8,7 +8,7 @@ use lib.Dec.{eqb}
 use Rattle.meaning.specs.Listing.{firstOf, kindAt, strayRet, instrAt}
 use Rattle.listing.specs.Models.{blocksIn}
 use Rattle.listing.proofs.Laws.{first-stop, first-turn, first-end, stray-eq}
-use Rattle.records.proofs.Lists.{cases}
+use Rattle.listing_records.proofs.Lists.{cases}
 use borrow.Author.Needs.{needs}
 use native.Mathlib.Omega.{arith}
 use Rattle.listing.proofs.rules.first_stray.Statement.{statement}

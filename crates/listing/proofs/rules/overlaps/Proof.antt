@@ -2,10 +2,10 @@
 use mathlib.Core.Path.{_≡_, refl}
 use Prim.Native.Nat.{_-_}
 use lib.ListN.{length, drop}
-use Rattle.meaning.specs.Base.{any}
+use Rattle.meaning.specs.Lists.{any}
 use Rattle.listing.specs.Models.{blockOf, blocksIn}
 use Rattle.listing.proofs.Laws.{found, passed, missed}
-use Rattle.records.proofs.Lists.{unmapped}
+use Rattle.listing_records.proofs.Lists.{unmapped}
 use Rattle.meaning.specs.Listing.{overlap}
 use native.Mathlib.Omega.{arith}
 use Rattle.listing.proofs.rules.overlaps.Statement.{statement}

@@ -2,7 +2,7 @@
 use mathlib.Core.Path.{refl, ap}
 use Prim.Native.Nat.{ℕ}
 use native.Mathlib.Numerals.{add-one}
-use Rattle.meaning.specs.Running.{Running}
+use Rattle.meaning.specs.EntryPoints.{Running}
 use Rattle.borrow_graph.specs.Models.{graphOf}
 use Rattle.abstract_state.specs.Models.{localsIn}
 use borrow.Author.Needs.{needs}

@@ -1,11 +1,12 @@
 -- `reference_safety::block::finish` meets its contract. Assumes nothing.
 use mathlib.Core.Path.{_≡_, sym, ap, _∙_}
-use Rattle.meaning.specs.Running.{Running, done}
+use Rattle.meaning.specs.EntryPoints.{Running}
+use Rattle.meaning.specs.Answers.{done}
 use Rattle.abstract_state.specs.Models.{halted, runningOf, stateOf, outcomeOf}
 use Rattle.abstract_state.specs.ModelLaws.{goes}
 use Rattle.operand_stack.specs.Models.{stackOf}
 use Rattle.reference_safety.specs.Models.{placed}
-use Rattle.state_join.specs.Models.{canonicalEnd}
+use Rattle.abstract_state_join.specs.Models.{canonicalEnd}
 use Rattle.reference_safety.specs.BlockLaws.{finish-left, finish-none, finish-some}
 use borrow.Author.Needs.{needs}
 use Rattle.reference_safety.proofs.block.finish.Statement.{statement}

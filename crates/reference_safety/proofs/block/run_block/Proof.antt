@@ -5,8 +5,9 @@ use mathlib.Core.Bool.{true, _&&_}
 use mathlib.Core.List.{map}
 use lib.Dec.{eqb}
 use lib.ListN.{take, drop, getD}
-use Rattle.meaning.specs.State.{State}
-use Rattle.meaning.specs.Running.{Outcome, done, then, Running}
+use Rattle.meaning.specs.AbstractState.{State}
+use Rattle.meaning.specs.Answers.{Outcome, done, then}
+use Rattle.meaning.specs.EntryPoints.{Running}
 use Rattle.meaning.specs.Steps.{Machine, step}
 use Rattle.meaning.specs.Loop.{Result}
 use Rattle.meaning.specs.Blocks.{startMachine, settle, runFrom, runBlock}

@@ -1,6 +1,6 @@
 -- `reference_safety::machine::push_each` meets its contract. Assumes nothing.
 use mathlib.Core.Path.{_≡_, refl, _∙_, sym, ap}
-use Rattle.meaning.specs.Running.{then}
+use Rattle.meaning.specs.Answers.{then}
 use Rattle.abstract_state.specs.Models.{runningOf}
 use Rattle.operand_stack.specs.Models.{stackOf}
 use Rattle.reference_safety.specs.Models.{with, machineOf}

@@ -4,7 +4,7 @@ use Rattle.abstract_state.specs.Models.{outcomeOf, runningOf}
 use Rattle.operand_stack.specs.Models.{stackOf}
 use Rattle.reference_safety.specs.Models.{machineOf}
 use lib.ListN.{replicate}
-use Rattle.meaning.specs.Running.{nonRef}
+use Rattle.meaning.specs.AbstractState.{nonRef}
 use Rattle.meaning.specs.Steps.{pushNew}
 use Rattle.file_format.specs.Models.{tokenOf}
 use Rattle.reference_safety.specs.MachineLaws.{all-out, all-on, all-values, apart}

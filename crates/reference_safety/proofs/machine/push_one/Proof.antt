@@ -4,7 +4,7 @@ use Rattle.abstract_state.specs.Models.{outcomeOf, runningOf, answerOf}
 use Rattle.operand_stack.specs.Models.{stackOf}
 use Rattle.abstract_state.specs.OutcomeLaws.{link}
 use Rattle.reference_safety.specs.Models.{machineOf}
-use Rattle.meaning.specs.Running.{valueFor}
+use Rattle.meaning.specs.EntryPoints.{valueFor}
 use Rattle.meaning.specs.Steps.{push, pushed}
 use Rattle.file_format.specs.Models.{tokenOf}
 use Rattle.reference_safety.specs.MachineLaws.{apart}

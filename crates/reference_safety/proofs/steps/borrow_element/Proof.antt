@@ -1,5 +1,5 @@
 -- `reference_safety::steps::borrow_element` meets its contract. Assumes nothing.
-use Rattle.meaning.specs.Running.{vectorElementBorrow}
+use Rattle.meaning.specs.EntryPoints.{vectorElementBorrow}
 use Rattle.meaning.specs.Steps.{push, pushed, popValues}
 use Rattle.abstract_state.specs.Models.{outcomeOf, operandOf, answerOf}
 use Rattle.operand_stack.specs.Models.{stackOf}

@@ -1,5 +1,5 @@
 -- `reference_safety::steps::borrow_field` meets its contract. Assumes nothing.
-use Rattle.meaning.specs.Running.{borrowField}
+use Rattle.meaning.specs.EntryPoints.{borrowField}
 use Rattle.meaning.specs.Steps.{push, pushed}
 use Rattle.abstract_state.specs.Models.{outcomeOf, answerOf}
 use Rattle.operand_stack.specs.Models.{stackOf}

@@ -1,5 +1,5 @@
 -- `reference_safety::steps::borrow_global` meets its contract. Assumes nothing.
-use Rattle.meaning.specs.Running.{borrowGlobal}
+use Rattle.meaning.specs.EntryPoints.{borrowGlobal}
 use Rattle.meaning.specs.Steps.{push, pushed, popValues}
 use Rattle.abstract_state.specs.Models.{outcomeOf, answerOf}
 use Rattle.operand_stack.specs.Models.{stackOf}

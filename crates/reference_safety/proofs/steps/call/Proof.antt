@@ -1,6 +1,7 @@
 -- `reference_safety::steps::call` meets its contract. Assumes nothing.
 use mathlib.Core.Path.{_∙_}
-use Rattle.meaning.specs.Running.{then, call}
+use Rattle.meaning.specs.Answers.{then}
+use Rattle.meaning.specs.EntryPoints.{call}
 use Rattle.meaning.specs.Steps.{pushAll}
 use Rattle.abstract_state.specs.Models.{outcomeOf, operandsOf, runningOf}
 use Rattle.operand_stack.specs.Models.{stackOf}
@@ -10,7 +11,7 @@ use mathlib.Core.List.{map}
 use lib.ListN.{take}
 use Rattle.meaning.specs.Listing.{tokenAs}
 use Rattle.abstract_state.specs.OutcomeLaws.{link}
-use Rattle.state_calls.specs.Models.{calledOf}
+use Rattle.abstract_state_calls.specs.Models.{calledOf}
 use borrow.Author.Needs.{needs}
 use Rattle.reference_safety.proofs.steps.call.Statement.{statement}
 use Rattle.reference_safety.proofs.steps.call.Tie as tie

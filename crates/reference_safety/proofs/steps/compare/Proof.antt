@@ -1,5 +1,5 @@
 -- `reference_safety::steps::compare` meets its contract. Assumes nothing.
-use Rattle.meaning.specs.Running.{comparison}
+use Rattle.meaning.specs.EntryPoints.{comparison}
 use Rattle.meaning.specs.Steps.{pop, push, pushed}
 use Rattle.abstract_state.specs.Models.{outcomeOf, operandOf, answerOf}
 use Rattle.operand_stack.specs.Models.{stackOf}

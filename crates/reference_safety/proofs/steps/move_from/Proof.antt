@@ -1,5 +1,5 @@
 -- `reference_safety::steps::move_from` meets its contract. Assumes nothing.
-use Rattle.meaning.specs.Running.{moveFrom}
+use Rattle.meaning.specs.EntryPoints.{moveFrom}
 use Rattle.meaning.specs.Steps.{push, pushed, popValues}
 use Rattle.abstract_state.specs.Models.{outcomeOf, answerOf}
 use Rattle.operand_stack.specs.Models.{stackOf}

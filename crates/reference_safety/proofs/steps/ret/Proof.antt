@@ -1,5 +1,5 @@
 -- `reference_safety::steps::ret` meets its contract. Assumes nothing.
-use Rattle.meaning.specs.Running.{ret}
+use Rattle.meaning.specs.EntryPoints.{ret}
 use Rattle.meaning.specs.Steps.{unchanged}
 use Rattle.abstract_state.specs.Models.{outcomeOf, operandsOf, runningOf, halted}
 use Rattle.operand_stack.specs.Models.{stackOf}

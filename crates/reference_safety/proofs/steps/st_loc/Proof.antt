@@ -1,5 +1,5 @@
 -- `reference_safety::steps::st_loc` meets its contract. Assumes nothing.
-use Rattle.meaning.specs.Running.{stLoc}
+use Rattle.meaning.specs.EntryPoints.{stLoc}
 use Rattle.meaning.specs.Steps.{unchanged}
 use Rattle.abstract_state.specs.Models.{outcomeOf, operandOf, runningOf, halted}
 use Rattle.operand_stack.specs.Models.{stackOf}

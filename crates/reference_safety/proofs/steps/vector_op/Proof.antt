@@ -1,5 +1,6 @@
 -- `reference_safety::steps::vector_op` meets its contract. Assumes nothing.
-use Rattle.meaning.specs.Running.{then, vectorOp}
+use Rattle.meaning.specs.Answers.{then}
+use Rattle.meaning.specs.EntryPoints.{vectorOp}
 use Rattle.meaning.specs.Steps.{pushNew}
 use Rattle.abstract_state.specs.Models.{outcomeOf, operandOf}
 use Rattle.operand_stack.specs.Models.{stackOf}

@@ -1,5 +1,5 @@
 -- `reference_safety::steps::write_ref` meets its contract. Assumes nothing.
-use Rattle.meaning.specs.Running.{writeRef}
+use Rattle.meaning.specs.EntryPoints.{writeRef}
 use Rattle.meaning.specs.Steps.{popValues, unchanged}
 use Rattle.abstract_state.specs.Models.{outcomeOf, runningOf, halted}
 use Rattle.operand_stack.specs.Models.{stackOf}

@@ -2,7 +2,7 @@
 use mathlib.Core.Path.{sym}
 use mathlib.Core.Bool.{true≢false}
 use lib.ListN.{getD}
-use Rattle.meaning.specs.Base.{not-true}
+use Rattle.meaning.specs.Laws.Base.{not-true}
 use Rattle.meaning.specs.Steps.{Instr}
 use Rattle.reference_safety.specs.ValueLaws.{st-loc-moves, on-stack-for}
 use borrow.Author.Needs.{needs}

@@ -4,9 +4,9 @@ use native.Mathlib.Nat.{add-zero}
 use borrow.Author.Tests.{lt-leb, le-leb}
 use Prim.Native.Nat.{ℕ, _+_, _-_, _<_, _≤_}
 use lib.ListN.{length, take, drop, length-set, length-append}
-use Rattle.meaning.specs.Base.{Ans, ok}
-use Rattle.meaning.specs.Sets.{shortPath}
-use Rattle.meaning.specs.ArrayLaws.{push}
+use Rattle.meaning.specs.Answers.{Ans, ok}
+use Rattle.meaning.specs.References.{shortPath}
+use Rattle.meaning.specs.Laws.Array.{push}
 use Rattle.references.specs.Models.{numbered, indicesOf, pathOf}
 use Rattle.references.specs.ModelLaws.{path-made, path-joined, indices-front, indices-step, indices-end}
 use native.Mathlib.Omega.{arith}

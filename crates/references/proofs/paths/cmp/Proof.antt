@@ -2,8 +2,8 @@ use mathlib.Core.Path.{_≡_, refl}
 use Prim.Native.Nat.{_+_, _-_, _/_}
 use mathlib.Core.List.{_∷_}
 use lib.ListN.{drop, getD}
-use Rattle.meaning.specs.Sets.{comparePaths}
-use Rattle.meaning.specs.PlaceLaws.{paths-less, paths-greater, paths-equal, paths-end, paths-prefix, paths-longer}
+use Rattle.meaning.specs.References.{comparePaths}
+use Rattle.meaning.specs.Laws.Place.{paths-less, paths-greater, paths-equal, paths-end, paths-prefix, paths-longer}
 use Rattle.references.specs.Models.{firstNumber, numbered, indicesOf, pathOf}
 use Rattle.references.specs.ModelLaws.{rest-step, rest-end}
 use native.Mathlib.Omega.{arith}

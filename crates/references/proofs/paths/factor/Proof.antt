@@ -3,7 +3,7 @@ use mathlib.Core.Path.{_≡_, refl, sym, _∙_}
 use mathlib.Core.List.{_++_, append-nil}
 use Prim.Native.Nat.{_+_, _-_, _<_, _≤_}
 use lib.ListN.{length, take, drop, length-set}
-use Rattle.meaning.specs.ArrayLaws.{push}
+use Rattle.meaning.specs.Laws.Array.{push}
 use Rattle.references.specs.Models.{numbered, indicesOf}
 use native.Mathlib.Omega.{arith}
 use borrow.Author.Needs.{needs}

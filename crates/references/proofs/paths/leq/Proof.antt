@@ -4,7 +4,7 @@ use Prim.Native.Nat.{_+_, _-_, _/_}
 use lib.ListN.{drop, getD}
 use lib.Dec.{eqb}
 use borrow.Author.Tests.{eq-eqb, ne-eqb}
-use Rattle.meaning.specs.Sets.{prefix}
+use Rattle.meaning.specs.References.{prefix}
 use Rattle.references.specs.Models.{firstNumber, numbered, indicesOf, pathOf}
 use Rattle.references.specs.ModelLaws.{rest-step, rest-end}
 use native.Mathlib.Omega.{arith}

@@ -1,6 +1,6 @@
 use mathlib.Core.Path.{_≡_, refl}
 use lib.ListN.{length}
-use Rattle.meaning.specs.ArrayLaws.{length-of-map}
+use Rattle.meaning.specs.Laws.Array.{length-of-map}
 use Rattle.absint.specs.LoopLaws.{statuses-count}
 use Rattle.absint.specs.Models.{statusesOf}
 use Rattle.absint.proofs.tally.Tally.stop.Statement.{statement}

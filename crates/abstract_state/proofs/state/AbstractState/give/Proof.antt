@@ -1,4 +1,4 @@
-use Rattle.meaning.specs.Running.{Answer}
+use Rattle.meaning.specs.EntryPoints.{Answer}
 use Rattle.abstract_state.specs.Models.{runningOf, operandOf}
 use Rattle.abstract_state.specs.ModelLaws.{halted-then}
 use Rattle.abstract_state.proofs.state.AbstractState.give.Statement.{statement}

@@ -1,6 +1,5 @@
 use mathlib.Core.Option.{none}
-use Rattle.meaning.specs.Lookups.{Borrows, borrowedBy}
-use Rattle.meaning.specs.Running.{fullyBorrowed, borrowed, mutablyBorrowed}
+use Rattle.meaning.specs.BorrowGraph.{Borrows, borrowedBy, fullyBorrowed, borrowed, mutablyBorrowed}
 use Rattle.borrow_graph.specs.Models.{graphOf, borrowsOf}
 use Rattle.abstract_state.specs.ModelLaws.{told-map}
 use borrow.Author.Needs.{needs}

@@ -1,5 +1,5 @@
 use mathlib.Core.Bool.{not}
-use Rattle.meaning.specs.Running.{mutablyBorrowed}
+use Rattle.meaning.specs.BorrowGraph.{mutablyBorrowed}
 use Rattle.borrow_graph.specs.Models.{graphOf, filterOf}
 use Rattle.abstract_state.specs.ModelLaws.{told-map}
 use borrow.Author.Needs.{needs}

@@ -1,4 +1,4 @@
-use Rattle.meaning.specs.Lookups.{mutableOf}
+use Rattle.meaning.specs.BorrowGraph.{mutableOf}
 use borrow.Author.Needs.{needs}
 use Rattle.abstract_state.proofs.state.AbstractState.is_mutable.Statement.{statement}
 use Rattle.abstract_state.proofs.state.AbstractState.is_mutable.Tie as tie

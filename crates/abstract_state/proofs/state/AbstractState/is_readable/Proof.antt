@@ -1,5 +1,6 @@
 use mathlib.Core.Bool.{not, _||_}
-use Rattle.meaning.specs.Running.{isMutable, freezable}
+use Rattle.meaning.specs.BorrowGraph.{isMutable}
+use Rattle.meaning.specs.EntryPoints.{freezable}
 use Rattle.borrow_graph.specs.Models.{graphOf, filterOf}
 use Rattle.abstract_state.specs.ModelLaws.{told-both}
 use borrow.Author.Needs.{needs}

@@ -1,6 +1,6 @@
 use mathlib.Core.Option.{none}
 use mathlib.Core.Bool.{not}
-use Rattle.meaning.specs.Running.{borrowed}
+use Rattle.meaning.specs.BorrowGraph.{borrowed}
 use Rattle.borrow_graph.specs.Models.{graphOf}
 use Rattle.abstract_state.specs.ModelLaws.{told-map}
 use borrow.Author.Needs.{needs}

@@ -2,7 +2,7 @@ use native.Mathlib.Omega.{arith}
 use mathlib.Core.Path.{_≡_}
 use mathlib.Core.Bool.{false}
 use lib.ListN.{length}
-use Rattle.meaning.specs.ArrayLaws.{length-of-map}
+use Rattle.meaning.specs.Laws.Array.{length-of-map}
 use Rattle.abstract_state.specs.declared.state.AbstractValue.the-variants.{Reference}
 use Rattle.abstract_state.specs.ModelLaws.{local-in, local-out, local-over}
 use borrow.Author.Needs.{needs}

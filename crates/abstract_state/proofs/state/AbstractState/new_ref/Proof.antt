@@ -1,7 +1,8 @@
 use mathlib.Core.Path.{refl, ap, _∙_}
 use Prim.Native.Nat.{_+_}
 use borrow.Author.Tests.{lt-ltb, le-ltb}
-use Rattle.meaning.specs.Running.{Outcome, Running, done, then, onGraph, newRef}
+use Rattle.meaning.specs.Answers.{Outcome, done, then}
+use Rattle.meaning.specs.EntryPoints.{Running, onGraph, newRef}
 use Rattle.borrow_graph.specs.Models.{answerOf}
 use Rattle.abstract_state.specs.Models.{runningOf, halted}
 use Rattle.abstract_state.specs.ModelLaws.{here, halted-then, then-then, next-named}

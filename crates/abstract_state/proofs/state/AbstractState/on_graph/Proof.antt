@@ -1,4 +1,4 @@
-use Rattle.meaning.specs.Running.{withGraph, onGraph}
+use Rattle.meaning.specs.EntryPoints.{withGraph, onGraph}
 use Rattle.borrow_graph.specs.Models.{graphOf, answerOf}
 use Rattle.abstract_state.specs.Models.{runningOf}
 use Rattle.abstract_state.specs.ModelLaws.{stays, answered}

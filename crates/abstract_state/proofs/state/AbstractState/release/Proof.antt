@@ -1,5 +1,5 @@
 use mathlib.Core.Path.{refl}
-use Rattle.meaning.specs.Running.{releaseName}
+use Rattle.meaning.specs.EntryPoints.{releaseName}
 use Rattle.borrow_graph.specs.Models.{answerOf}
 use Rattle.abstract_state.specs.Models.{runningOf, outcomeOf}
 use Rattle.abstract_state.specs.ModelLaws.{called}

@@ -2,9 +2,10 @@ use native.Mathlib.Omega.{arith}
 use mathlib.Core.Path.{_≡_, ap, _∙_}
 use lib.ListN.{length}
 use mathlib.Core.List.{List}
-use Rattle.meaning.specs.State as S
-use Rattle.meaning.specs.ArrayLaws.{length-of-map}
-use Rattle.meaning.specs.Running.{Running, Outcome, withLocal}
+use Rattle.meaning.specs.AbstractState as S
+use Rattle.meaning.specs.Laws.Array.{length-of-map}
+use Rattle.meaning.specs.EntryPoints.{Running, withLocal}
+use Rattle.meaning.specs.Answers.{Outcome}
 use Rattle.abstract_state.specs.Models.{runningOf, localOf, halted}
 use Rattle.abstract_state.specs.ModelLaws.{halted-then, local-set, local-unset}
 use borrow.Author.Needs.{needs}

@@ -1,5 +1,5 @@
 use mathlib.Core.Path.{refl, sym, _∙_}
-use Rattle.meaning.specs.Lookups.{allRefs}
+use Rattle.meaning.specs.BorrowGraph.{allRefs}
 use native.Mathlib.Omega.{arith}
 use borrow.Author.Needs.{needs}
 use Rattle.borrow_graph.proofs.graph.BorrowGraph.all_refs.Statement.{statement}

@@ -2,10 +2,10 @@ use mathlib.Core.Path.{_≡_, refl, sym, ap, _∙_}
 use mathlib.Core.Bool.{Bool, true, false, not, _&&_}
 use mathlib.Core.List.{List}
 use lib.ListN.{length}
-use Rattle.meaning.specs.Base.{Ans, ok, keep, empty}
-use Rattle.meaning.specs.ArrayLaws.{empty-length}
-use Rattle.meaning.specs.Graph.{GEdge, wellFormed, eqPair}
-use Rattle.meaning.specs.Lookups.{betweenEdges}
+use Rattle.meaning.specs.Answers.{Ans, ok}
+use Rattle.meaning.specs.Lists.{keep, empty}
+use Rattle.meaning.specs.Laws.Array.{empty-length}
+use Rattle.meaning.specs.BorrowGraph.{GEdge, wellFormed, eqPair, betweenEdges}
 use Rattle.borrow_graph.specs.Models.{edgesOf, heldOf, graphOf}
 use lib.Dec.{eqb}
 use native.Mathlib.Omega.{arith}

@@ -1,9 +1,7 @@
 use mathlib.Core.Path.{_≡_, refl, sym, ap, _∙_}
 use mathlib.Core.Bool.{true, false, _&&_}
-use Rattle.meaning.specs.Base.{Ans, ok}
-use Rattle.meaning.specs.Graph.{wellFormed, held}
-use Rattle.meaning.specs.Running.{isMutable, fullyBorrowed, borrowed, mutablyBorrowed}
-use Rattle.meaning.specs.Lookups.{Borrows, borrowedBy}
+use Rattle.meaning.specs.Answers.{Ans, ok}
+use Rattle.meaning.specs.BorrowGraph.{wellFormed, held, isMutable, fullyBorrowed, borrowed, mutablyBorrowed, Borrows, borrowedBy}
 use Rattle.borrow_graph.specs.Models.{graphOf}
 use Rattle.borrow_graph.specs.Folds.{borrowsIn}
 use native.Mathlib.Omega.{arith}

@@ -3,13 +3,12 @@ use mathlib.Core.List.{List}
 use Prim.Native.Nat.{_+_, _-_}
 use borrow.Author.Tests.{eq-eqb, ne-eqb}
 use lib.ListN.{drop, getD}
-use Rattle.meaning.specs.Graph.{GEdge}
-use Rattle.meaning.specs.Lookups.{Borrows}
+use Rattle.meaning.specs.BorrowGraph.{GEdge, Borrows}
 use Rattle.borrow_graph.specs.Models.{gedgeOf, refsOf, heldOf, filterOf, borrowsOf}
 use Rattle.borrow_graph.specs.Folds.{noBorrows, borrowsIn, borrow-hit, borrow-miss}
 use Rattle.borrow_graph.specs.ModelLaws.{no-gedge, held-step, held-end}
 use mathlib.Core.Bool.{false, _||_}
-use Rattle.meaning.specs.Base.{or-false}
+use Rattle.meaning.specs.Laws.Base.{or-false}
 use native.Mathlib.Omega.{arith}
 use borrow.Author.Needs.{needs}
 use Rattle.borrow_graph.proofs.graph.BorrowGraph.borrows.Statement.{statement}

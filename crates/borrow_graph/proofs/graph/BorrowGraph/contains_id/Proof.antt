@@ -1,7 +1,7 @@
 use mathlib.Core.Path.{refl, sym, ap, _∙_}
 use mathlib.Core.Bool.{Bool}
-use Rattle.meaning.specs.Base.{Ans, ok}
-use Rattle.meaning.specs.Lookups.{containsId}
+use Rattle.meaning.specs.Answers.{Ans, ok}
+use Rattle.meaning.specs.BorrowGraph.{containsId}
 use native.Mathlib.Omega.{arith}
 use borrow.Author.Needs.{needs}
 use Rattle.borrow_graph.proofs.graph.BorrowGraph.contains_id.Statement.{statement}

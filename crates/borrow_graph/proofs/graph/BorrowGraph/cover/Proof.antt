@@ -3,10 +3,11 @@ use mathlib.Core.Bool.{true, false, _&&_}
 use mathlib.Core.List.{List, _∷_}
 use Prim.Native.Nat.{_+_, _-_, _*_, _≤_}
 use lib.ListN.{drop, getD}
-use Rattle.meaning.specs.Base.{all, and-i}
-use Rattle.meaning.specs.Sets.{covers}
-use Rattle.meaning.specs.Graph.{GEdge}
-use Rattle.meaning.specs.CoverLaws.{coveredIn, firstIn, coversAt, seek-none, seek-next, seek-found}
+use Rattle.meaning.specs.Lists.{all}
+use Rattle.meaning.specs.Laws.Base.{and-i}
+use Rattle.meaning.specs.References.{covers}
+use Rattle.meaning.specs.BorrowGraph.{GEdge}
+use Rattle.meaning.specs.Laws.Cover.{coveredIn, firstIn, coversAt, seek-none, seek-next, seek-found}
 use Rattle.borrow_graph.specs.Models.{gedgeOf, heldOf}
 use Rattle.borrow_graph.specs.ModelLaws.{no-gedge, held-step, held-end}
 use native.Mathlib.Omega.{arith}

@@ -1,8 +1,8 @@
 use mathlib.Core.Path.{_≡_, refl, sym, ap, _∙_}
 use mathlib.Core.Bool.{true, false, _&&_}
 use mathlib.Core.List.{List}
-use Rattle.meaning.specs.Base.{Ans, ok}
-use Rattle.meaning.specs.Graph.{GEdge, wellFormed, held}
+use Rattle.meaning.specs.Answers.{Ans, ok}
+use Rattle.meaning.specs.BorrowGraph.{GEdge, wellFormed, held}
 use Rattle.borrow_graph.specs.Models.{graphOf}
 use native.Mathlib.Omega.{arith}
 use borrow.Author.Needs.{needs}

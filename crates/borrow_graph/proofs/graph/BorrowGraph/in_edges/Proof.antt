@@ -1,4 +1,4 @@
-use Rattle.meaning.specs.Lookups.{inEdges}
+use Rattle.meaning.specs.BorrowGraph.{inEdges}
 use native.Mathlib.Omega.{arith}
 use borrow.Author.Needs.{needs}
 use Rattle.borrow_graph.proofs.graph.BorrowGraph.in_edges.Statement.{statement}

@@ -1,9 +1,7 @@
 use mathlib.Core.Path.{_≡_, refl, sym, ap, _∙_}
 use mathlib.Core.Bool.{Bool, true, false, _&&_}
-use Rattle.meaning.specs.Base.{Ans, ok}
-use Rattle.meaning.specs.Graph.{wellFormed, held}
-use Rattle.meaning.specs.Running.{isMutable}
-use Rattle.meaning.specs.Lookups.{mutableOf}
+use Rattle.meaning.specs.Answers.{Ans, ok}
+use Rattle.meaning.specs.BorrowGraph.{wellFormed, held, isMutable, mutableOf}
 use Rattle.borrow_graph.specs.Models.{graphOf}
 use native.Mathlib.Omega.{arith}
 use borrow.Author.Needs.{needs}

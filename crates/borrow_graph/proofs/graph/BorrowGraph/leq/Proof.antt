@@ -1,9 +1,9 @@
 use mathlib.Core.Path.{_≡_, refl, sym, ap, _∙_}
 use mathlib.Core.Bool.{Bool, true, false, _&&_}
-use Rattle.meaning.specs.Base.{Ans, ok, all}
-use Rattle.meaning.specs.Graph.{wellFormed, held}
-use Rattle.meaning.specs.CoverLaws.{unmatched-none}
-use Rattle.meaning.specs.Lookups.{covering}
+use Rattle.meaning.specs.Answers.{Ans, ok}
+use Rattle.meaning.specs.Lists.{all}
+use Rattle.meaning.specs.BorrowGraph.{wellFormed, held, covering}
+use Rattle.meaning.specs.Laws.Cover.{unmatched-none}
 use Rattle.borrow_graph.specs.Models.{refsOf, graphOf}
 use native.Mathlib.Omega.{arith}
 use borrow.Author.Needs.{needs}

@@ -2,9 +2,9 @@ use mathlib.Core.Path.{_≡_, refl, sym, ap, _∙_}
 use mathlib.Core.List.{_∷_, _++_}
 use Prim.Native.Nat.{ℕ}
 use lib.ListN.{take, drop}
-use Rattle.meaning.specs.Base.{answered, declined}
-use Rattle.meaning.specs.AddLaws.{place-le}
-use Rattle.meaning.specs.CallCases.{new-9, new-8, new-23, new-ok}
+use Rattle.meaning.specs.Laws.Base.{answered, declined}
+use Rattle.meaning.specs.Laws.Add.{place-le}
+use Rattle.meaning.specs.Laws.CallCases.{new-9, new-8, new-23, new-ok}
 use Rattle.borrow_graph.specs.Models.{refsOf, graphOf}
 use native.Mathlib.Omega.{arith}
 use borrow.Author.Needs.{needs}

@@ -1,4 +1,4 @@
-use Rattle.meaning.specs.Lookups.{outEdges}
+use Rattle.meaning.specs.BorrowGraph.{outEdges}
 use native.Mathlib.Omega.{arith}
 use borrow.Author.Needs.{needs}
 use Rattle.borrow_graph.proofs.graph.BorrowGraph.out_edges.Statement.{statement}

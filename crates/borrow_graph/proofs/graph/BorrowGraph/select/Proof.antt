@@ -3,8 +3,8 @@ use mathlib.Core.Bool.{cond}
 use mathlib.Core.List.{_∷_, _++_, map, append-nil}
 use Prim.Native.Nat.{_+_, _-_, _<_, _≤_}
 use lib.ListN.{length, take, drop, getD, length-set}
-use Rattle.meaning.specs.Base.{keep}
-use Rattle.meaning.specs.ArrayLaws.{push-map, length-of-map}
+use Rattle.meaning.specs.Lists.{keep}
+use Rattle.meaning.specs.Laws.Array.{push-map, length-of-map}
 use Rattle.borrow_graph.specs.Models.{gedgeOf, heldOf, picks}
 use Rattle.borrow_graph.specs.ModelLaws.{no-gedge, held-step, held-end, edges-made}
 use native.Mathlib.Omega.{arith}

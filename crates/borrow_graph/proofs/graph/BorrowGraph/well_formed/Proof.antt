@@ -3,11 +3,11 @@ use mathlib.Core.Bool.{Bool, true, false, not, _&&_}
 use mathlib.Core.List.{List}
 use Prim.Native.Nat.{_+_, _-_, _≤_}
 use lib.ListN.{length, drop, getD}
-use Rattle.meaning.specs.Base.{not-true}
-use Rattle.meaning.specs.Graph.{GEdge, pairOk, wellFormed}
-use Rattle.meaning.specs.Chain.{chain, noEdge, climbs}
-use Rattle.meaning.specs.ChainLaws.{chain-wellFormed}
-use Rattle.meaning.specs.ArrayLaws.{length-of-map}
+use Rattle.meaning.specs.Laws.Base.{not-true}
+use Rattle.meaning.specs.BorrowGraph.{GEdge, pairOk, wellFormed}
+use Rattle.meaning.specs.Refinement.Chain.{chain, noEdge, climbs}
+use Rattle.meaning.specs.Laws.Chain.{chain-wellFormed}
+use Rattle.meaning.specs.Laws.Array.{length-of-map}
 use Rattle.borrow_graph.specs.Models.{gedgeOf, refsOf, heldOf, graphOf}
 use Rattle.borrow_graph.specs.Folds.{chain-on, chain-off}
 use Rattle.borrow_graph.specs.ModelLaws.{no-gedge, held-step, held-end, refs-few}

@@ -5,16 +5,15 @@ use Prim.Native.Nat.{_≤_, _<_}
 use borrow.Author.Tests.{le-leb}
 use lib.Dec.{ltb}
 use lib.ListN.{length}
-use Rattle.meaning.specs.Base.{and-l}
-use Rattle.meaning.specs.Sets.{short}
-use Rattle.meaning.specs.PlaceLaws.{bare-edge}
-use Rattle.meaning.specs.CutLaws.{before, other, here, neither}
+use Rattle.meaning.specs.Laws.Base.{and-l, eq→T}
+use Rattle.meaning.specs.References.{short}
+use Rattle.meaning.specs.Laws.Place.{bare-edge}
+use Rattle.meaning.specs.Laws.Cut.{before, other, here, neither}
 use Rattle.references.specs.Models.{orderingOf, pathOf, edgeOf}
 use Rattle.references.specs.ModelLaws.{path-short}
 use Rattle.borrow_graph.specs.Models.{gedgeOf}
 use Rattle.borrow_graph.specs.Folds.{same-on, same-off, next-is, over-is}
 use lib.Dec.{ltb→lt}
-use Rattle.meaning.specs.Base.{eq→T}
 use native.Mathlib.Omega.{arith}
 use borrow.Author.Needs.{needs}
 use Rattle.borrow_graph.proofs.graph.GraphEdge.link.Statement.{statement}

@@ -2,8 +2,8 @@ use mathlib.Core.Path.{_≡_, refl, sym, _∙_}
 use mathlib.Core.Bool.{_&&_}
 use Prim.Native.Nat.{_+_, _-_}
 use lib.ListN.{drop, getD}
-use Rattle.meaning.specs.Base.{all}
-use Rattle.meaning.specs.Graph.{holds}
+use Rattle.meaning.specs.Lists.{all}
+use Rattle.meaning.specs.BorrowGraph.{holds}
 use Rattle.borrow_graph.specs.Models.{refsOf}
 use Rattle.borrow_graph.specs.ModelLaws.{no-ref, refs-step, refs-end}
 use native.Mathlib.Omega.{arith}

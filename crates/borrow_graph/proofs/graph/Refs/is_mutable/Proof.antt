@@ -3,7 +3,7 @@ use mathlib.Core.Bool.{_||_, _&&_}
 use Prim.Native.Nat.{_+_, _-_}
 use lib.Dec.{eqb}
 use lib.ListN.{drop, getD}
-use Rattle.meaning.specs.Running.{mutableIn}
+use Rattle.meaning.specs.BorrowGraph.{mutableIn}
 use Rattle.borrow_graph.specs.Models.{refsOf}
 use Rattle.borrow_graph.specs.ModelLaws.{no-ref, refs-step, refs-end}
 use native.Mathlib.Omega.{arith}

@@ -5,9 +5,9 @@ use Prim.Native.Nat.{_+_, _-_, _<_, _≤_}
 use borrow.Author.Tests.{eq-eqb, ne-eqb}
 use lib.Dec.{eqb}
 use lib.ListN.{length, take, drop, getD, length-set}
-use Rattle.meaning.specs.Base.{keep}
-use Rattle.meaning.specs.CallLaws.{other}
-use Rattle.meaning.specs.ArrayLaws.{push-map, length-of-map}
+use Rattle.meaning.specs.Lists.{keep}
+use Rattle.meaning.specs.BorrowGraph.{other}
+use Rattle.meaning.specs.Laws.Array.{push-map, length-of-map}
 use Rattle.borrow_graph.specs.Models.{refOf, refsOf}
 use Rattle.borrow_graph.specs.ModelLaws.{no-ref, refs-step, refs-end, refs-made}
 use native.Mathlib.Omega.{arith}

@@ -1,4 +1,4 @@
-use Rattle.meaning.specs.PlaceLaws.{edges-by}
+use Rattle.meaning.specs.Laws.Place.{edges-by}
 use native.Mathlib.Omega.{arith}
 use borrow.Author.Needs.{needs}
 use Rattle.references.proofs.references.BorrowEdge.cmp.Statement.{statement}

@@ -1,5 +1,5 @@
 use mathlib.Core.Path.{sym, ap, _∙_}
-use Rattle.meaning.specs.PlaceLaws.{isEqual, eq-of}
+use Rattle.meaning.specs.Laws.Place.{isEqual, eq-of}
 use Rattle.references.specs.Models.{orderingOf}
 use native.Mathlib.Omega.{arith}
 use borrow.Author.Needs.{needs}

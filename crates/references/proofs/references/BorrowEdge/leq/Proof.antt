@@ -1,5 +1,5 @@
 use mathlib.Core.Path.{refl}
-use Rattle.meaning.specs.Sets.{covers}
+use Rattle.meaning.specs.References.{covers}
 use native.Mathlib.Omega.{arith}
 use borrow.Author.Needs.{needs}
 use Rattle.references.proofs.references.BorrowEdge.leq.Statement.{statement}

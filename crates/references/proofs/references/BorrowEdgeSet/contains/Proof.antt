@@ -2,7 +2,7 @@ use mathlib.Core.Path.{_≡_, refl, sym, _∙_}
 use mathlib.Core.Bool.{_||_}
 use Prim.Native.Nat.{_+_, _-_}
 use lib.ListN.{drop, getD}
-use Rattle.meaning.specs.Sets.{eqEdge, has}
+use Rattle.meaning.specs.References.{eqEdge, has}
 use Rattle.references.specs.Models.{edgeOf, edgesOf}
 use Rattle.references.specs.ModelLaws.{no-edge, set-step, set-end}
 use native.Mathlib.Omega.{arith}

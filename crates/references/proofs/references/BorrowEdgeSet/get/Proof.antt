@@ -2,7 +2,7 @@ use lib.ListN.{getD}
 use Rattle.references.specs.Models.{edgeOf}
 use Rattle.references.specs.ModelLaws.{no-edge}
 use mathlib.Core.Path.{_≡_, refl, sym}
-use Rattle.meaning.specs.ArrayLaws.{nth-in, nth-out}
+use Rattle.meaning.specs.Laws.Array.{nth-in, nth-out}
 use Rattle.references.specs.Models.{edgesOf}
 use Rattle.references.specs.ModelLaws.{set-step}
 use native.Mathlib.Omega.{arith}

@@ -2,9 +2,10 @@ use mathlib.Core.Path.{_≡_, sym, ap, _∙_}
 use Prim.Native.Nat.{_<_, _≤_}
 use mathlib.Core.Bool.{true, false}
 use lib.ListN.{length}
-use Rattle.meaning.specs.Base.{Ans, ok, answered, declined}
-use Rattle.meaning.specs.Sets.{EdgeSet, has}
-use Rattle.meaning.specs.PlaceLaws.{spot-le, offer-blurred, offer-full, offer-long, offer-present, offer-new}
+use Rattle.meaning.specs.Answers.{Ans, ok}
+use Rattle.meaning.specs.Laws.Base.{answered, declined}
+use Rattle.meaning.specs.References.{EdgeSet, has}
+use Rattle.meaning.specs.Laws.Place.{spot-le, offer-blurred, offer-full, offer-long, offer-present, offer-new}
 use Rattle.references.specs.Models.{pathOf, edgeOf, edgesOf, setOf, candidateOf}
 use Rattle.references.specs.ModelLaws.{path-short}
 use native.Mathlib.Omega.{arith}

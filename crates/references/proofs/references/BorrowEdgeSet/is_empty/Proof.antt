@@ -1,5 +1,5 @@
 use Rattle.references.specs.Models.{edgesOf}
-use Rattle.meaning.specs.ArrayLaws.{empty-length}
+use Rattle.meaning.specs.Laws.Array.{empty-length}
 use native.Mathlib.Omega.{arith}
 use borrow.Author.Needs.{needs}
 use Rattle.references.proofs.references.BorrowEdgeSet.is_empty.Statement.{statement}

@@ -2,7 +2,7 @@ use mathlib.Core.Path.{_≡_, refl, _∙_}
 use mathlib.Core.List.{_++_, map, append-nil}
 use Prim.Native.Nat.{_+_, _-_, _<_, _≤_}
 use lib.ListN.{length, take, drop, length-set}
-use Rattle.meaning.specs.ArrayLaws.{push-map, length-of-map}
+use Rattle.meaning.specs.Laws.Array.{push-map, length-of-map}
 use Rattle.references.specs.Models.{edgeOf, edgesOf}
 use Rattle.references.specs.ModelLaws.{set-step, set-end, set-front, set-made}
 use native.Mathlib.Omega.{arith}

@@ -3,9 +3,9 @@ use mathlib.Core.Bool.{Bool, not, cond}
 use mathlib.Core.List.{List, _∷_, _++_, map, append-nil}
 use Prim.Native.Nat.{_+_, _-_, _<_, _≤_}
 use lib.ListN.{length, take, drop, getD, length-set}
-use Rattle.meaning.specs.Base.{keep}
-use Rattle.meaning.specs.Sets as Sets
-use Rattle.meaning.specs.ArrayLaws.{push-map, length-of-map}
+use Rattle.meaning.specs.Lists.{keep}
+use Rattle.meaning.specs.References as Sets
+use Rattle.meaning.specs.Laws.Array.{push-map, length-of-map}
 use Rattle.references.specs.Models.{edgeOf, edgesOf}
 use Rattle.references.specs.ModelLaws.{no-edge, set-step, set-end, set-made}
 use native.Mathlib.Omega.{arith}

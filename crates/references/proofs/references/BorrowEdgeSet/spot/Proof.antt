@@ -4,8 +4,8 @@ use Prim.Native.Nat.{suc, _+_, _-_}
 use native.Mathlib.Nat.{add-zero}
 use native.Mathlib.Numerals.{add-one}
 use lib.ListN.{drop, getD}
-use Rattle.meaning.specs.Sets.{ltEdge}
-use Rattle.meaning.specs.PlaceLaws as Place
+use Rattle.meaning.specs.References.{ltEdge}
+use Rattle.meaning.specs.Laws.Place as Place
 use Rattle.references.specs.Models.{edgeOf, edgesOf}
 use Rattle.references.specs.ModelLaws.{no-edge, set-step, set-end}
 use native.Mathlib.Omega.{arith}

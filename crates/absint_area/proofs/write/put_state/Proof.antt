@@ -1,0 +1,69 @@
+use Rattle.meaning.specs.Laws.Area.{put-frame, put-decode}
+use Rattle.meaning.specs.AbstractState.{State}
+use Rattle.absint_area.specs.ModelLaws.{localAt, refAt, edgeAt, state-made}
+use mathlib.Core.Option.{Option, some}
+use mathlib.Core.Path.{ap, _∙_}
+use native.Mathlib.Omega.{arith}
+use borrow.Author.Needs.{needs}
+use Rattle.absint_area.proofs.write.put_state.Statement.{statement}
+use Rattle.absint_area.proofs.write.put_state.Tie as tie
+
+cast-lesser : tie.Need-cast-lesser
+cast-lesser c = search needs
+
+lesser-requires : tie.Need-lesser-requires
+lesser-requires c κs = search needs
+
+cast-lesser-2 : tie.Need-cast-lesser-2
+cast-lesser-2 c = search needs
+
+lesser-requires-2 : tie.Need-lesser-requires-2
+lesser-requires-2 c κs = search needs
+
+put-locals-requires : tie.Need-put-locals-requires
+put-locals-requires c κs = search needs
+
+add-put-refs : tie.Need-add-put-refs
+add-put-refs c = search needs
+
+put-refs-requires : tie.Need-put-refs-requires
+put-refs-requires c κs = search needs
+
+add-put-edges : tie.Need-add-put-edges
+add-put-edges c = search needs
+
+put-edges-requires : tie.Need-put-edges-requires
+put-edges-requires c κs = search needs
+
+same-length : tie.Need-same-length
+same-length c = search needs
+
+returns : tie.Need-returns
+returns c =
+    let s = c .before .before .before .before .before .before .before .before .before .before .before .before .before .before .before .before .before .before .before .before .before .args .s in
+    let g = s .«borrow_graph» in
+    let n = c .before .before .before .before .before .before .before .before .before .before .before .before .before .before .lesser .result in
+    let m = c .before .before .before .before .before .before .before .before .before .before .before .before .lesser2 .result in
+    let p = c .before .before .before .before .before .before .before .before .before .before .put-locals .ensures in
+    let q = c .before .before .before .before .before .before .put-refs .ensures in
+    let r = c .before .before .put-edges .ensures in (
+      put-frame (localAt (s .locals)) (refAt (g .refs .list)) (edgeAt (g .edges)) (c .before .before .before .before .before .before .before .before .before .before .before .before .before .before .before .before .before .before .before .before .before .args .at) n m (c .before .before .before .before .before .before .before .before .before .before .before .before .before .before .before .before .before .before .before .before .before .args .ws .now) _ _ _ (omega arith) (omega arith) (p .0) (q .0) (r .0),
+      put-decode (localAt (s .locals)) (refAt (g .refs .list)) (edgeAt (g .edges)) (c .before .before .before .before .before .before .before .before .before .before .before .before .before .before .before .before .before .before .before .before .before .args .at) n m (c .before .before .before .before .before .before .before .before .before .before .before .before .before .before .before .before .before .before .before .before .before .args .ws .now) _ _ _ (omega arith) (omega arith) (p .0) (q .0) (r .0) (s .«num_locals»)
+          ∙ ap {B = Option State} some (state-made s n m (p .1) (q .1) (r .1) (c .before .before .before .before .before .before .before .before .before .before .before .before .before .before .lesser .ensures) (c .before .before .before .before .before .before .before .before .before .before .before .before .lesser2 .ensures)),
+    )
+
+pub put-state-spec : {M : Type 1} → statement M
+put-state-spec =
+    tie.close
+    (tie.spec
+    cast-lesser
+    lesser-requires
+    cast-lesser-2
+    lesser-requires-2
+    put-locals-requires
+    add-put-refs
+    put-refs-requires
+    add-put-edges
+    put-edges-requires
+    same-length
+    returns)

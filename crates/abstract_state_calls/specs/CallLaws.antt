@@ -1,0 +1,240 @@
+-- Call and Ret as the code makes them.
+use Prim.Native.Nat.{ℕ, _+_}
+use mathlib.Core.Path.{_≡_, refl, sym, ap, _∙_}
+use mathlib.Core.Bool.{Bool, true, false, not, _&&_, _||_, cond}
+use mathlib.Core.List.{List, [], _∷_, _++_, append-assoc, append-nil}
+use mathlib.Core.Option.{none, some}
+use lib.Dec.{eqb, ltb}
+use Rattle.meaning.specs.Lists.{any, keep}
+use Rattle.meaning.specs.Laws.Base.{and-l, or-false}
+use Rattle.meaning.specs.Labels.{globalLabel}
+use Rattle.meaning.specs.BorrowGraph.{wellFormed, held, isMutable, borrowed}
+use Rattle.meaning.specs.BorrowGraph as L
+use Rattle.meaning.specs.Answers.{Outcome, done, violated, refused, then, fails, needs}
+use Rattle.meaning.specs.EntryPoints.{needsName, Running, Answer, Answers, answer, writable, newRef, operandNames, localNames, ascend, releaseAll, borrowFrom, handOver, notAcquired, parentsOf, returnValues, call, ret}
+use Rattle.meaning.specs.AbstractState.{Token, ofValue, ofRef, Operand, nonRef, reference}
+use Rattle.abstract_state.specs.Models.{halted, heeding, failing}
+use Rattle.abstract_state.specs.ModelLaws.{here, halted-then, then-then}
+use Rattle.abstract_state_calls.specs.Models.{knownMutable}
+use Rattle.abstract_state_calls.specs.IdLaws.{mutable-known}
+use Rattle.abstract_state.specs.OutcomeLaws.{link, then-done, made}
+use Rattle.abstract_state_calls.specs.LoopLaws.{under, beside, heeding-at, failing-at, known-fails-then}
+
+-- ---- the steps of each loop
+
+-- values handed over, and numbers that are acquired, with nothing done after
+abbrev pub handing : ℕ → List Operand → Running → Outcome Running
+handing c vs r = handOver (operandNames vs) c r (done r)
+
+pub hand-step : (c : ℕ) (v : Operand) (vs : List Operand) (r : Running) → handing c (v ∷ vs) r ≡ then (handing c (v ∷ []) r) (handing c vs)
+unfolding handOver
+hand-step c nonRef vs r = refl
+hand-step c (reference n) vs r = sym (known-fails-then (r .graph) n (isMutable (r .graph) n && not (writable (r .graph) n)) c (done r) (handing c vs))
+
+abbrev pub acquiring : List ℕ → Running → Outcome Running
+acquiring is r = notAcquired is r (done r)
+
+pub acquire-step : (i : ℕ) (is : List ℕ) (r : Running) → acquiring (i ∷ is) r ≡ then (acquiring (i ∷ []) r) (acquiring is)
+unfolding notAcquired
+acquire-step i is r = go (wellFormed (r .graph) && held (r .graph) (r .root)) (borrowed (r .graph) (r .root) (some (globalLabel i))) refl
+  where
+    more : Bool
+    more = any (λ j. borrowed (r .graph) (r .root) (some (globalLabel j))) is
+
+    go : (w b : Bool) → acquiring is r ≡ needs w 9 (fails more 109 (done r)) → needs w 9 (fails (b || more) 109 (done r)) ≡ then (needs w 9 (fails (b || false) 109 (done r))) (acquiring is)
+    go true true e = refl
+    go true false e = sym e
+    go false b e = refl
+
+pub acquire-one : (i : ℕ) (r : Running) → failing (L.ofName (r .graph) (r .root) (borrowed (r .graph) (r .root) (some (globalLabel i)))) 109 r ≡ acquiring (i ∷ []) r
+unfolding notAcquired
+acquire-one i r =
+    failing-at (r .graph) (r .root) (borrowed (r .graph) (r .root) (some (globalLabel i))) r 109 refl
+    ∙ ap (λ (b : Bool). needsName (r .graph) (r .root) (fails b 109 (done r))) (sym (or-false (borrowed (r .graph) (r .root) (some (globalLabel i)))))
+
+pub acquire-none : (b : Bool) (r : Running) → heeding (L.ofName (r .graph) (r .root) b) r ≡ acquiring [] r
+unfolding notAcquired
+acquire-none b r = heeding-at (r .graph) (r .root) b r
+
+pub hand-one : (n c : ℕ) (r : Running) → eqb c 0 ≡ false → failing (L.ofName (r .graph) n (isMutable (r .graph) n && not (writable (r .graph) n))) c r ≡ handing c (reference n ∷ []) r
+unfolding handOver
+hand-one n c r z = failing-at (r .graph) n (isMutable (r .graph) n && not (writable (r .graph) n)) r c z
+
+-- ---- what comes after
+
+pub acquire-then : {B : Type 0} (is : List ℕ) (r : Running) (k : Running → Outcome B) → then (acquiring is r) k ≡ notAcquired is r (k r)
+unfolding notAcquired
+acquire-then is r k = known-fails-then (r .graph) (r .root) (any (λ i. borrowed (r .graph) (r .root) (some (globalLabel i))) is) 109 (done r) k
+
+pub hand-then : {B : Type 0} (ns : List ℕ) (c : ℕ) (r : Running) (k : Running → Outcome B) → then (handOver ns c r (done r)) k ≡ handOver ns c r (k r)
+unfolding handOver
+hand-then [] c r k = refl
+hand-then {B} (n ∷ ns) c r k =
+    let b : Bool = isMutable (r .graph) n && not (writable (r .graph) n) in
+    known-fails-then (r .graph) n b c (handOver ns c r (done r)) k
+    ∙ ap (λ (o : Outcome B). needsName (r .graph) n (fails b c o)) (hand-then ns c r k)
+
+-- ---- the values returned
+
+abbrev pub answers : Running → List Operand → Answers
+answers r vs = record { state = r; operands = vs }
+
+abbrev after : List Operand → Answers → Outcome Answers
+after vs b = done (answers (b .state) (vs ++ b .operands))
+
+-- the values returned for more tokens, behind those that there are
+abbrev pub onward : List ℕ → List ℕ → List Token → Answers → Outcome Answers
+onward muts alls ts a = then (returnValues ts muts alls (a .state)) (after (a .operands))
+
+module _ (muts alls : List ℕ) where
+  return-cons : (t : Token) (ts : List Token) (r : Running) → returnValues (t ∷ ts) muts alls r ≡ then (returnValues (t ∷ []) muts alls r) (onward muts alls ts)
+  unfolding returnValues
+  return-cons ofValue ts r = refl
+  return-cons (ofRef m) ts r =
+      let k : Running → Outcome Running = borrowFrom (parentsOf m muts alls) (r .next) in
+      let one : Running → Outcome Answers = λ t. done (answers t (reference (r .next) ∷ [])) in
+      sym
+      (then-then (newRef m r) (λ s. then (k s) one) (onward muts alls ts)
+      ∙ under (newRef m r) (λ s. then (then (k s) one) (onward muts alls ts)) (λ s. then (k s) (λ t. then (one t) (onward muts alls ts))) (λ s. then-then (k s) one (onward muts alls ts)))
+
+  pub onward-step : (t : Token) (ts : List Token) (a : Answers) → onward muts alls (t ∷ ts) a ≡ then (onward muts alls (t ∷ []) a) (onward muts alls ts)
+  onward-step t ts a =
+      let one : Outcome Answers = returnValues (t ∷ []) muts alls (a .state) in
+      ap (λ (o : Outcome Answers). then o (after (a .operands))) (return-cons t ts (a .state))
+      ∙ then-then one (onward muts alls ts) (after (a .operands))
+      ∙ under one (λ b. then (onward muts alls ts b) (after (a .operands))) (λ b. then (after (a .operands) b) (onward muts alls ts)) assoc
+      ∙ sym (then-then one (after (a .operands)) (onward muts alls ts))
+    where
+      join : (b : Answers) (o : Outcome Answers) → then (then o (after (b .operands))) (after (a .operands)) ≡ then o (after (a .operands ++ b .operands))
+      join b (done d) = ap (λ (vs : List Operand). done (answers (d .state) vs)) (sym (append-assoc (a .operands) (b .operands) (d .operands)))
+      join b (violated c) = refl
+      join b (refused n) = refl
+
+      assoc : (b : Answers) → then (onward muts alls ts b) (after (a .operands)) ≡ onward muts alls ts (answers (b .state) (a .operands ++ b .operands))
+      assoc b = join b (returnValues ts muts alls (b .state))
+
+  -- where no value is there yet, and where none is left
+  pub onward-start : (ts : List Token) (v n : ℕ) (r : Running) → then (halted v n (answers r [])) (onward muts alls ts) ≡ then (halted v n r) (returnValues ts muts alls)
+  onward-start ts v n r =
+      beside v n r (λ s. answers s []) (onward muts alls ts)
+      ∙ under (halted v n r) (λ s. onward muts alls ts (answers s [])) (returnValues ts muts alls) (λ s. sym (then-done (returnValues ts muts alls s)))
+
+  pub onward-end : (o : Outcome Answers) → o ≡ then o (onward muts alls [])
+  unfolding returnValues
+  onward-end o = then-done o ∙ under o done (onward muts alls []) (λ a. ap (λ (vs : List Operand). done (answers (a .state) vs)) (sym (append-nil (a .operands))))
+
+-- a value more, behind the others
+pub returned : (v n : ℕ) (r : Running) (v′ n′ : ℕ) (r′ : Running) (w : Operand) (vs vs′ : List Operand) (k : Running → Outcome Answers) → vs′ ≡ vs ++ (w ∷ [])
+    → halted v′ n′ (answers r′ (w ∷ [])) ≡ then (halted v n r) k
+    → halted v′ n′ (answers r′ vs′) ≡ then (halted v n (answers r vs)) (λ a. then (k (a .state)) (after (a .operands)))
+returned v n r v′ n′ r′ w vs vs′ k e h =
+    ap (λ (l : List Operand). halted v′ n′ (answers r′ l)) e
+    ∙ halted-then v′ n′ (answers r′ (w ∷ [])) (λ b. answers (b .state) (vs ++ b .operands))
+    ∙ ap (λ (o : Outcome Answers). then o (after vs)) h
+    ∙ then-then (halted v n r) k (after vs)
+    ∙ sym (beside v n r (λ s. answers s vs) (λ a. then (k (a .state)) (after (a .operands))))
+
+-- the answer of a step as the one value returned
+abbrev only : Answer → Answers
+only a = answers (a .state) (a .operand ∷ [])
+
+pub value-returned : (muts alls : List ℕ) (h : Outcome Running) (v n : ℕ) (a : Answer) → halted v n a ≡ then h (λ s. answer s nonRef) → halted v n (only a) ≡ then h (returnValues (ofValue ∷ []) muts alls)
+unfolding returnValues
+value-returned muts alls h v n a e = link h (halted v n a) (halted v n (only a)) (λ s. answer s nonRef) (λ b. done (only b)) e (halted-then v n a only)
+
+same-parents : (m : Bool) (ps : List ℕ) → ps ≡ parentsOf m ps ps
+same-parents true ps = refl
+same-parents false ps = refl
+
+module _ (m : Bool) (ps : List ℕ) (v n : ℕ) (r : Running) (x : ℕ) (o₁ o₂ : Outcome Running) (v′ n′ : ℕ) (a : Answer) where
+  pub ref-returned : x ≡ cond (ltb (r .next) 65536) (r .next) 0
+      → o₁ ≡ then (halted v n r) (newRef m) → o₂ ≡ then o₁ (borrowFrom ps x) → halted v′ n′ a ≡ then o₂ (λ s. answer s (reference x))
+      → halted v′ n′ (only a) ≡ then (halted v n r) (returnValues (ofRef m ∷ []) ps ps)
+  unfolding returnValues
+  ref-returned e e₁ e₂ e₃ =
+      let o : Outcome Answers = halted v′ n′ (only a) in
+      let one : ℕ → Running → Outcome Answers = λ y s. done (answers s (reference y ∷ [])) in
+      let lend : ℕ → Running → Outcome Answers = λ y s. then (borrowFrom ps y s) (one y) in
+      let p : o ≡ then o₂ (one x) = link o₂ (halted v′ n′ a) o (λ s. answer s (reference x)) (λ b. done (only b)) e₃ (halted-then v′ n′ a only) in
+      let q : o ≡ then o₁ (lend x) = link o₁ o₂ o (borrowFrom ps x) (one x) e₂ p in
+      link (halted v n r) o₁ o (newRef m) (lend x) e₁ q
+      ∙ here v n r (λ s. then (newRef m s) (lend x)) (returnValues (ofRef m ∷ []) ps ps)
+      (made m r x lend e ∙ ap (λ (l : List ℕ). then (newRef m r) (λ s. then (borrowFrom l (r .next) s) (one (r .next)))) (same-parents m ps))
+
+-- ---- call
+
+abbrev pub releasing : List ℕ → Answers → Outcome Answers
+releasing ns a = then (releaseAll ns (a .state)) (λ s. done (answers s (a .operands)))
+
+pub released : (v n : ℕ) (r : Running) (v′ n′ : ℕ) (r′ : Running) (vs : List Operand) (ns : List ℕ) → halted v′ n′ r′ ≡ then (halted v n r) (releaseAll ns) → halted v′ n′ (answers r′ vs) ≡ then (halted v n (answers r vs)) (releasing ns)
+released v n r v′ n′ r′ vs ns e =
+    let one : Running → Outcome Answers = λ s. done (answers s vs) in
+    halted-then v′ n′ r′ (λ s. answers s vs)
+    ∙ ap (λ (o : Outcome Running). then o one) e
+    ∙ then-then (halted v n r) (releaseAll ns) one
+    ∙ sym (beside v n r (λ s. answers s vs) (releasing ns))
+
+-- what comes after the acquired numbers is asked of a graph that is well formed
+acquired-under : {B : Type 0} (is : List ℕ) (r : Running) (k l : Outcome B) → (wellFormed (r .graph) ≡ true → k ≡ l) → notAcquired is r k ≡ notAcquired is r l
+unfolding notAcquired
+acquired-under {B} is r k l h = go (wellFormed (r .graph) && held (r .graph) (r .root)) (λ e. h (and-l (wellFormed (r .graph)) (held (r .graph) (r .root)) e))
+  where
+    b : Bool
+    b = any (λ i. borrowed (r .graph) (r .root) (some (globalLabel i))) is
+
+    go : (w : Bool) → (w ≡ true → k ≡ l) → needs w 9 (fails b 109 k) ≡ needs w 9 (fails b 109 l)
+    go true e = ap (λ (o : Outcome B). fails b 109 o) (e refl)
+    go false e = refl
+
+module _ (args : List Operand) (is : List ℕ) (ts : List Token) (ms ns : List ℕ) (r : Running) where
+  -- the values returned, and then the arguments released
+  abbrev rest : List ℕ → List ℕ → Running → Outcome Answers
+  rest ks ls t = then (returnValues ts ks ls t) (releasing ls)
+
+  call-at : ns ≡ ascend (operandNames args) → ms ≡ keep (knownMutable (r .graph)) ns
+      → then (acquiring is r) (λ s. then (handing 112 args s) (rest ms ns)) ≡ call args is ts r
+  unfolding call
+  call-at e m =
+      let given : List ℕ = operandNames args in
+      acquire-then is r (λ s. then (handing 112 args s) (rest ms ns))
+      ∙ ap (λ (o : Outcome Answers). notAcquired is r o) (hand-then given 112 r (rest ms ns))
+      ∙ acquired-under is r (handOver given 112 r (rest ms ns r)) (handOver given 112 r (rest (keep (isMutable (r .graph)) (ascend given)) (ascend given) r))
+      (λ w. ap (λ (l : List ℕ). handOver given 112 r (rest l ns r)) (m ∙ mutable-known (r .graph) ns w)
+      ∙ ap (λ (l : List ℕ). handOver given 112 r (rest (keep (isMutable (r .graph)) l) l r)) e)
+
+  pub call-done : (v n : ℕ) (o₁ o₂ : Outcome Running) (o₃ o : Outcome Answers) → ns ≡ ascend (operandNames args) → ms ≡ keep (knownMutable (r .graph)) ns
+      → o₁ ≡ then (halted v n r) (acquiring is) → o₂ ≡ then o₁ (handing 112 args) → o₃ ≡ then o₂ (returnValues ts ms ns) → o ≡ then o₃ (releasing ns)
+      → o ≡ then (halted v n r) (call args is ts)
+  call-done v n o₁ o₂ o₃ o e m e₁ e₂ e₃ e₄ =
+      let a : o ≡ then o₂ (rest ms ns) = link o₂ o₃ o (returnValues ts ms ns) (releasing ns) e₃ e₄ in
+      let b : o ≡ then o₁ (λ s. then (handing 112 args s) (rest ms ns)) = link o₁ o₂ o (handing 112 args) (rest ms ns) e₂ a in
+      link (halted v n r) o₁ o (acquiring is) (λ s. then (handing 112 args s) (rest ms ns)) e₁ b
+      ∙ here v n r (λ s. then (acquiring is s) (λ t. then (handing 112 args t) (rest ms ns))) (call args is ts) (call-at e m)
+
+-- ---- ret
+
+-- nothing may be borrowed from the frame
+abbrev pub framed : Running → Outcome Running
+framed s = needsName (s .graph) (s .root) (fails (borrowed (s .graph) (s .root) none) 113 (done s))
+
+pub frame-one : (r : Running) → failing (L.ofName (r .graph) (r .root) (not (not (borrowed (r .graph) (r .root) none)))) 113 r ≡ framed r
+frame-one r = ap (λ (b : Bool). failing (L.ofName (r .graph) (r .root) b) 113 r) (twice (borrowed (r .graph) (r .root) none)) ∙ failing-at (r .graph) (r .root) (borrowed (r .graph) (r .root) none) r 113 refl
+  where
+    twice : (b : Bool) → not (not b) ≡ b
+    twice true = refl
+    twice false = refl
+
+module _ (vs : List Operand) (ns : List ℕ) (r : Running) where
+  ret-at : ns ≡ ascend (localNames (r .locals)) → then (releaseAll ns r) (λ s. then (framed s) (handing 114 vs)) ≡ ret vs r
+  unfolding ret
+  ret-at e =
+      let rest : Running → Outcome Running = λ s. needsName (s .graph) (s .root) (fails (borrowed (s .graph) (s .root) none) 113 (handing 114 vs s)) in
+      under (releaseAll ns r) (λ s. then (framed s) (handing 114 vs)) rest (λ s. known-fails-then (s .graph) (s .root) (borrowed (s .graph) (s .root) none) 113 (done s) (handing 114 vs))
+      ∙ ap (λ (l : List ℕ). then (releaseAll l r) rest) e
+
+  pub ret-done : (v n : ℕ) (o₁ o₂ o : Outcome Running) → ns ≡ ascend (localNames (r .locals))
+      → o₁ ≡ then (halted v n r) (releaseAll ns) → o₂ ≡ then o₁ framed → o ≡ then o₂ (handing 114 vs) → o ≡ then (halted v n r) (ret vs)
+  ret-done v n o₁ o₂ o e e₁ e₂ e₃ =
+      let a : o ≡ then o₁ (λ s. then (framed s) (handing 114 vs)) = link o₁ o₂ o framed (handing 114 vs) e₂ e₃ in
+      link (halted v n r) o₁ o (releaseAll ns) (λ s. then (framed s) (handing 114 vs)) e₁ a
+      ∙ here v n r (λ s. then (releaseAll ns s) (λ t. then (framed t) (handing 114 vs))) (ret vs) (ret-at e)

@@ -1,0 +1,68 @@
+-- Calls in a row, each on the state that the last one left.
+use Prim.Native.Nat.{ℕ, _+_}
+use mathlib.Core.Path.{_≡_, refl, sym, ap, _∙_}
+use mathlib.Core.Bool.{Bool, true, false, _&&_}
+use mathlib.Core.List.{List, [], _∷_}
+use lib.Dec.{eqb}
+use lib.ListN.{drop}
+use Rattle.meaning.specs.Answers.{Ans, ok, guard, Outcome, done, violated, refused, then, fails, needs}
+use Rattle.meaning.specs.BorrowGraph.{Graph, wellFormed, held}
+use Rattle.meaning.specs.BorrowGraph as L
+use Rattle.meaning.specs.EntryPoints.{needsName, Running}
+use Rattle.abstract_state.specs.Models.{halted, heeding, failing}
+use Rattle.abstract_state.specs.ModelLaws.{here, halted-then, then-then}
+
+pub under : {A B : Type 0} (o : Outcome A) (f g : A → Outcome B) → ((a : A) → f a ≡ g a) → then o f ≡ then o g
+under (done a) f g h = h a
+under (violated c) f g h = refl
+under (refused n) f g h = refl
+
+-- a state with something beside it
+pub beside : {A B C : Type 0} (v n : ℕ) (a : A) (f : A → B) (k : B → Outcome C) → then (halted v n (f a)) k ≡ then (halted v n a) (λ x. k (f x))
+beside {A} {B} {C} v n a f k = ap (λ (o : Outcome B). then o k) (halted-then v n a f) ∙ then-then (halted v n a) (λ x. done (f x)) k
+
+-- ---- questions of a name
+
+-- what a question's answer does, on the state that was asked
+pub asked : (v n : ℕ) (r : Running) (o : Outcome Running) (t k : Ans Bool) (does : Ans Bool → Running → Outcome Running) (f : Running → Outcome Running) → t ≡ k → does k r ≡ f r → o ≡ then (halted v n r) (does t) → o ≡ then (halted v n r) f
+asked v n r o t k does f q p e = e ∙ ap (λ (x : Ans Bool). then (halted v n r) (does x)) q ∙ here v n r (does k) f p
+
+module _ (g : Graph) (n : ℕ) (b : Bool) (r : Running) where
+  pub heeding-at : heeding (L.ofName g n b) r ≡ needsName g n (done r)
+  heeding-at = go (wellFormed g && held g n)
+    where
+      go : (x : Bool) → heeding (guard x 9 (ok b)) r ≡ needs x 9 (done r)
+      go true = refl
+      go false = refl
+
+  pub failing-at : (c : ℕ) → eqb c 0 ≡ false → failing (L.ofName g n b) c r ≡ needsName g n (fails b c (done r))
+  failing-at c z = go (wellFormed g && held g n) b
+    where
+      go : (x y : Bool) → failing (guard x 9 (ok y)) c r ≡ needs x 9 (fails y c (done r))
+      go true true = rw z refl
+      go true false = refl
+      go false y = refl
+
+pub known-fails-then : {A B : Type 0} (g : Graph) (n : ℕ) (b : Bool) (c : ℕ) (o : Outcome A) (k : A → Outcome B) → then (needsName g n (fails b c o)) k ≡ needsName g n (fails b c (then o k))
+known-fails-then {A} {B} g n b c o k = go (wellFormed g && held g n) b
+  where
+    go : (x y : Bool) → then (needs x 9 (fails y c o)) k ≡ needs x 9 (fails y c (then o k))
+    go true true = refl
+    go true false = refl
+    go false y = refl
+
+-- ---- a loop that takes a step for each element
+
+module _ {A S B : Type 0} (F : List A → S → Outcome B) (xs : List A) where
+  pub each-turn : (step : A → S → Outcome S) → ((x : A) (ys : List A) (s : S) → F (x ∷ ys) s ≡ then (step x s) (F ys))
+      → (i : ℕ) (x : A) (o p : Outcome S) (t : Outcome B) → drop i xs ≡ x ∷ drop (i + 1) xs → p ≡ then o (step x) → then o (F (drop i xs)) ≡ t → then p (F (drop (i + 1) xs)) ≡ t
+  each-turn step law i x o p t e d h =
+      let rest : List A = drop (i + 1) xs in
+      ap (λ (q : Outcome S). then q (F rest)) d
+      ∙ then-then o (step x) (F rest)
+      ∙ under o (λ s. then (step x s) (F rest)) (F (x ∷ rest)) (λ s. sym (law x rest s))
+      ∙ sym (ap (λ (l : List A). then o (F l)) e)
+      ∙ h
+
+  pub each-done : (i : ℕ) (o : Outcome S) (t : Outcome B) → drop i xs ≡ [] → then o (F (drop i xs)) ≡ t → then o (F []) ≡ t
+  each-done i o t e h = sym (ap (λ (l : List A). then o (F l)) e) ∙ h

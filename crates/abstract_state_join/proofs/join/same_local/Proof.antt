@@ -1,0 +1,18 @@
+use mathlib.Core.Path.{_∙_}
+use Rattle.abstract_state.specs.Models.{operandOf}
+use Rattle.abstract_state_join.specs.JoinLaws.{same-present, same-absent}
+use borrow.Author.Needs.{needs}
+use Rattle.abstract_state_join.proofs.join.same_local.Statement.{statement}
+use Rattle.abstract_state_join.proofs.join.same_local.Tie as tie
+
+same-value-requires : tie.Need-same-value-requires
+same-value-requires c κs = search needs
+
+returns : tie.Need-returns
+returns c = (c .same-value) .ensures ∙ same-present ((c .before .before .before .before .args) .a .present) ((c .before .before .before .before .args) .b .present) (operandOf ((c .before .before .before .before .args) .a .value)) (operandOf ((c .before .before .before .before .args) .b .value)) ((c .before .if1) .taken)
+
+returns-2 : tie.Need-returns-2
+returns-2 c = same-absent ((c .before .before .before .before .before .args) .a .present) ((c .before .before .before .before .before .args) .b .present) (operandOf ((c .before .before .before .before .before .args) .a .value)) (operandOf ((c .before .before .before .before .before .args) .b .value)) ((c .before .before .if1) .left)
+
+pub same-local-spec : {M : Type 1} → statement M
+same-local-spec = tie.close (tie.spec same-value-requires returns returns-2)

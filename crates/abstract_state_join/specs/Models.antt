@@ -1,0 +1,86 @@
+-- What the values of the code stand for in the definitions, and what the calls answer.
+use Prim.Native.Nat.{ℕ, suc}
+use mathlib.Core.Path.{_≡_}
+use mathlib.Core.Bool.{Bool, false, cond}
+use mathlib.Core.List.{List, [], _∷_}
+use Rattle.meaning.specs.Answers.{Ans, ok, refuse, andThen, Outcome, done, then, lift}
+use Rattle.meaning.specs.BorrowGraph.{Graph, release, Change}
+use Rattle.meaning.specs.AbstractState as S
+use Rattle.meaning.specs.AbstractState.{State, Step, absent, value, ref, join, kept, changed, canonical, Operand, nonRef, reference, Token, ofValue, ofRef, firstState}
+use Rattle.meaning.specs.EntryPoints.{Running}
+use Rattle.meaning.specs.Blocks.{startMachine}
+use Rattle.borrow_graph.specs.Models.{graphOf, told}
+use Rattle.abstract_state.specs.Models.{localOf, localsIn, runningOf, stateOf}
+use Rattle.abstract_state.specs.declared.state.AbstractState.{AbstractState}
+use Rattle.abstract_state_join.specs.declared.join.Action.{Action}
+use Rattle.abstract_state_join.specs.declared.join.Action.the-variants.{ReleaseOurs, ReleaseTheirs, Refuse}
+use Rattle.abstract_state_join.specs.declared.join.Meeting.{Meeting}
+use Rattle.abstract_state_join.specs.declared.join.Parts.{Parts}
+
+-- the reference that a local holds, if it holds one
+abbrev pub heldBy : S.Local → Operand
+heldBy absent = nonRef
+heldBy value = nonRef
+heldBy (ref n) = reference n
+
+-- ---- the first state
+
+unfoldable pub firstRunning : ℕ → List Token → Running
+firstRunning l ts = startMachine l (firstState l ts) .state
+
+-- the local at an index, of the tokens from there on
+abbrev pub firstAt : ℕ → List Token → S.Local
+firstAt i [] = absent
+firstAt i (ofValue ∷ ts) = value
+firstAt i (ofRef m ∷ ts) = ref i
+
+-- ---- the end of a block
+
+-- where names are changed, fresh names start at L + 1 again
+unfoldable pub canonicalEnd : Running → Outcome Running
+canonicalEnd r = then (lift (canonical (r .root) (record { locals = r .locals; graph = r .graph }))) (λ s. done (startMachine (r .root) s .state))
+
+abbrev pub ownName : ℕ → S.Local → S.Local
+ownName i absent = absent
+ownName i value = value
+ownName i (ref n) = ref i
+
+-- the changes of names of the references in the locals from this index on
+unfoldable pub renames : ℕ → List S.Local → List Change
+renames i [] = []
+renames i (absent ∷ xs) = renames (suc i) xs
+renames i (value ∷ xs) = renames (suc i) xs
+renames i (ref n ∷ xs) = record { old = n; new = i } ∷ renames (suc i) xs
+
+-- ---- the join
+
+abbrev pub stepOf : Parts → S.Local → Step
+stepOf p l = record { local = l; ours = graphOf (p .ours); theirs = graphOf (p .theirs) }
+
+-- what is left of two locals, and an action on the graphs
+abbrev pub acted : S.Local → Action → Graph → Graph → Ans Step
+acted l (ReleaseOurs n) g h = andThen (release g (n .0)) (λ g′. ok (record { local = l; ours = g′; theirs = h }))
+acted l (ReleaseTheirs n) g h = andThen (release h (n .0)) (λ h′. ok (record { local = l; ours = g; theirs = h′ }))
+acted l Refuse g h = refuse 15
+
+abbrev pub stepBy : Meeting → Graph → Graph → Ans Step
+stepBy m g h = cond (m .idle) (ok (record { local = localOf (m .local); ours = g; theirs = h })) (acted (localOf (m .local)) (m .action) g h)
+
+-- the first n locals
+abbrev pub partsOf : Parts → ℕ → S.Parts
+partsOf p n = record { locals = localsIn (p .locals) n; ours = graphOf (p .ours); theirs = graphOf (p .theirs) }
+
+abbrev pub withState : Running → State → Running
+withState r s = record { locals = s .locals; graph = s .graph; next = r .next; root = r .root }
+
+-- A join with the refusal n (0: none) left the state t. Of both states, stopped or not, only locals and graph count; all else of the first is kept.
+pub record Joins (s o : AbstractState) (n : ℕ) (t : AbstractState) : Type 0 where
+  pub answer : told n (stateOf t) ≡ join (stateOf s) (stateOf o)
+  pub left : stateOf t ≡ kept (stateOf s) (join (stateOf s) (stateOf o))
+  pub rest : runningOf t ≡ withState (runningOf s) (stateOf t)
+  pub stop : (t .violation ≡ s .violation) × (t .refusal ≡ s .refusal)
+
+-- a refused join changes nothing
+abbrev pub changedBy : State → Ans State → Bool
+changedBy s (ok t) = changed s t
+changedBy s (refuse n) = false

@@ -1,0 +1,27 @@
+use Rattle.meaning.specs.EntryPoints as R
+use Rattle.abstract_state.specs.Models.{outcomeOf}
+use Rattle.abstract_state.specs.OutcomeLaws as O
+use borrow.Author.Needs.{needs}
+use Rattle.abstract_state_steps.proofs.release_value.Statement.{statement}
+use Rattle.abstract_state_steps.proofs.release_value.Tie as tie
+
+enum-known-value : tie.Need-enum-known-value
+enum-known-value c = search needs
+
+release-requires : tie.Need-release-requires
+release-requires c κs = search needs
+
+enum-told : tie.Need-enum-told
+enum-told c = search needs
+
+returns : tie.Need-returns
+unfolding R.releaseValue
+returns c = rw ((c .before .before .value) .given .1) ((c .release) .ensures)
+
+returns-2 : tie.Need-returns-2
+unfolding R.releaseValue
+returns-2 c = rw ((c .enum-told) .given .1) (O.then-done (outcomeOf ((c .before .before .args) .state)))
+
+pub release-value-spec : {M : Type 1} → statement M
+release-value-spec =
+    tie.close (tie.spec enum-known-value release-requires enum-told returns returns-2)

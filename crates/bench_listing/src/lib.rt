@@ -1,0 +1,14 @@
+// The reader for a driver in Rust or C (bench/).
+use listing::read_listing;
+ghost use mathlib.Core.Path.{_≡_};
+ghost use Rattle.meaning.specs.Listing.{readListing};
+ghost use Rattle.bench_listing.specs.Number.{numberOf};
+
+// The number of a listing's refusal; 0, if it is read.
+#[no_mangle]
+pub extern "C" fn listing_number(s: &[u8]) -> u8
+    ensures { λ r. ⌜ r ≡ numberOf (readListing (now (s .entry))) ⌝ }
+{
+    let r = read_listing(s);
+    r.number
+}

@@ -1,0 +1,179 @@
+-- The ways through a name by the edges that touch it, and a release with at most one of them.
+use Prim.Native.Nat.{ℕ, suc, _≤_, _<_}
+use native.Mathlib.Omega.{arith}
+use mathlib.Core.Path.{_≡_, refl, sym, ap, _∙_}
+use mathlib.Core.Bool.{Bool, true, false, not, _&&_, _||_, cond, false≢true}
+use mathlib.Core.List.{List, [], _∷_, _++_}
+use lib.ListN.{length}
+use lib.Dec.{leb, eqb}
+use Rattle.meaning.specs.Answers.{Ans, ok, refuse, andThen, guard, leaves}
+use Rattle.meaning.specs.Lists.{keep, each}
+use Rattle.meaning.specs.Laws.Base.{ok-inj, guard-ok, and-l, and-r, not-true, leb-le}
+use Rattle.meaning.specs.References.{Edge}
+use Rattle.meaning.specs.BorrowGraph.{GEdge, Graph, held, setAt, setTo, between, splice, spliced, without, wellFormed, addEdge, addAll, limit, release}
+use Rattle.meaning.specs.Laws.Graph.{wf→inv, room}
+use Rattle.meaning.specs.Refinement.Flat.{meet, splicedRow, rowIf, splicedRows}
+use Rattle.meaning.specs.Laws.Spliced.{spliced-rows}
+use Rattle.meaning.specs.Laws.Add.{limit-pass, without-formed, keep-few}
+use Rattle.meaning.specs.Laws.Put.{insert-short, add-fits, made-length}
+use Rattle.meaning.specs.Refinement.Passes.{fitting, apart}
+use Rattle.references.specs.Models.{edgeOf}
+use Rattle.borrow_graph_edit.specs.Models.{Found}
+use Rattle.borrow_graph_edit.specs.declared.release.Side.{Side}
+
+abbrev pub entering : ℕ → GEdge → Bool
+entering n x = eqb n (x .child)
+
+abbrev pub leaving : ℕ → GEdge → Bool
+leaving n x = eqb n (x .parent)
+
+-- an edge to a name and an edge from it; no way leads from a name to itself
+abbrev pub through : GEdge → GEdge → List GEdge
+through x y = cond (not (eqb (x .parent) (y .child))) (between (x .parent) (splice (x .edge) (y .edge)) (y .child) ∷ []) []
+
+abbrev pub ways : List GEdge → List GEdge → List GEdge
+ways xs ys = each xs (λ x. each ys (through x))
+
+-- ---- the edges that pass a test, found one by one
+
+-- among those before xs: none, or a single one, a
+abbrev pub Seen : (GEdge → Bool) → Bool → Bool → GEdge → List GEdge → List GEdge → Type 0
+Seen q empty single a xs all = (empty ≡ true → keep q xs ≡ keep q all) × (single ≡ true → a ∷ keep q xs ≡ keep q all)
+
+module _ (q : GEdge → Bool) (empty single : Bool) (a : GEdge) (all : List GEdge) where
+  module _ (x : GEdge) (xs ys : List GEdge) (e : ys ≡ x ∷ xs) (s : Seen q empty single a ys all) where
+    kept : (b : Bool) → q x ≡ b → cond b (x ∷ keep q xs) (keep q xs) ≡ keep q ys
+    kept b h = ap (λ (c : Bool). cond c (x ∷ keep q xs) (keep q xs)) (sym h) ∙ ap (λ (l : List GEdge). keep q l) (sym e)
+
+    pub seen-hit : q x ≡ true → Seen q false empty x xs all
+    seen-hit h = (λ k. absurd (false≢true k), λ k. kept true h ∙ s .0 k)
+
+    pub seen-miss : q x ≡ false → Seen q empty single a xs all
+    seen-miss h = (λ k. kept false h ∙ s .0 k, λ k. ap (λ (l : List GEdge). a ∷ l) (kept false h) ∙ s .1 k)
+
+    -- one more that is not kept in mind
+    pub seen-lost : Seen q (empty && not (q x)) (single && not (q x)) a xs all
+    seen-lost = (λ k. seen-miss (not-true (and-r empty (not (q x)) k)) .0 (and-l empty (not (q x)) k), λ k. seen-miss (not-true (and-r single (not (q x)) k)) .1 (and-l single (not (q x)) k))
+
+  pub seen-all : (xs : List GEdge) → xs ≡ [] → Seen q empty single a xs all → (empty ≡ true → keep q all ≡ []) × (single ≡ true → keep q all ≡ a ∷ [])
+  seen-all xs e s = (λ k. sym (s .0 k) ∙ ap (λ (l : List GEdge). keep q l) e, λ k. sym (s .1 k) ∙ ap (λ (l : List GEdge). a ∷ keep q l) e)
+
+-- ---- at most one way, as the code makes it
+
+fitted : (e d : Edge) → fitting e ≡ ok d → e ≡ d
+unfolding fitting
+fitted e d f = ok-inj (guard-ok (leb (length (e .path)) 8) 22 (ok e) d f .1)
+
+no-ways : (xs : List GEdge) → ways xs [] ≡ []
+no-ways [] = refl
+no-ways (x ∷ xs) = no-ways xs
+
+module _ (s t : Side) (xs ys : List GEdge) (h : Found s xs) (k : Found t ys) (fits : Bool) (d : Edge)
+    (e : cond fits (ok d) (refuse 22) ≡ fitting (splice (edgeOf (s .edge .edge)) (edgeOf (t .edge .edge)))) where
+  abbrev put : List GEdge
+  put = between (s .edge .parent .0) d (t .edge .child .0) ∷ []
+
+  pub bridge : (s .empty || t .empty) || ((s .single && t .single) && (eqb (s .edge .parent .0) (t .edge .child .0) || fits)) ≡ true
+      → ways xs ys ≡ cond (not (s .empty || t .empty) && not (eqb (s .edge .parent .0) (t .edge .child .0))) put []
+  bridge u = go (s .empty) (t .empty) (h .0) (k .0) u
+    where
+      w : GEdge
+      w = between (s .edge .parent .0) (splice (edgeOf (s .edge .edge)) (edgeOf (t .edge .edge))) (t .edge .child .0)
+
+      way : (b f : Bool) → cond f (ok d) (refuse 22) ≡ fitting (splice (edgeOf (s .edge .edge)) (edgeOf (t .edge .edge))) → b || f ≡ true → (cond (not b) (w ∷ []) [] ++ []) ++ [] ≡ cond (not b) put []
+      way true f g v = refl
+      way false true g v = ap (λ (z : Edge). between (s .edge .parent .0) z (t .edge .child .0) ∷ []) (fitted (splice (edgeOf (s .edge .edge)) (edgeOf (t .edge .edge))) d (sym g))
+      way false false g v = absurd (false≢true v)
+
+      go : (a b : Bool) → (a ≡ true → xs ≡ []) → (b ≡ true → ys ≡ []) → (a || b) || ((s .single && t .single) && (eqb (s .edge .parent .0) (t .edge .child .0) || fits)) ≡ true
+          → ways xs ys ≡ cond (not (a || b) && not (eqb (s .edge .parent .0) (t .edge .child .0))) put []
+      go true b p q v = ap (λ (l : List GEdge). ways l ys) (p refl)
+      go false true p q v = ap (λ (l : List GEdge). ways xs l) (q refl) ∙ no-ways xs
+      go false false p q v =
+          let o = and-l (s .single && t .single) (eqb (s .edge .parent .0) (t .edge .child .0) || fits) v in
+          (λ i. ways (h .1 (and-l (s .single) (t .single) o) i) (k .1 (and-r (s .single) (t .single) o) i))
+          ∙ way (eqb (s .edge .parent .0) (t .edge .child .0)) fits e (and-r (s .single && t .single) (eqb (s .edge .parent .0) (t .edge .child .0) || fits) v)
+
+-- ---- what is spliced is the ways
+
+each-kept : {A B : Type 0} (q : A → Bool) (f g : A → List B) → ((x : A) → f x ≡ cond (q x) (g x) []) → (xs : List A) → each xs f ≡ each (keep q xs) g
+each-kept q f g h [] = refl
+each-kept {A} {B} q f g h (x ∷ xs) = (λ i. h x i ++ each-kept q f g h xs i) ∙ go (q x)
+  where
+    go : (b : Bool) → cond b (g x) [] ++ each (keep q xs) g ≡ each (cond b (x ∷ keep q xs) (keep q xs)) g
+    go true = refl
+    go false = refl
+
+meet-through : (n : ℕ) (x y : GEdge) → meet n x y ≡ cond (leaving n y) (through x y) []
+meet-through n x y = go (eqb n (y .parent))
+  where
+    go : (b : Bool) → cond (b && not (eqb (x .parent) (y .child))) (between (x .parent) (splice (x .edge) (y .edge)) (y .child) ∷ []) [] ≡ cond b (through x y) []
+    go true = refl
+    go false = refl
+
+spliced-ways : (g : Graph) (n : ℕ) → wellFormed g ≡ true → spliced g n ≡ ways (keep (entering n) (g .edges)) (keep (leaving n) (g .edges))
+unfolding splicedRows splicedRow
+spliced-ways g n w =
+    spliced-rows g n (wf→inv g w) ∙ each-kept (entering n) (rowIf n (g .edges)) (λ x. each (keep (leaving n) (g .edges)) (through x))
+    (λ x. ap (λ (l : List GEdge). cond (entering n x) l []) (each-kept (leaving n) (meet n x) (through x) (meet-through n x) (g .edges))) (g .edges)
+
+-- ---- the release
+
+-- where a way leads through n, leaving out its edges makes room
+fewer : (n : ℕ) (f : GEdge → List GEdge) (z : GEdge) (xs : List GEdge) → each (keep (entering n) xs) f ≡ z ∷ [] → length (keep (apart n) xs) < length xs
+fewer n f z [] e = let k : _≡_ {A = ℕ} 0 1 = ap (λ (l : List GEdge). length l) e in absurd (omega arith)
+fewer n f z (x ∷ xs) e = go (eqb n (x .parent)) (eqb n (x .child)) e (keep-few (apart n) xs) (fewer n f z xs)
+  where
+    go : (a b : Bool) → each (cond b (x ∷ keep (entering n) xs) (keep (entering n) xs)) f ≡ z ∷ [] → length (keep (apart n) xs) ≤ length xs
+        → (each (keep (entering n) xs) f ≡ z ∷ [] → length (keep (apart n) xs) < length xs) → length (cond (not a && not b) (x ∷ keep (apart n) xs) (keep (apart n) xs)) < suc (length xs)
+    go true b h k r = omega arith
+    go false true h k r = omega arith
+    go false false h k r = let l : length (keep (apart n) xs) < length xs = r h in omega arith
+
+-- by what the code has found: the graph without n, and what is put in
+module _ (g : Graph) (n : ℕ) (t : wellFormed g && held g n ≡ true) (h : Graph) (q : h ≡ without g n) where
+  w : wellFormed g ≡ true
+  w = and-l (wellFormed g) (held g n) t
+
+  pub left-formed : wellFormed h ≡ true
+  left-formed = ap wellFormed q ∙ without-formed g n w (leb-le (room g w))
+
+  module _ (zs : List GEdge) (e : ways (keep (entering n) (g .edges)) (keep (leaving n) (g .edges)) ≡ zs) where
+    new : spliced g n ≡ zs
+    new = spliced-ways g n w ∙ e
+
+    released : release g n ≡ andThen (addAll zs h) limit
+    unfolding release
+    released = ap (λ (c : Bool). guard c 9 (andThen (addAll (spliced g n) (without g n)) limit)) t ∙ (λ i. andThen (addAll (new i) (sym q i)) limit)
+
+    pub release-none : zs ≡ [] → release g n ≡ ok h
+    unfolding addAll
+    release-none z = released ∙ ap (λ (l : List GEdge). andThen (addAll l h) limit) z ∙ limit-pass h (leb-le (room h left-formed))
+
+    module _ (p : ℕ) (d : Edge) (c : ℕ) (z : zs ≡ between p d c ∷ []) (sh : length (d .path) ≤ 8) where
+      abbrev added : Ans Graph
+      added = andThen (addEdge h (between p d c)) limit
+
+      one-way : release g n ≡ added
+      unfolding addAll
+      one-way = released ∙ ap (λ (l : List GEdge). andThen (addAll l h) limit) z ∙ flat (addEdge h (between p d c))
+        where
+          flat : (x : Ans Graph) → andThen (andThen x (λ k. ok k)) limit ≡ andThen x limit
+          flat (ok k) = refl
+          flat (refuse m) = refl
+
+      roomy : length (h .edges) < 96
+      unfolding without
+      roomy =
+          let f : length (keep (apart n) (g .edges)) < length (g .edges) = fewer n (λ x. each (keep (leaving n) (g .edges)) (through x)) (between p d c) (g .edges) (e ∙ z) in
+          let l : length (h .edges) ≡ length (keep (apart n) (g .edges)) = ap (λ (k : Graph). length (k .edges)) q in
+          let m : length (g .edges) ≤ 96 = leb-le (room g w) in
+          omega arith
+
+      -- it is not refused, so that nothing of what was left out is asked for again
+      pub release-one : (r : Ans Graph) (k : Graph) → (r ≡ added) × (k ≡ leaves h added) → (r ≡ release g n) × (k ≡ leaves g (release g n))
+      release-one r k u =
+          let s = insert-short (setAt p c (h .edges)) d sh in
+          let f : length (setTo p c (s .0) (h .edges)) ≤ suc (length (h .edges)) = made-length h p c d (s .0) (s .1) in
+          let y = add-fits h p c d (s .0) (s .1) (omega (arith, f, roomy)) in
+          (u .0 ∙ sym one-way, u .1 ∙ ap (leaves h) y ∙ sym (ap (leaves g) (one-way ∙ y)))

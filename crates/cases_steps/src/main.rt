@@ -1,0 +1,112 @@
+// Reads listings from standard input, each after three bytes with its length, runs the first block of each from the routine's first state,
+// and writes for each a line with the violation or refusal and its offset; zeros where the block ends.
+use abstract_state::state::AbstractState;
+use libc::STDIN_FILENO;
+use libc::STDOUT_FILENO;
+use listing::Block;
+use listing::Routine;
+use listing::read_listing;
+use reference_safety::block::Ran;
+use reference_safety::block::run_block;
+use abstract_state_join::first::new;
+ghost use mathlib.Core.Path.{_≡_};
+ghost use Prim.Native.Nat.{_+_, _≤_};
+ghost use lib.ListN.{length};
+
+// Room for all cases.
+fn room() -> [u8; 8192]
+    ensures { λ r. ⌜ 8192 ≡ length r ⌝ }
+{
+    [0; 8192]
+}
+
+fn wide(b: u8) -> usize
+    ensures { λ r. ⌜ r ≤ 255 ⌝ }
+{
+    b as usize
+}
+
+// The length that the three bytes from a place on state.
+fn stated(s: &[u8], at: usize) -> usize
+    requires { ⌜ at + 3 ≤ length (now s) ⌝ }
+    ensures { λ r. ⌜ r ≤ 16777215 ⌝ }
+{
+    wide(s[at]) + 256 * wide(s[at + 1]) + 65536 * wide(s[at + 2])
+}
+
+fn digit(n: usize) -> u8 {
+    (n % 10) as u8 + b'0'
+}
+
+fn write_line(number: usize, place: usize) -> bool {
+    let line = [
+        digit(number / 100),
+        digit(number / 10),
+        digit(number),
+        b' ',
+        digit(place / 10000),
+        digit(place / 1000),
+        digit(place / 100),
+        digit(place / 10),
+        digit(place),
+        b'\n',
+    ];
+    io::write_all(STDOUT_FILENO, &line)
+}
+
+fn write_ran(r: Ran) -> bool {
+    let place = r.place.0 as usize;
+    let s = r.state;
+    if s.violation != 0 {
+        return write_line(s.violation as usize, place);
+    }
+    if s.refusal != 0 {
+        return write_line(s.refusal as usize, place);
+    }
+    write_line(0, 0)
+}
+
+fn first_block(q: Routine) -> Block {
+    let blocks = q.blocks;
+    blocks[0]
+}
+
+fn first_state(q: Routine) -> AbstractState {
+    let params = q.params;
+    new(q.locals, params, q.param_count)
+}
+
+fn answer(s: &[u8]) -> bool {
+    let l = read_listing(s);
+    if l.number != 0 {
+        return write_line(l.number as usize, l.place);
+    }
+    let q = l.routine;
+    write_ran(run_block(s, q, first_block(q), first_state(q)))
+}
+
+fn run_all(s: &[u8]) {
+    let mut at: usize = 0;
+    while at < s.len() {
+        let left = s.len() - at;
+        if left < 3 {
+            return;
+        }
+        let n = stated(s, at);
+        if left - 3 < n {
+            return;
+        }
+        let start = at + 3;
+        let end = start + n;
+        if !answer(&s[start..end]) {
+            return;
+        }
+        at = end;
+    }
+}
+
+fn main() {
+    let mut buffer = room();
+    let n = io::read_full(STDIN_FILENO, &mut buffer);
+    run_all(&buffer[..n]);
+}

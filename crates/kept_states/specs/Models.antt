@@ -1,9 +1,0 @@
--- What the values of the code stand for in the definitions.
-use mathlib.Core.Bool.{cond}
-use mathlib.Core.Option.{Option, none, some}
-use Rattle.meaning.specs.State.{State}
-use Rattle.abstract_state.specs.Models.{stateOf}
-use Rattle.kept_states.specs.declared.Kept.{Kept}
-
-abbrev pub loadedOf : Kept → Option State
-loadedOf k = cond (k .present) (some (stateOf (k .state))) none

@@ -1,0 +1,44 @@
+-- `reader::step_at` meets its contract. Assumes nothing.
+use Prim.Native.Nat.{ℕ}
+use mathlib.Core.Path.{_≡_, refl, sym, ap, _∙_}
+use mathlib.Core.List.{List}
+use borrow.Author.Needs.{needs}
+use Rattle.listing_records.specs.Models.{readAt}
+use Rattle.listing_records.specs.declared.Found.{Found}
+use Rattle.listing_reader.specs.Models.{after, stepAt}
+use Rattle.listing_reader.specs.declared.Step.{Step}
+use Rattle.listing_reader.proofs.step_at.Statement.{statement}
+use Rattle.listing_reader.proofs.step_at.Tie as tie
+
+abbrev made : Found → ℕ → Step
+made f n = record { found = f; at = n }
+
+-- what was found, known by its constructor
+stepped : (s : List ℕ) (at : ℕ) (f g : Found) → f ≡ g → f ≡ readAt s at → made f (after g at) ≡ stepAt s at
+stepped s at f g told e = ap (λ (h : Found). made f (after h at)) (sym told) ∙ ap (λ (h : Found). made h (after h at)) e
+
+read-requires : tie.Need-read-requires
+read-requires c κs = search needs
+
+enum-known-found : tie.Need-enum-known-found
+enum-known-found c = search needs
+
+enum-told : tie.Need-enum-told
+enum-told c = search needs
+
+enum-told-2 : tie.Need-enum-told-2
+enum-told-2 c = search needs
+
+returns : tie.Need-returns
+returns c = stepped (c .before .before .before .before .before .args .listing .now) (c .before .before .before .before .before .args .at) _ _ refl (sym (c .before .found .given .1) ∙ c .before .before .before .read .ensures)
+
+returns-2 : tie.Need-returns-2
+returns-2 c = stepped (c .before .before .before .before .args .listing .now) (c .before .before .before .before .args .at) (c .before .before .read .result) _ (c .enum-told .given .1) (c .before .before .read .ensures)
+
+returns-3 : tie.Need-returns-3
+returns-3 c = stepped (c .before .before .before .before .args .listing .now) (c .before .before .before .before .args .at) (c .before .before .read .result) _ (c .enum-told2 .given .1) (c .before .before .read .ensures)
+
+pub step-at-spec : {M : Type 1} → statement M
+step-at-spec =
+    tie.close
+    (tie.spec read-requires enum-known-found enum-told enum-told-2 returns returns-2 returns-3)

@@ -1,0 +1,121 @@
+-- Laws of lists and tests: a search goes on from element to element, an array is filled from the front.
+-- Assumes nothing.
+use mathlib.Core.Path.{_≡_, refl, sym, ap, _∙_}
+use mathlib.Core.Logic.{_⊎_, inl, inr}
+use mathlib.Core.Bool.{Bool, true, false, _||_}
+use mathlib.Core.List.{List, [], _∷_, _++_, map}
+use Prim.Native.Nat.{ℕ, zero, suc, _+_, _≤_, _<_}
+use native.Mathlib.Nat.{not-suc-le-zero, le-of-suc-le-suc}
+use native.Mathlib.Numerals.{add-one}
+use native.Mathlib.Omega.{arith}
+use lib.ListN.{length, take, drop, getD, set, length-take, length-map, drop-of-length-le, List·getD-map}
+use lib.Seq.{drop-cons, getD-take, take-suc-set, take-suc}
+use lib.Dec.{leb, eqb}
+use borrow.Author.Tests.{eq-eqb, ne-eqb}
+use Rattle.meaning.specs.Lists.{all, any}
+use Rattle.meaning.specs.Laws.Base.{both, decide, leb-le, le-leb, leb-gt, eqb-eq, eqb-ne, and-l, and-r}
+use Rattle.meaning.specs.Listing.{series}
+
+pub leb-iff : (a b c d : ℕ) → (a ≤ b → c ≤ d) → (c ≤ d → a ≤ b) → leb a b ≡ leb c d
+leb-iff a b c d f g =
+    decide (leb a b)
+    (λ e. e ∙ sym (le-leb (f (leb-le e))))
+    (λ e. e ∙ sym (decide (leb c d)
+    (λ h. let p : a ≤ b = g (leb-le h) in let q : b < a = leb-gt e in absurd (omega arith))
+    (λ h. h)))
+
+pub or-true : (a : Bool) → a || true ≡ true
+or-true true = refl
+or-true false = refl
+
+pub or-none : (a b : Bool) → a || b ≡ false → (a ≡ false) × (b ≡ false)
+or-none true b e = absurd (both refl e)
+or-none false b e = (refl, e)
+
+pub map-append : {A B : Type 0} (f : A → B) (xs ys : List A) → map f (xs ++ ys) ≡ map f xs ++ map f ys
+map-append f [] ys = refl
+map-append f (x ∷ xs) ys = ap (λ l. f x ∷ l) (map-append f xs ys)
+
+pub map-take : {A B : Type 0} (f : A → B) (n : ℕ) (xs : List A) → map f (take n xs) ≡ take n (map f xs)
+map-take f zero xs = refl
+map-take f (suc n) [] = refl
+map-take f (suc n) (x ∷ xs) = ap (λ l. f x ∷ l) (map-take f n xs)
+
+-- ---- a search through a list: what is left from i on gives the answer r
+
+module _ {A : Type 0} (p : A → Bool) (d : A) (xs : List A) (r : Bool) (i : ℕ) (here : i < length xs) where
+  pub all-stop : all p (drop i xs) ≡ r → p (getD xs i d) ≡ false → false ≡ r
+  all-stop e h = simp (drop-cons xs i d here, h) at e
+
+  pub all-turn : all p (drop i xs) ≡ r → p (getD xs i d) ≡ true → all p (drop (i + 1) xs) ≡ r
+  all-turn e h = rw add-one (simp (drop-cons xs i d here, h) at e)
+
+  pub any-stop : any p (drop i xs) ≡ r → p (getD xs i d) ≡ true → true ≡ r
+  any-stop e h = simp (drop-cons xs i d here, h) at e
+
+  pub any-turn : any p (drop i xs) ≡ r → p (getD xs i d) ≡ false → any p (drop (i + 1) xs) ≡ r
+  any-turn e h = rw add-one (simp (drop-cons xs i d here, h) at e)
+
+module _ {A : Type 0} (p : A → Bool) (xs : List A) (r : Bool) (i : ℕ) (past : length xs ≤ i) where
+  pub all-end : all p (drop i xs) ≡ r → true ≡ r
+  all-end e = simp (drop-of-length-le xs {i = i} past) at e
+
+  pub any-end : any p (drop i xs) ≡ r → false ≡ r
+  any-end e = simp (drop-of-length-le xs {i = i} past) at e
+
+-- ---- an array of structs, the first n of them, each by what it stands for
+
+module _ {A B : Type 0} (f : A → B) (xs : List A) (n : ℕ) (fits : n ≤ length xs) where
+  pub counted : length (map f (take n xs)) ≡ n
+  counted = simp (length-map, length-take) (omega arith)
+
+  pub element : (d : A) (i : ℕ) → i < n → getD (map f (take n xs)) i (f d) ≡ f (getD xs i d)
+  element d i h = List·getD-map f (take n xs) i d ∙ ap f (getD-take n xs i d h)
+
+pub unmapped : (X Y : Type 0) (f : X → Y) (l : List X) (n : ℕ) → length (map f l) ≡ n → length l ≡ n
+unmapped X Y f l n e = sym (length-map l f) ∙ e
+
+-- ---- an array that is filled from the front
+
+module _ {A B : Type 0} (g : A → B) (f : ℕ → B) (out : List A) (i : ℕ) (v : A) where
+  pub filled : i < length out → map g (take i out) ≡ series i f → g v ≡ f i → map g (take (i + 1) (set out i v)) ≡ series (i + 1) f
+  unfolding series
+  filled h e w = rw (add-one, take-suc-set out i v, map-append, e, w)
+
+pub map-id : (xs : List ℕ) → map (λ x. x) xs ≡ xs
+map-id [] = refl
+map-id (x ∷ xs) = ap (λ l. x ∷ l) (map-id xs)
+
+pub map-series : {A B : Type 0} (g : A → B) (n : ℕ) (f : ℕ → A) → map g (series n f) ≡ series n (λ k. g (f k))
+unfolding series
+map-series g zero f = refl
+map-series g (suc n) f = map-append g (series n f) (f n ∷ []) ∙ ap (λ l. l ++ (g (f n) ∷ [])) (map-series g n f)
+
+-- a number that is n or more, and not n
+pub up : (n k : ℕ) → n ≤ k → (k ≡ n → ⊥) → n + 1 ≤ k
+up n k h e = omega arith
+
+pub eqb-iff : (a b c d : ℕ) → (a ≡ b → c ≡ d) → (c ≡ d → a ≡ b) → eqb a b ≡ eqb c d
+eqb-iff a b c d f g =
+    decide (eqb a b)
+    (λ e. e ∙ sym (eq-eqb c d (f (eqb-eq e))))
+    (λ e. e ∙ sym (ne-eqb c d (λ h. eqb-ne e (g h))))
+
+pub within-list : {A B : Type 0} (f : A → B) (d : A) (e : B) (xs : List A) (k : ℕ) → k < length xs → getD (map f xs) k e ≡ f (getD xs k d)
+within-list f d e [] k h = absurd (not-suc-le-zero h)
+within-list f d e (x ∷ xs) zero h = refl
+within-list f d e (x ∷ xs) (suc k) h = within-list f d e xs k (le-of-suc-le-suc h)
+
+pub map-filled : {A B : Type 0} (g : A → B) (f : ℕ → B) (out : List A) (ps : List ℕ) (i : ℕ) (v : A) → i < length out → i < length ps
+    → map g (take i out) ≡ map f (take i ps) → g v ≡ f (getD ps i 0) → map g (take (i + 1) (set out i v)) ≡ map f (take (i + 1) ps)
+map-filled g f out ps i v h l e w = rw (add-one, take-suc-set out i v, take-suc ps i 0 l, map-append, map-append, e, w)
+
+pub all-get : (p : ℕ → Bool) (n : ℕ) (xs : List ℕ) (i : ℕ) → i < n → i < length xs → all p (take n xs) ≡ true → p (getD xs i 0) ≡ true
+all-get p zero xs i h l e = absurd (not-suc-le-zero h)
+all-get p (suc n) [] i h l e = absurd (not-suc-le-zero l)
+all-get p (suc n) (x ∷ xs) zero h l e = and-l (p x) (all p (take n xs)) e
+all-get p (suc n) (x ∷ xs) (suc i) h l e = all-get p n xs i (le-of-suc-le-suc h) (le-of-suc-le-suc l) (and-r (p x) (all p (take n xs)) e)
+
+pub cases : {A B C : Type 0} → A ⊎ B → (A → C) → (B → C) → C
+cases (inl a) f g = f a
+cases (inr b) f g = g b

@@ -1,0 +1,69 @@
+-- `records::read` meets its contract. Assumes nothing.
+use mathlib.Core.Path.{_≡_, sym, _∙_}
+use mathlib.Core.Bool.{true, false}
+use borrow.Author.Tests.{le-leb, lt-leb, leb-true}
+use Prim.Native.Nat.{_+_, _≤_}
+use lib.ListN.{length}
+use lib.Dec.{leb}
+use Rattle.meaning.specs.Listing.{u16At, wholeAt}
+use Rattle.listing_records.specs.Models.{readAt}
+use native.Mathlib.Omega.{arith}
+use borrow.Author.Needs.{needs}
+use Rattle.listing_records.proofs.read.Statement.{statement}
+use Rattle.listing_records.proofs.read.Tie as tie
+
+returns : tie.Need-returns
+unfolding readAt
+returns c = simp (le-leb _ _ ((c .if1) .taken))
+
+whole-at-requires : tie.Need-whole-at-requires
+whole-at-requires c κs = search needs
+
+add-u16-in : tie.Need-add-u16-in
+add-u16-in c = search needs
+
+u16-in-requires : tie.Need-u16-in-requires
+unfolding wholeAt
+u16-in-requires c κs = let w : (c .before .before .before .before .args) .c .at + 4 + u16At ((c .before .before .before .before .args) .s .now) ((c .before .before .before .before .args) .c .at) ≤ length ((c .before .before .before .before .args) .s .now) = leb-true _ _ (sym ((c .before .whole-at) .ensures) ∙ (c .if2) .taken) in
+    omega arith
+
+add-next : tie.Need-add-next
+add-next c = search needs
+
+u16-in-requires-2 : tie.Need-u16-in-requires-2
+unfolding wholeAt
+u16-in-requires-2 c κs = let w : (c .before .before .before .before .before .args) .c .at + 4 + u16At ((c .before .before .before .before .before .args) .s .now) ((c .before .before .before .before .before .args) .c .at) ≤ length ((c .before .before .before .before .before .args) .s .now) = leb-true _ _ (sym ((c .before .before .whole-at) .ensures) ∙ (c .before .if2) .taken) in
+    omega arith
+
+cast-next : tie.Need-cast-next
+cast-next c = search needs
+
+add-next-2 : tie.Need-add-next-2
+add-next-2 c = search needs
+
+returns-2 : tie.Need-returns-2
+unfolding readAt
+returns-2 c = let w : wholeAt ((c .before .before .before .before .before .before .args) .s .now) ((c .before .before .before .before .before .before .args) .c .at) ≡ true = sym ((c .before .before .before .whole-at) .ensures) ∙ (c .before .before .if2) .taken in
+    let f : leb (length ((c .before .before .before .before .before .before .args) .s .now)) ((c .before .before .before .before .before .before .args) .c .at) ≡ false = lt-leb _ _ ((c .before .before .before .before .if1) .left) in
+    rw (f, w) (cc)
+
+returns-3 : tie.Need-returns-3
+unfolding readAt
+returns-3 c = let w : wholeAt ((c .before .before .before .before .args) .s .now) ((c .before .before .before .before .args) .c .at) ≡ false = sym ((c .before .whole-at) .ensures) ∙ (c .if2) .left in
+    let f : leb (length ((c .before .before .before .before .args) .s .now)) ((c .before .before .before .before .args) .c .at) ≡ false = lt-leb _ _ ((c .before .before .if1) .left) in
+    rw (f, w)
+
+pub read-spec : {M : Type 1} → statement M
+read-spec =
+    tie.close
+    (tie.spec
+    returns
+    whole-at-requires
+    add-u16-in
+    u16-in-requires
+    add-next
+    u16-in-requires-2
+    cast-next
+    add-next-2
+    returns-2
+    returns-3)

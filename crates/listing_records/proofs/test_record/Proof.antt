@@ -1,0 +1,96 @@
+-- `records::test_record` meets its contract. Assumes nothing.
+use mathlib.Core.Path.{_≡_, sym, ap, _∙_}
+use borrow.Author.Tests.{not-true, not-false}
+use mathlib.Core.Bool.{true, false, Bool·beq}
+use lib.Dec.{eqb}
+use Rattle.meaning.specs.Listing.{kindInUse, kindAt, fieldsOf, faultAt}
+use Rattle.listing_records.specs.Models.{fieldsIn}
+use Rattle.listing_records.proofs.Laws.{record-inv, short-inv, end-inv, refused-test, fault-1, fault-2, fault-4, fault-body, inside}
+use borrow.Author.Needs.{needs}
+use Rattle.listing_records.proofs.test_record.Statement.{statement}
+use Rattle.listing_records.proofs.test_record.Tie as tie
+
+read-requires : tie.Need-read-requires
+read-requires c κs = search needs
+
+enum-known-kind : tie.Need-enum-known-kind
+enum-known-kind c = search needs
+
+shape-of-requires : tie.Need-shape-of-requires
+shape-of-requires c κs = search needs
+
+failed-requires : tie.Need-failed-requires
+failed-requires c κs = search needs
+
+returns : tie.Need-returns
+returns c = let v = record-inv (c .before .before .before .before .before .before .before .before .before .args .s .now) (c .before .before .before .before .before .before .before .before .before .args .at) (c .before .before .before .before .before .kind .given .0 .0) (c .before .before .before .before .before .kind .given .0 .1 .0) (sym (c .before .before .before .before .before .before .before .read .ensures) ∙ c .before .before .before .before .before .kind .given .1) in
+    let k : kindInUse (kindAt (c .before .before .before .before .before .before .before .before .before .args .s .now) (c .before .before .before .before .before .before .before .before .before .args .at)) ≡ false = rw (v .1) at (sym (c .before .before .before .shape-of .ensures .known) ∙ not-true _ (c .before .if1 .taken)) in
+    refused-test (c .before .before .before .before .before .before .before .before .before .args .s .now) (c .before .before .before .before .before .before .before .before .before .args .at) (c .before .before .before .before .before .before .before .before .before .args .locals) (c .failed .result) 1 (c .failed .ensures) (fault-2 (c .before .before .before .before .before .before .before .before .before .args .s .now) (c .before .before .before .before .before .before .before .before .before .args .at) (c .before .before .before .before .before .before .before .before .before .args .locals) (v .0) k)
+
+misplaced-requires : tie.Need-misplaced-requires
+misplaced-requires c κs = search needs
+
+failed-requires-2 : tie.Need-failed-requires-2
+failed-requires-2 c κs = search needs
+
+returns-2 : tie.Need-returns-2
+returns-2 c = let v = record-inv (c .before .before .before .before .before .before .before .before .before .before .before .args .s .now) (c .before .before .before .before .before .before .before .before .before .before .before .args .at) (c .before .before .before .before .before .before .before .kind .given .0 .0) (c .before .before .before .before .before .before .before .kind .given .0 .1 .0) (sym (c .before .before .before .before .before .before .before .before .before .read .ensures) ∙ c .before .before .before .before .before .before .before .kind .given .1) in
+    let k : kindInUse (kindAt (c .before .before .before .before .before .before .before .before .before .before .before .args .s .now) (c .before .before .before .before .before .before .before .before .before .before .before .args .at)) ≡ true = rw (v .1) at (sym (c .before .before .before .before .before .shape-of .ensures .known) ∙ not-false _ (c .before .before .before .if1 .left)) in
+    let b′ : Bool·beq (eqb (c .before .before .before .before .before .before .before .kind .given .0 .0) 1) (eqb (c .before .before .before .before .before .before .before .before .before .before .before .args .at) 0) ≡ false = not-true _ (sym (c .before .before .misplaced .ensures) ∙ c .before .if2 .taken) in
+    let b : Bool·beq (eqb (kindAt (c .before .before .before .before .before .before .before .before .before .before .before .args .s .now) (c .before .before .before .before .before .before .before .before .before .before .before .args .at)) 1) (eqb (c .before .before .before .before .before .before .before .before .before .before .before .args .at) 0) ≡ false = rw (v .1) at b′ in
+    refused-test (c .before .before .before .before .before .before .before .before .before .before .before .args .s .now) (c .before .before .before .before .before .before .before .before .before .before .before .args .at) (c .before .before .before .before .before .before .before .before .before .before .before .args .locals) (c .failed2 .result) 3 (c .failed2 .ensures) (fault-4 (c .before .before .before .before .before .before .before .before .before .before .before .args .s .now) (c .before .before .before .before .before .before .before .before .before .before .before .args .at) (c .before .before .before .before .before .before .before .before .before .before .before .args .locals) (v .0) k b)
+
+body-requires : tie.Need-body-requires
+body-requires c κs = search needs
+
+test-body-requires : tie.Need-test-body-requires
+test-body-requires c κs = search needs
+
+enum-told : tie.Need-enum-told
+enum-told c = search needs
+
+failed-requires-3 : tie.Need-failed-requires-3
+failed-requires-3 c κs = search needs
+
+enum-told-2 : tie.Need-enum-told-2
+enum-told-2 c = search needs
+
+failed-requires-4 : tie.Need-failed-requires-4
+failed-requires-4 c κs = search needs
+
+returns-3 : tie.Need-returns-3
+returns-3 c = let v = record-inv (c .before .before .before .before .before .before .before .before .before .before .before .before .args .s .now) (c .before .before .before .before .before .before .before .before .before .before .before .before .args .at) (c .before .before .before .before .before .before .before .before .kind .given .0 .0) (c .before .before .before .before .before .before .before .before .kind .given .0 .1 .0) (sym (c .before .before .before .before .before .before .before .before .before .before .read .ensures) ∙ c .before .before .before .before .before .before .before .before .kind .given .1) in
+    let k : kindInUse (kindAt (c .before .before .before .before .before .before .before .before .before .before .before .before .args .s .now) (c .before .before .before .before .before .before .before .before .before .before .before .before .args .at)) ≡ true = rw (v .1) at (sym (c .before .before .before .before .before .before .shape-of .ensures .known) ∙ not-false _ (c .before .before .before .before .if1 .left)) in
+    let b′ : Bool·beq (eqb (c .before .before .before .before .before .before .before .before .kind .given .0 .0) 1) (eqb (c .before .before .before .before .before .before .before .before .before .before .before .before .args .at) 0) ≡ true = not-false _ (sym (c .before .before .before .misplaced .ensures) ∙ c .before .before .if2 .left) in
+    let b : Bool·beq (eqb (kindAt (c .before .before .before .before .before .before .before .before .before .before .before .before .args .s .now) (c .before .before .before .before .before .before .before .before .before .before .before .before .args .at)) 1) (eqb (c .before .before .before .before .before .before .before .before .before .before .before .before .args .at) 0) ≡ true = rw (v .1) at b′ in
+    let f : fieldsIn (c .before .before .before .before .before .before .shape-of .result) ≡ fieldsOf (kindAt (c .before .before .before .before .before .before .before .before .before .before .before .before .args .s .now) (c .before .before .before .before .before .before .before .before .before .before .before .before .args .at)) = c .before .before .before .before .before .before .shape-of .ensures .fields ∙ ap fieldsOf (v .1) in
+    let n : c .test-body .result ≡ faultAt (c .before .before .before .before .before .before .before .before .before .before .before .before .args .s .now) (c .before .before .before .before .before .before .before .before .before .before .before .before .args .locals) (c .before .before .before .before .before .before .before .before .before .before .before .before .args .at) = c .test-body .ensures ∙ (rw (f, c .before .body .ensures) (sym (fault-body (c .before .before .before .before .before .before .before .before .before .before .before .before .args .s .now) (c .before .before .before .before .before .before .before .before .before .before .before .before .args .at) (c .before .before .before .before .before .before .before .before .before .before .before .before .args .locals) (v .0) k b))) in
+    record { number = n; kind = λ h. v .1; next = λ h. v .2; inside = λ h. rw (v .2) (inside (c .before .before .before .before .before .before .before .before .before .before .before .before .args .s .now) (c .before .before .before .before .before .before .before .before .before .before .before .before .args .at) (v .0)) }
+
+returns-4 : tie.Need-returns-4
+returns-4 c = refused-test (c .before .before .before .before .before .args .s .now) (c .before .before .before .before .before .args .at) (c .before .before .before .before .before .args .locals) (c .failed3 .result) 0 (c .failed3 .ensures) (fault-1 (c .before .before .before .before .before .args .s .now) (c .before .before .before .before .before .args .at) (c .before .before .before .before .before .args .locals) (short-inv (c .before .before .before .before .before .args .s .now) (c .before .before .before .before .before .args .at) (sym (c .before .before .before .read .ensures) ∙ c .before .enum-told .given .1)))
+
+returns-5 : tie.Need-returns-5
+returns-5 c = refused-test (c .before .before .before .before .before .args .s .now) (c .before .before .before .before .before .args .at) (c .before .before .before .before .before .args .locals) (c .failed4 .result) 0 (c .failed4 .ensures) (fault-1 (c .before .before .before .before .before .args .s .now) (c .before .before .before .before .before .args .at) (c .before .before .before .before .before .args .locals) (end-inv (c .before .before .before .before .before .args .s .now) (c .before .before .before .before .before .args .at) (sym (c .before .before .before .read .ensures) ∙ c .before .enum-told2 .given .1)))
+
+pub test-record-spec : {M : Type 1} → statement M
+test-record-spec =
+    tie.close
+    (tie.spec
+    read-requires
+    enum-known-kind
+    shape-of-requires
+    failed-requires
+    returns
+    misplaced-requires
+    failed-requires-2
+    returns-2
+    body-requires
+    test-body-requires
+    enum-told
+    failed-requires-3
+    enum-told-2
+    failed-requires-4
+    returns-3
+    returns-4
+    returns-5)

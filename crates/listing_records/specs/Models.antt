@@ -1,0 +1,96 @@
+-- What the structs of the code mean in the definitions.
+use Prim.Native.Nat.{ℕ, zero, suc, _/_, _%_, _≤_, _<_}
+use mathlib.Core.Path.{_≡_}
+use mathlib.Core.Bool.{Bool, true, false, cond}
+use mathlib.Core.List.{List, [], _∷_}
+use lib.ListN.{length, getD, take}
+use lib.Dec.{leb, eqb}
+use Rattle.meaning.specs.Listing as D
+use Rattle.listing_records.specs.declared.shapes.Shape.{Shape}
+use Rattle.listing_records.specs.declared.Field.{Field}
+use Rattle.listing_records.specs.declared.Found.{Found}
+use Rattle.listing_records.specs.declared.Found.the-variants.{Record, Short, End}
+use Rattle.listing_records.specs.declared.Test.{Test}
+use Rattle.listing_records.specs.declared.Places.{Places}
+
+-- ---- shapes
+
+-- the fields by their numbers in the code, from 1 on
+abbrev pub fieldList : List D.Field
+fieldList =
+    D.Field.byte 0 0
+    ∷ D.flag
+    ∷ D.token
+    ∷ D.Field.byte 255 16
+    ∷ D.Field.local
+    ∷ D.Field.word
+    ∷ D.Field.words 2 2
+    ∷ D.Field.words 255 16
+    ∷ D.Field.tokens 8
+    ∷ []
+
+abbrev pub fieldOf : ℕ → D.Field
+fieldOf f = getD fieldList f D.Field.frame
+
+-- the fields that the digits of a number are, the last one first, at most n of them
+unfoldable pub packed : ℕ → ℕ → List D.Field
+packed zero x = []
+packed (suc n) x = cond (eqb x 0) [] (fieldOf (x % 16) ∷ packed n (x / 16))
+
+abbrev pub fieldsIn : Shape → List D.Field
+fieldsIn r = packed 4 (r .fields)
+
+-- the kinds, as the rows of the code's table stand
+abbrev pub kinds : List ℕ
+kinds = 1 ∷ 2 ∷ 10 ∷ 11 ∷ 12 ∷ 13 ∷ 14 ∷ 15 ∷ 16 ∷ 17 ∷ 18 ∷ 19 ∷ 20 ∷ 21 ∷ 22 ∷ 23 ∷ 24 ∷ 25 ∷ 26 ∷ 27 ∷ []
+
+pub record RowFor (kind r : ℕ) : Type 0 where
+  pub small : r ≤ 20
+  pub here : r < 20 → getD kinds r 0 ≡ kind
+  pub none : r ≡ 20 → D.kindInUse kind ≡ false
+  pub bare : r ≡ 20 → D.fieldsOf kind ≡ []
+
+pub record ShapeFor (kind : ℕ) (r : Shape) : Type 0 where
+  pub known : r .known ≡ D.kindInUse kind
+  pub fields : fieldsIn r ≡ D.fieldsOf kind
+
+-- the least number that a field of a fixed width may not start with
+abbrev pub limitOf : ℕ → ℕ → ℕ
+limitOf l f = getD (1 ∷ 2 ∷ 3 ∷ 256 ∷ l ∷ []) f 256
+
+-- what the tests of a field that starts these bytes say
+pub record FieldFor (l : ℕ) (f : D.Field) (b : List ℕ) (r : Field) : Type 0 where
+  pub width : r .width ≡ D.fieldWidth f b
+  pub right : D.fieldWidth f b ≤ length b → r .right ≡ D.fieldRight l f b
+  pub within : D.fieldRight l f b ≡ true → r .within ≡ D.fieldWithin f b
+
+-- ---- records
+
+abbrev pub pickRead : Bool → Found → Found → Found
+pickRead true a b = a
+pickRead false a b = b
+
+unfoldable pub readAt : List ℕ → ℕ → Found
+readAt s at =
+    pickRead (leb (length s) at) End
+    (pickRead (D.wholeAt s at) (Record (D.kindAt s at) (record { at = D.nextAt s at })) Short)
+
+-- the tests of a body: 3, 6; 0 if none of them
+unfoldable pub bodyFault : ℕ → List D.Field → List ℕ → ℕ
+bodyFault l fs b = D.unless (D.fitsBody l fs b) 3 (D.unless (D.withinLimits fs b) 6 0)
+
+pub record Tested (s : List ℕ) (l at : ℕ) (r : Test) : Type 0 where
+  pub number : r .number ≡ D.faultAt s l at
+  pub kind : r .number ≡ 0 → r .kind ≡ D.kindAt s at
+  pub next : r .number ≡ 0 → r .next ≡ D.nextAt s at
+  pub inside : r .number ≡ 0 → r .next ≤ length s
+
+abbrev pub pickPlaces : Bool → D.Places → ℕ → ℕ → D.Listed D.Places
+pickPlaces true w n at = D.Listed.read w
+pickPlaces false w n at = D.Listed.refused n at
+
+abbrev pub placesIn : Places → D.Places
+placesIn r = record { blocks = take (r .«block_count») (r .blocks); code = take (r .«code_count») (r .code) }
+
+unfoldable pub placesOf : Places → D.Listed D.Places
+placesOf r = pickPlaces (eqb (r .number) 0) (placesIn r) (r .number) (r .place)

@@ -1,0 +1,369 @@
+// The records of a listing (document 01): a cursor over the lent bytes, a record's body, the tests of a record, and where all of them start.
+pub mod shapes;
+
+use meaning::MAX_ACQUIRED;
+use meaning::MAX_BLOCKS;
+use meaning::MAX_BYTES;
+use meaning::MAX_INSTRUCTIONS;
+use meaning::MAX_LOCALS;
+use meaning::MAX_PARAMETERS;
+use meaning::MAX_RETURNS;
+use shapes::ACQUIRED;
+use shapes::FLAG;
+use shapes::LOCAL;
+use shapes::PARAMETERS;
+use shapes::RETURNS;
+use shapes::SUCCESSORS;
+use shapes::Shape;
+use shapes::TOKEN;
+use shapes::WORD;
+ghost use mathlib.Core.Path.{_≡_};
+ghost use Prim.Native.Nat.{_+_, _≤_, _<_};
+ghost use mathlib.Core.Bool.{not, Bool·beq};
+ghost use lib.Dec.{eqb};
+ghost use lib.ListN.{length, getD, take, drop};
+ghost use Rattle.meaning.specs.Lists.{all};
+ghost use Rattle.meaning.specs.Listing.{u16At, wholeAt, bodyAt, localsOf, isToken, noPlaces, placesFrom, readPlaces};
+ghost use Rattle.listing_records.specs.Models.{readAt, fieldOf, fieldsIn, limitOf, FieldFor, bodyFault, Tested, placesOf};
+
+pub struct Cursor {
+    pub at: usize,
+}
+
+// What stands at a cursor.
+pub enum Found {
+    // A whole record; the next one starts at `next`.
+    Record { kind: u16, next: Cursor },
+    // A record that ends too early.
+    Short,
+    // Nothing.
+    End,
+}
+
+// A byte, 0 past the end.
+pub fn byte_at(s: &[u8], i: usize) -> u8
+    ensures { λ r. ⌜ r ≡ getD (now (s .entry)) i 0 ⌝ }
+{
+    if i < s.len() { s[i] } else { 0 }
+}
+
+fn wide(b: u8) -> u16
+    ensures { λ r. ⌜ r ≡ b ⌝ }
+{
+    b as u16
+}
+
+// A place as an index.
+pub fn place(p: u16) -> usize
+    ensures { λ r. ⌜ (r ≡ p) × (r < 65536) ⌝ }
+{
+    p as usize
+}
+
+// Two bytes that are there, little-endian.
+fn u16_in(s: &[u8], i: usize) -> u16
+    requires { ⌜ i + 2 ≤ length (now s) ⌝ }
+    ensures { λ r. ⌜ r ≡ u16At (now (s .entry)) i ⌝ }
+{
+    wide(s[i]) + 256 * wide(s[i + 1])
+}
+
+// Two bytes, little-endian; 0 for those past the end.
+pub fn u16_at(s: &[u8], i: usize) -> u16
+    ensures { λ r. ⌜ r ≡ u16At (now (s .entry)) i ⌝ }
+{
+    if s.len() <= i {
+        return 0;
+    }
+    if s.len() - i == 1 {
+        return wide(s[i]);
+    }
+    u16_in(s, i)
+}
+
+// That no record at this place ends too early.
+fn whole_at(s: &[u8], at: usize) -> bool
+    ensures { λ r. ⌜ r ≡ wholeAt (now (s .entry)) at ⌝ }
+{
+    if s.len() <= at {
+        return false;
+    }
+    let left = s.len() - at;
+    if left < 4 {
+        return false;
+    }
+    let len = u16_in(s, at) as usize;
+    4 + len <= left
+}
+
+pub fn read(s: &[u8], c: Cursor) -> Found
+    ensures { λ r. ⌜ r ≡ readAt (now (s .entry)) (c .at) ⌝ }
+{
+    let at = c.at;
+    if s.len() <= at {
+        return Found::End;
+    }
+    if whole_at(s, at) {
+        let kind = u16_in(s, at + 2);
+        let next = at + 4 + u16_in(s, at) as usize;
+        Found::Record {
+            kind,
+            next: Cursor { at: next },
+        }
+    } else {
+        Found::Short
+    }
+}
+
+// The body of the record at a cursor, as a part of the caller's bytes; none, if no whole record stands there.
+pub fn body<'a>(s: &'a [u8], c: Cursor) -> &'a [u8]
+    ensures { λ r. ⌜ now r ≡ bodyAt (now (s .entry)) (c .at) ⌝ }
+{
+    let at = c.at;
+    if whole_at(s, at) {
+        let start = at + 4;
+        let end = start + u16_at(s, at) as usize;
+        &s[start..end]
+    } else {
+        &s[..0]
+    }
+}
+
+// ---- the tests of a body
+
+fn tokens_only(b: &[u8]) -> bool
+    ensures { λ r. ⌜ r ≡ all isToken (now (b .entry)) ⌝ }
+{
+    let mut i = 0;
+    while i < b.len() {
+        if 2 < b[i] {
+            return false;
+        }
+        i += 1;
+    }
+    true
+}
+
+// That the n bytes from a place on are there, and are tokens.
+fn tokens_from(b: &[u8], i: usize, n: usize) -> bool
+    requires { ⌜ i + n ≤ 65536 ⌝ }
+    ensures { λ r. ⌜ (i + n ≤ length (now (b .entry)) → r ≡ all isToken (take n (drop i (now (b .entry))))) ⌝ }
+{
+    let end = i + n;
+    if b.len() < end {
+        return false;
+    }
+    tokens_only(&b[i..end])
+}
+
+// The least number that a field of a fixed width may not start with.
+fn limit_of(f: u16, locals: u8) -> u16
+    ensures { λ r. ⌜ r ≡ limitOf locals f ⌝ }
+{
+    if f == LOCAL {
+        wide(locals)
+    } else if f < PARAMETERS {
+        f + 1
+    } else {
+        256
+    }
+}
+
+// How many bytes a field takes; if it does not run past the end, that it holds what it may (else refusal 3); and if it does hold that,
+// that it is within the limits (else refusal 6).
+struct Field {
+    width: usize,
+    right: bool,
+    within: bool,
+}
+
+// The field that starts these bytes. One of a fixed width is tested without a jump; WORD, of two bytes, is the last of them.
+fn test_field(b: &[u8], f: u16, locals: u8) -> Field
+    requires { ⌜ 0 < length (now b) ⌝ }
+    ensures { λ r. ⌜ FieldFor locals (fieldOf f) (now (b .entry)) r ⌝ }
+{
+    let first = b[0];
+    if f <= WORD {
+        return Field {
+            width: 1 + (f / WORD) as usize,
+            right: wide(first) < limit_of(f, locals),
+            within: (f != PARAMETERS) | (first <= MAX_PARAMETERS),
+        };
+    }
+    let n = first as usize;
+    match f {
+        SUCCESSORS => Field {
+            width: 1 + 2 * n,
+            right: first <= 2,
+            within: true,
+        },
+        ACQUIRED => Field {
+            width: 1 + 2 * n,
+            right: true,
+            within: first <= MAX_ACQUIRED,
+        },
+        RETURNS => Field {
+            width: 1 + n,
+            right: tokens_from(b, 1, n),
+            within: first <= MAX_RETURNS,
+        },
+        _ => Field {
+            width: 2 + n,
+            right: (first <= byte_at(b, 1)) & tokens_from(b, 2, n),
+            within: byte_at(b, 1) <= MAX_LOCALS,
+        },
+    }
+}
+
+// A body against its shape: 3, 6, or 0.
+fn test_body(b: &[u8], shape: Shape, locals: u8) -> u8
+    ensures { λ r. ⌜ r ≡ bodyFault locals (fieldsIn shape) (now (b .entry)) ⌝ }
+{
+    let mut fields = shape.fields;
+    let mut within = true;
+    let mut i = 0;
+    while fields != 0 {
+        let rest = &b[i..];
+        if rest.len() == 0 {
+            return 3;
+        }
+        let t = test_field(rest, fields % 16, locals);
+        if (rest.len() < t.width) | !t.right {
+            return 3;
+        }
+        within = within & t.within;
+        i += t.width;
+        fields = fields / 16;
+    }
+    if i < b.len() {
+        return 3;
+    }
+    if within { 0 } else { 6 }
+}
+
+// ---- the tests of a record
+
+// `number` is 1, 2, 4, 3, 6, or 0 where none of these tests fails; then `kind` and `next` are the record's.
+pub struct Test {
+    pub number: u8,
+    pub kind: u16,
+    pub next: usize,
+}
+
+fn failed(number: u8) -> Test
+    ensures { λ r. ⌜ r .number ≡ number ⌝ }
+{
+    Test {
+        number,
+        kind: 0,
+        next: 0,
+    }
+}
+
+// The first record is of kind 1, and no other.
+fn misplaced(kind: u16, at: usize) -> bool
+    ensures { λ r. ⌜ r ≡ not (Bool·beq (eqb kind 1) (eqb at 0)) ⌝ }
+{
+    if at == 0 { kind != 1 } else { kind == 1 }
+}
+
+pub fn test_record(s: &[u8], at: usize, locals: u8) -> Test
+    ensures { λ r. ⌜ Tested (now (s .entry)) locals at r ⌝ }
+{
+    match read(s, Cursor { at }) {
+        Found::Record { kind, next } => {
+            let shape = shapes::shape_of(kind);
+            if !shape.known {
+                return failed(2);
+            }
+            if misplaced(kind, at) {
+                return failed(4);
+            }
+            Test {
+                number: test_body(body(s, Cursor { at }), shape, locals),
+                kind,
+                next: next.at,
+            }
+        }
+        Found::Short => failed(1),
+        Found::End => failed(1),
+    }
+}
+
+// ---- all records
+
+// Where the block records and the instruction records start, or a refusal with its number and place (number 0: none).
+pub struct Places {
+    pub number: u8,
+    pub place: usize,
+    pub blocks: [u16; 16],
+    pub block_count: usize,
+    pub code: [u16; 512],
+    pub code_count: usize,
+}
+
+fn refused_at(number: u8, place: usize) -> Places
+    ensures { λ r. ⌜ (r .number ≡ number) × (r .place ≡ place) × (r .«block_count» ≡ 0) × (r .«code_count» ≡ 0) ⌝ }
+{
+    Places {
+        number,
+        place,
+        blocks: [0u16; 16],
+        block_count: 0,
+        code: [0u16; 512],
+        code_count: 0,
+    }
+}
+
+fn read_records(s: &[u8], locals: u8) -> Places
+    requires { ⌜ (length (now s) ≤ 65536) × (locals ≡ localsOf (bodyAt (now s) 0)) ⌝ }
+    ensures { λ r. ⌜ (placesOf r ≡ placesFrom (length (now (s .entry))) (now (s .entry)) 0 noPlaces) × (r .«block_count» ≤ 16) × (r .«code_count» ≤ 512) ⌝ }
+{
+    let mut blocks = [0u16; 16];
+    let mut block_count: usize = 0;
+    let mut code = [0u16; 512];
+    let mut code_count: usize = 0;
+    let mut at: usize = 0;
+    while at < s.len() {
+        let t = test_record(s, at, locals);
+        if t.number != 0 {
+            return refused_at(t.number, at);
+        }
+        if t.kind == 2 {
+            if MAX_BLOCKS <= block_count {
+                return refused_at(6, at);
+            }
+            blocks[block_count] = at as u16;
+            block_count += 1;
+        } else if t.kind != 1 {
+            if MAX_INSTRUCTIONS <= code_count {
+                return refused_at(6, at);
+            }
+            code[code_count] = at as u16;
+            code_count += 1;
+        }
+        at = t.next;
+    }
+    Places {
+        number: 0,
+        place: 0,
+        blocks,
+        block_count,
+        code,
+        code_count,
+    }
+}
+
+// Every byte string gets the places of its records, or the refusal and the place of document 01: its length, no byte, then record by record.
+pub fn read_places(s: &[u8]) -> Places
+    ensures { λ r. ⌜ (placesOf r ≡ readPlaces (now (s .entry))) × (r .«block_count» ≤ 16) × (r .«code_count» ≤ 512) ⌝ }
+{
+    if MAX_BYTES < s.len() {
+        return refused_at(6, MAX_BYTES);
+    }
+    if s.len() == 0 {
+        return refused_at(1, 0);
+    }
+    let head = body(s, Cursor { at: 0 });
+    read_records(s, byte_at(head, 1))
+}

@@ -1,0 +1,195 @@
+-- Abstract states and their join (abstract_state.rs).
+-- Names changed together, and the end of a block: each local's reference takes the local's index for its name.
+use Prim.Native.Nat.{ℕ, _+_, zero, suc}
+use mathlib.Core.Bool.{Bool, true, false, _&&_, Bool·beq, not, cond, _||_}
+use mathlib.Core.List.{List, [], _∷_, _++_}
+use mathlib.Core.Logic.{_⊎_}
+use mathlib.Core.Path.{_≡_}
+use lib.Dec.{eqb, ltb}
+use lib.ListN.{length, getD}
+use Rattle.meaning.specs.Answers.{Ans, ok, refuse, andThen, guard}
+use Rattle.meaning.specs.Lists.{any}
+use Rattle.meaning.specs.References.{Edge, eqEdge, EdgeSet}
+use Rattle.meaning.specs.BorrowGraph.{Graph, release, joinGraphs, setAt, onPairs, held, wellFormed, Name, renamed}
+
+-- ---- values
+
+-- the Rust's AbstractValue
+pub data Operand : Type 0 where
+  nonRef : Operand
+  reference : ℕ → Operand
+
+-- 0 a value, 1 a reference, 2 a mutable reference
+pub data Token : Type 0 where
+  ofValue : Token
+  ofRef : Bool → Token
+
+pub data Local : Type 0 where
+  absent value : Local
+  ref : ℕ → Local
+
+pub record State : Type 0 where
+  pub locals : List Local
+  pub graph : Graph
+
+pub record Step : Type 0 where
+  pub local : Local
+  pub ours : Graph
+  pub theirs : Graph
+
+unfoldable pub joinLocal : Local → Local → Graph → Graph → Ans Step
+unfolding release
+joinLocal absent absent g h = ok (record { local = absent; ours = g; theirs = h })
+joinLocal absent value g h = ok (record { local = absent; ours = g; theirs = h })
+joinLocal absent (ref n) g h = andThen (release h n) (λ h′. ok (record { local = absent; ours = g; theirs = h′ }))
+joinLocal value absent g h = ok (record { local = absent; ours = g; theirs = h })
+joinLocal (ref n) absent g h = andThen (release g n) (λ g′. ok (record { local = absent; ours = g′; theirs = h }))
+joinLocal value value g h = ok (record { local = value; ours = g; theirs = h })
+joinLocal value (ref n) g h = refuse 15
+joinLocal (ref n) value g h = refuse 15
+joinLocal (ref n) (ref m) g h = guard (eqb n m) 15 (ok (record { local = ref n; ours = g; theirs = h }))
+
+pub record Parts : Type 0 where
+  pub locals : List Local
+  pub ours : Graph
+  pub theirs : Graph
+
+-- local by local, ascending; a name that one side lacks is released from the other
+unfoldable pub joinLocals : List Local → List Local → Graph → Graph → Ans Parts
+unfolding joinLocal
+joinLocals [] [] g h = ok (record { locals = []; ours = g; theirs = h })
+joinLocals [] (b ∷ bs) g h = refuse 9
+joinLocals (a ∷ as′) [] g h = refuse 9
+joinLocals (a ∷ as′) (b ∷ bs) g h =
+    andThen (joinLocal a b g h) (λ s.
+    andThen (joinLocals as′ bs (s .ours) (s .theirs)) (λ r.
+    ok (record { locals = s .local ∷ r .locals; ours = r .ours; theirs = r .theirs })))
+
+unfoldable pub join : State → State → Ans State
+unfolding joinLocals joinGraphs
+join s o =
+    andThen (joinLocals (s .locals) (o .locals) (s .graph) (o .graph)) (λ r.
+    andThen (joinGraphs (r .ours) (r .theirs)) (λ g.
+    ok (record { locals = r .locals; graph = g })))
+
+-- ---- what a join changed
+
+abbrev pub eqLocal : Local → Local → Bool
+eqLocal absent absent = true
+eqLocal absent value = false
+eqLocal absent (ref n) = false
+eqLocal value absent = false
+eqLocal value value = true
+eqLocal value (ref n) = false
+eqLocal (ref m) absent = false
+eqLocal (ref m) value = false
+eqLocal (ref m) (ref n) = eqb m n
+
+unfoldable pub eqLocals : List Local → List Local → Bool
+eqLocals [] [] = true
+eqLocals [] (b ∷ bs) = false
+eqLocals (a ∷ as′) [] = false
+eqLocals (a ∷ as′) (b ∷ bs) = eqLocal a b && eqLocals as′ bs
+
+unfoldable pub eqEdges : List Edge → List Edge → Bool
+unfolding eqEdge
+eqEdges [] [] = true
+eqEdges [] (y ∷ ys) = false
+eqEdges (x ∷ xs) [] = false
+eqEdges (x ∷ xs) (y ∷ ys) = eqEdge x y && eqEdges xs ys
+
+unfoldable pub eqSet : EdgeSet → EdgeSet → Bool
+unfolding eqEdges
+eqSet s t = Bool·beq (s .blurred) (t .blurred) && eqEdges (s .edges) (t .edges)
+
+-- The two graphs have the same set for each pair of names that is a pair of either's edges. (Any other pair has the empty set in both.)
+unfoldable pub eqSets : Graph → Graph → Bool
+unfolding eqSet setAt
+eqSets g h = onPairs (λ p c. eqSet (setAt p c (g .edges)) (setAt p c (h .edges))) (g .edges ++ h .edges)
+
+unfoldable pub changed : State → State → Bool
+unfolding eqLocals eqSets
+changed s t = not (eqLocals (s .locals) (t .locals) && eqSets (s .graph) (t .graph))
+
+-- ---- the form of the kept states
+
+pub record Form (l : ℕ) (s : State) : Type 0 where
+  pub count : length (s .locals) ≡ l
+  pub own : (i n : ℕ) → getD (s .locals) i absent ≡ ref n → n ≡ i
+  pub formed : wellFormed (s .graph) ≡ true
+  pub among : (n : ℕ) → held (s .graph) n ≡ true → (n ≡ l) ⊎ (getD (s .locals) n absent ≡ ref n)
+  pub noRoot : onPairs (λ p c. not (eqb c l)) (s .graph .edges) ≡ true
+
+-- ---- lists of joins
+
+abbrev pub count1 : Bool → ℕ
+count1 true = 1
+count1 false = 0
+
+-- the state after a join: after a refused one, the state that it got
+abbrev pub kept : State → Ans State → State
+kept s (ok t) = t
+kept s (refuse n) = s
+
+abbrev pub did : State → Ans State → ℕ
+did s (ok t) = count1 (changed s t)
+did s (refuse n) = 0
+
+-- how many of a list of joins change the state
+unfoldable pub changes : State → List State → ℕ
+unfolding join changed
+changes s [] = 0
+changes s (o ∷ os) = did s (join s o) + changes (kept s (join s o)) os
+
+-- ---- the first state: the parameters present, no edges (AbstractState::new)
+
+-- n locals from index i on; a parameter's reference is named by its index
+unfoldable pub firstLocals : ℕ → ℕ → List Token → List Local
+firstLocals i zero ts = []
+firstLocals i (suc n) [] = absent ∷ firstLocals (suc i) n []
+firstLocals i (suc n) (ofValue ∷ ts) = value ∷ firstLocals (suc i) n ts
+firstLocals i (suc n) (ofRef m ∷ ts) = ref i ∷ firstLocals (suc i) n ts
+
+-- their names, and last the root's
+unfoldable pub firstNames : ℕ → ℕ → List Token → List Name
+firstNames i zero ts = record { id = i; mutable = true } ∷ []
+firstNames i (suc n) [] = firstNames (suc i) n []
+firstNames i (suc n) (ofValue ∷ ts) = firstNames (suc i) n ts
+firstNames i (suc n) (ofRef m ∷ ts) = record { id = i; mutable = m } ∷ firstNames (suc i) n ts
+
+unfoldable pub firstState : ℕ → List Token → State
+unfolding firstLocals firstNames
+firstState l ts = record { locals = firstLocals 0 l ts; graph = record { names = firstNames 0 l ts; edges = [] } }
+
+-- the index of the first local that holds the name, counted from i; d if there is none
+unfoldable pub localHolding : ℕ → ℕ → ℕ → List Local → ℕ
+localHolding d n i [] = d
+localHolding d n i (x ∷ xs) = cond (eqLocal x (ref n)) i (localHolding d n (suc i) xs)
+
+-- the root keeps its name
+unfoldable pub newNameOf : ℕ → List Local → ℕ → ℕ
+unfolding localHolding
+newNameOf l xs n = cond (eqb n l) l (localHolding n n 0 xs)
+
+unfoldable pub ownNames : ℕ → List Local → List Local
+ownNames i [] = []
+ownNames i (absent ∷ xs) = absent ∷ ownNames (suc i) xs
+ownNames i (value ∷ xs) = value ∷ ownNames (suc i) xs
+ownNames i (ref n ∷ xs) = ref i ∷ ownNames (suc i) xs
+
+-- local a holds a name below a, and some local holds name a
+abbrev pub crossed : List Local → ℕ → Local → Bool
+crossed ys a absent = false
+crossed ys a value = false
+crossed ys a (ref n) = ltb n a && any (λ y. eqLocal y (ref a)) ys
+
+unfoldable pub crosses : List Local → ℕ → List Local → Bool
+crosses ys a [] = false
+crosses ys a (x ∷ xs) = crossed ys a x || crosses ys (suc a) xs
+
+-- the end of a block with successors
+unfoldable pub canonical : ℕ → State → Ans State
+unfolding renamed newNameOf ownNames crosses
+canonical l s =
+    guard (not (crosses (s .locals) 0 (s .locals))) 16
+    (ok (record { locals = ownNames 0 (s .locals); graph = renamed (newNameOf l (s .locals)) (s .graph) }))

@@ -1,0 +1,54 @@
+use Prim.Native.Nat.{ℕ}
+use mathlib.Core.Bool.{Bool, true, false, not, _&&_}
+use lib.Dec.{eqb}
+
+-- ---- an answer: a value, or the number of a refusal
+
+pub data Ans (A : Type 0) : Type 0 where
+  ok : A → Ans A
+  refuse : ℕ → Ans A
+
+abbrev pub andThen : {A B : Type 0} → Ans A → (A → Ans B) → Ans B
+andThen (ok a) f = f a
+andThen (refuse n) f = refuse n
+
+-- the answer k where the test holds, else the refusal n
+abbrev pub guard : {A : Type 0} → Bool → ℕ → Ans A → Ans A
+guard true n k = k
+guard false n k = refuse n
+
+-- what a call leaves where it stood: its answer, or, refused, what it got
+abbrev pub leaves : {A : Type 0} → A → Ans A → A
+leaves a (ok b) = b
+leaves a (refuse n) = a
+
+-- ---- outcomes
+
+-- done; a violation's code; a refusal's number
+pub data Outcome (A : Type 0) : Type 0 where
+  done : A → Outcome A
+  violated : ℕ → Outcome A
+  refused : ℕ → Outcome A
+
+-- a refusal that a run may give: not one of the caller's, 8, 9 and 23
+abbrev pub ordinary : ℕ → Bool
+ordinary n = not (eqb n 8) && (not (eqb n 9) && not (eqb n 23))
+
+abbrev pub then : {A B : Type 0} → Outcome A → (A → Outcome B) → Outcome B
+then (done a) f = f a
+then (violated c) f = violated c
+then (refused n) f = refused n
+
+abbrev pub lift : {A : Type 0} → Ans A → Outcome A
+lift (ok a) = done a
+lift (refuse n) = refused n
+
+-- the violation c, if the test holds
+abbrev pub fails : {A : Type 0} → Bool → ℕ → Outcome A → Outcome A
+fails true c k = violated c
+fails false c k = k
+
+-- the refusal n, unless the test holds
+abbrev pub needs : {A : Type 0} → Bool → ℕ → Outcome A → Outcome A
+needs true n k = k
+needs false n k = refused n

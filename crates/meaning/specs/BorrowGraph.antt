@@ -1,0 +1,314 @@
+-- Borrow graphs (graph.rs): the names, and one list of the edges of all pairs.
+-- The other graph calls (graph.rs): a new name, a weak borrow, a strong borrow (the Rust's `factor`), and names changed together.
+-- A direct rename (`remap_refs`): document 01's test for 16, then all names changed together.
+-- What a graph answers when it is asked (graph.rs). Each look-up refuses with 9 a graph that is not well formed, and a name
+-- that it lacks.
+use Prim.Native.Nat.{ℕ, suc}
+use mathlib.Core.Bool.{Bool, _&&_, _||_, cond, not, true, false}
+use mathlib.Core.List.{List, [], _++_, _∷_, map}
+use mathlib.Core.Option.{Option, none, some}
+use lib.Dec.{eqb, ltb, leb}
+use lib.ListN.{length, drop}
+use Rattle.meaning.specs.Answers.{Ans, ok, andThen, guard}
+use Rattle.meaning.specs.Lists.{any, keep, all, each, empty}
+use Rattle.meaning.specs.References.{Edge, EdgeSet, emptySet, setOk, insert, covered, prefix}
+
+pub record Name : Type 0 where
+  pub id : ℕ
+  pub mutable : Bool
+
+-- an edge with its ends
+pub record GEdge : Type 0 where
+  pub parent : ℕ
+  pub child : ℕ
+  pub blurred : Bool
+  pub edge : Edge
+
+pub record Graph : Type 0 where
+  pub names : List Name
+  pub edges : List GEdge
+
+abbrev pub emptyGraph : Graph
+emptyGraph = record { names = []; edges = [] }
+
+unfoldable pub holds : List Name → ℕ → Bool
+holds ns n = any (λ m. eqb n (m .id)) ns
+
+abbrev pub held : Graph → ℕ → Bool
+held g n = holds (g .names) n
+
+-- ---- the set of edges between two names
+
+abbrev pub eqPair : ℕ → ℕ → ℕ → ℕ → Bool
+eqPair p c q d = eqb p q && eqb c d
+
+-- the pair (q, d) stands before the pair (p, c)
+abbrev pub ltPair : ℕ → ℕ → ℕ → ℕ → Bool
+ltPair p c q d = ltb q p || (eqb q p && ltb d c)
+
+abbrev pub union : EdgeSet → EdgeSet → EdgeSet
+union s t = record { edges = s .edges ++ t .edges; blurred = s .blurred || t .blurred }
+
+abbrev pub one : GEdge → EdgeSet
+one x = record { edges = x .edge ∷ []; blurred = x .blurred }
+
+unfoldable pub setAt : ℕ → ℕ → List GEdge → EdgeSet
+setAt p c [] = emptySet
+setAt p c (x ∷ xs) = cond (eqPair p c (x .parent) (x .child)) (union (one x) (setAt p c xs)) (setAt p c xs)
+
+abbrev pub tagged : ℕ → ℕ → Bool → List Edge → List GEdge
+tagged p c b es = map (λ e. record { parent = p; child = c; blurred = b; edge = e }) es
+
+abbrev pub isBefore : ℕ → ℕ → GEdge → Bool
+isBefore p c x = ltPair p c (x .parent) (x .child)
+
+abbrev pub isAfter : ℕ → ℕ → GEdge → Bool
+isAfter p c x = not (ltPair p c (x .parent) (x .child)) && not (eqPair p c (x .parent) (x .child))
+
+-- the list with s for the set of the pair (p, c)
+unfoldable pub setTo : ℕ → ℕ → EdgeSet → List GEdge → List GEdge
+setTo p c s xs = keep (isBefore p c) xs ++ (tagged p c (s .blurred) (s .edges) ++ keep (isAfter p c) xs)
+
+-- ---- well-formedness, as for refusal 9
+
+unfoldable pub ascending : List Name → Bool
+ascending [] = true
+ascending (n ∷ ns) = (ltb (n .id) 65536 && all (λ m. ltb (n .id) (m .id)) ns) && ascending ns
+
+abbrev pub pairOk : List Name → ℕ → ℕ → Bool
+pairOk ns p c = holds ns p && (holds ns c && not (eqb p c))
+
+abbrev pub onPairs : (ℕ → ℕ → Bool) → List GEdge → Bool
+onPairs q xs = all (λ x. q (x .parent) (x .child)) xs
+
+-- the pair of y does not stand before that of x
+abbrev pub notBefore : GEdge → GEdge → Bool
+notBefore x y = not (ltPair (x .parent) (x .child) (y .parent) (y .child))
+
+-- the pairs ascend
+unfoldable pub inOrder : List GEdge → Bool
+inOrder [] = true
+inOrder (x ∷ xs) = all (notBefore x) xs && inOrder xs
+
+unfoldable pub wellFormed : Graph → Bool
+unfolding ascending holds setAt inOrder
+wellFormed g =
+    (leb (length (g .names)) 48 && ascending (g .names))
+    && (leb (length (g .edges)) 96
+    && (onPairs (pairOk (g .names)) (g .edges) && (onPairs (λ p c. setOk (setAt p c (g .edges))) (g .edges) && inOrder (g .edges))))
+
+-- ---- operations
+
+unfoldable pub addEdge : Graph → GEdge → Ans Graph
+unfolding setAt setTo
+addEdge g x =
+    andThen (insert (setAt (x .parent) (x .child) (g .edges)) (x .edge))
+    (λ s. ok (record { names = g .names; edges = setTo (x .parent) (x .child) s (g .edges) }))
+
+unfoldable pub addAll : List GEdge → Graph → Ans Graph
+unfolding addEdge
+addAll [] g = ok g
+addAll (x ∷ xs) g = andThen (addEdge g x) (λ h. addAll xs h)
+
+-- at most 96 edges after a call
+unfoldable pub limit : Graph → Ans Graph
+limit g = guard (leb (length (g .edges)) 96) 21 (ok g)
+
+unfoldable pub splice : Edge → Edge → Edge
+splice e f = record { strong = e .strong && f .strong; path = cond (e .strong) (e .path ++ f .path) (e .path) }
+
+abbrev pub between : ℕ → Edge → ℕ → GEdge
+between p e c = record { parent = p; child = c; blurred = false; edge = e }
+
+-- parents, parent edges, children, child edges, all ascending
+unfoldable pub spliced : Graph → ℕ → List GEdge
+unfolding setAt splice
+spliced g n =
+    each (g .names) (λ p. each (setAt (p .id) n (g .edges) .edges) (λ e.
+    each (g .names) (λ c. each (setAt n (c .id) (g .edges) .edges) (λ f.
+    cond (eqb (p .id) (c .id)) [] (between (p .id) (splice e f) (c .id) ∷ [])))))
+
+unfoldable pub without : Graph → ℕ → Graph
+without g n = record {
+  names = keep (λ m. not (eqb n (m .id))) (g .names);
+  edges = keep (λ x. not (eqb n (x .parent)) && not (eqb n (x .child))) (g .edges);
+}
+
+unfoldable pub release : Graph → ℕ → Ans Graph
+unfolding wellFormed holds spliced without addAll limit
+release g n = guard (wellFormed g && held g n) 9 (andThen (addAll (spliced g n) (without g n)) limit)
+
+-- the other's edges that no edge of ours covers
+unfoldable pub unmatched : Graph → Graph → List GEdge
+unfolding setAt
+unmatched g h = keep (λ x. not (covered (setAt (x .parent) (x .child) (g .edges) .edges) (x .edge))) (h .edges)
+
+unfoldable pub sameNames : Graph → Graph → Bool
+unfolding holds
+sameNames g h = all (λ m. held h (m .id)) (g .names) && all (λ m. held g (m .id)) (h .names)
+
+unfoldable pub joinGraphs : Graph → Graph → Ans Graph
+unfolding wellFormed sameNames unmatched addAll limit
+joinGraphs g h = guard ((wellFormed g && wellFormed h) && sameNames g h) 9 (andThen (addAll (unmatched g h) g) limit)
+
+unfoldable pub putName : Name → List Name → List Name
+putName a [] = a ∷ []
+putName a (b ∷ bs) = cond (ltb (a .id) (b .id)) (a ∷ b ∷ bs) (b ∷ putName a bs)
+
+unfoldable pub newName : Graph → ℕ → Bool → Ans Graph
+unfolding wellFormed holds putName
+newName g n m =
+    guard (wellFormed g) 9
+    (guard (not (held g n)) 8
+    (guard (leb (suc (length (g .names))) 48) 23
+    (ok (record { names = putName (record { id = n; mutable = m }) (g .names); edges = g .edges }))))
+
+unfoldable pub borrowWeak : Graph → ℕ → List ℕ → ℕ → Ans Graph
+unfolding wellFormed holds addEdge limit
+borrowWeak g p path c =
+    guard (wellFormed g && pairOk (g .names) p c) 9 (andThen (addAll (between p (record { strong = false; path = path }) c ∷ []) g) limit)
+
+-- the edges of p that a strong borrow at this path moves under the child
+abbrev pub moves : ℕ → List ℕ → GEdge → Bool
+moves p path x = eqb p (x .parent) && prefix path (x .edge .path)
+
+abbrev pub shift : ℕ → List ℕ → GEdge → GEdge
+shift c path x = between c (record { strong = x .edge .strong; path = drop (length path) (x .edge .path) }) (x .child)
+
+unfoldable pub borrowStrong : Graph → ℕ → List ℕ → ℕ → Ans Graph
+unfolding wellFormed holds addAll limit prefix
+borrowStrong g p path c =
+    guard (wellFormed g && (pairOk (g .names) p c && all (λ x. not (eqb c (x .child))) (keep (moves p path) (g .edges)))) 9
+    (andThen
+    (addAll (map (shift c path) (keep (moves p path) (g .edges)) ++ (between p (record { strong = true; path = path }) c ∷ []))
+    (record { names = g .names; edges = keep (λ x. not (moves p path x)) (g .edges) }))
+    limit)
+
+unfoldable pub putEdge : GEdge → List GEdge → List GEdge
+putEdge x [] = x ∷ []
+putEdge x (y ∷ ys) = cond (notBefore x y) (x ∷ y ∷ ys) (y ∷ putEdge x ys)
+
+abbrev pub withEnds : (ℕ → ℕ) → GEdge → GEdge
+withEnds f x = record { parent = f (x .parent); child = f (x .child); blurred = x .blurred; edge = x .edge }
+
+abbrev pub withId : (ℕ → ℕ) → Name → Name
+withId f a = record { id = f (a .id); mutable = a .mutable }
+
+unfoldable pub renameEdges : (ℕ → ℕ) → List GEdge → List GEdge
+unfolding putEdge
+renameEdges f [] = []
+renameEdges f (x ∷ xs) = putEdge (withEnds f x) (renameEdges f xs)
+
+unfoldable pub renameNames : (ℕ → ℕ) → List Name → List Name
+unfolding putName
+renameNames f [] = []
+renameNames f (a ∷ ns) = putName (withId f a) (renameNames f ns)
+
+unfoldable pub renamed : (ℕ → ℕ) → Graph → Graph
+unfolding renameEdges renameNames
+renamed f g = record { names = renameNames f (g .names); edges = renameEdges f (g .edges) }
+
+pub record Change : Type 0 where
+  pub old : ℕ
+  pub new : ℕ
+
+-- the name that n gets; one that is no old name stays
+unfoldable pub nameAfter : List Change → ℕ → ℕ
+nameAfter [] n = n
+nameAfter (m ∷ ms) n = cond (eqb n (m .old)) (m .new) (nameAfter ms n)
+
+unfoldable pub isOld : List Change → ℕ → Bool
+isOld ms n = any (λ m. eqb n (m .old)) ms
+
+abbrev pub alike : Change → Change → Bool
+alike m k = eqb (m .old) (k .old) || eqb (m .new) (k .new)
+
+-- two pairs have the same old or the same new name
+unfoldable pub twice : List Change → Bool
+twice [] = false
+twice (m ∷ ms) = any (alike m) ms || twice ms
+
+-- a new name, not its own old one, is a greater old name or is held outside the old names
+abbrev pub collides : List Name → List Change → Change → Bool
+collides ns ms m = not (eqb (m .new) (m .old)) && ((isOld ms (m .new) && ltb (m .old) (m .new)) || (holds ns (m .new) && not (isOld ms (m .new))))
+
+unfoldable pub clash : List Name → List Change → Bool
+unfolding twice isOld holds
+clash ns ms = twice ms || any (collides ns ms) ms
+
+unfoldable pub remap : Graph → List Change → Ans Graph
+unfolding clash nameAfter renamed wellFormed
+remap g ms = guard (wellFormed g) 9 (guard (not (clash (g .names) ms)) 16 (ok (renamed (nameAfter ms) g)))
+
+-- ---- predicates
+
+unfoldable pub mutableIn : List Name → ℕ → Bool
+mutableIn ns n = any (λ m. eqb n (m .id) && m .mutable) ns
+
+unfoldable pub isMutable : Graph → ℕ → Bool
+unfolding mutableIn
+isMutable g n = mutableIn (g .names) n
+
+-- A path meets a label: it is empty, or its first label is this one. (No label given: any path does.)
+abbrev pub meetsLabel : Option ℕ → List ℕ → Bool
+meetsLabel none p = true
+meetsLabel (some a) [] = true
+meetsLabel (some a) (b ∷ p) = eqb a b
+
+abbrev pub emptyPath : List ℕ → Bool
+emptyPath [] = true
+emptyPath (a ∷ p) = false
+
+-- has_full_borrows: an empty-path borrow
+unfoldable pub fullyBorrowed : Graph → ℕ → Bool
+fullyBorrowed g n = any (λ x. eqb n (x .parent) && emptyPath (x .edge .path)) (g .edges)
+
+-- has_consistent_borrows
+unfoldable pub borrowed : Graph → ℕ → Option ℕ → Bool
+borrowed g n at = any (λ x. eqb n (x .parent) && meetsLabel at (x .edge .path)) (g .edges)
+
+-- has_consistent_mutable_borrows
+unfoldable pub mutablyBorrowed : Graph → ℕ → Option ℕ → Bool
+unfolding isMutable
+mutablyBorrowed g n at = any (λ x. (eqb n (x .parent) && meetsLabel at (x .edge .path)) && isMutable g (x .child)) (g .edges)
+
+abbrev pub ofName : {A : Type 0} → Graph → ℕ → A → Ans A
+ofName g n a = guard (wellFormed g && held g n) 9 (ok a)
+
+unfoldable pub containsId : Graph → ℕ → Ans Bool
+containsId g n = guard (wellFormed g) 9 (ok (held g n))
+
+unfoldable pub allRefs : Graph → Ans (List Name)
+allRefs g = guard (wellFormed g) 9 (ok (g .names))
+
+unfoldable pub mutableOf : Graph → ℕ → Ans Bool
+mutableOf g n = ofName g n (isMutable g n)
+
+-- The borrows of a name: is there an empty-path borrow; one that meets the label, if one is given, else any; and such a one
+-- with a mutable borrower.
+pub record Borrows : Type 0 where
+  pub full : Bool
+  pub consistent : Bool
+  pub mutable : Bool
+
+unfoldable pub borrowedBy : Graph → ℕ → Option ℕ → Ans Borrows
+borrowedBy g n at = ofName g n (record { full = fullyBorrowed g n; consistent = borrowed g n at; mutable = mutablyBorrowed g n at })
+
+unfoldable pub outEdges : Graph → ℕ → Ans (List GEdge)
+outEdges g n = ofName g n (keep (λ x. eqb n (x .parent)) (g .edges))
+
+unfoldable pub inEdges : Graph → ℕ → Ans (List GEdge)
+inEdges g n = ofName g n (keep (λ x. eqb n (x .child)) (g .edges))
+
+-- refused with 9 where the pair has no edge
+unfoldable pub betweenEdges : Graph → ℕ → ℕ → Ans (List GEdge)
+betweenEdges g p c =
+    guard (wellFormed g && not (empty (keep (λ x. eqPair p c (x .parent) (x .child)) (g .edges)))) 9
+    (ok (keep (λ x. eqPair p c (x .parent) (x .child)) (g .edges)))
+
+-- the first graph covers the second; 9 where it lacks a name of the second
+unfoldable pub covering : Graph → Graph → Ans Bool
+covering g h = guard ((wellFormed g && wellFormed h) && all (λ m. held g (m .id)) (h .names)) 9 (ok (empty (unmatched g h)))
+
+abbrev pub other : ℕ → Name → Bool
+other n m = not (eqb n (m .id))

@@ -1,0 +1,252 @@
+-- The place of a refusal is at most 65,536.
+use Prim.Native.Nat.{ℕ, _≤_, zero, suc, _<_, _+_, _-_}
+use native.Mathlib.Omega.{arith}
+use mathlib.Core.Bool.{Bool, true, false}
+use mathlib.Core.List.{List, [], _∷_, _++_}
+use mathlib.Core.Option.{none, Option, some}
+use mathlib.Core.Path.{_≡_, refl, sym, subst}
+use borrow.Author.Tests.{leb-false, ltb-false, ltb-true, leb-true}
+use lib.Dec.{eqb, leb, ltb}
+use lib.ListN.{getD, length, take, drop, length-take, length-drop}
+use Rattle.meaning.specs.Answers.{Ans, ok, refuse, Outcome, done, violated, refused}
+use Rattle.meaning.specs.Lists.{empty}
+use Rattle.meaning.specs.AbstractState.{State, Operand, canonical, join, changed}
+use Rattle.meaning.specs.EntryPoints.{Running}
+use Rattle.meaning.specs.Steps.{Instr, Machine, step}
+use Rattle.meaning.specs.Blocks.{Routine, runFrom, finish, settle, handOn, renamedEnd, exec, runBlock, instrsOf, startMachine}
+use Rattle.meaning.specs.Loop.{Result, Block, noBlock, Next, at, stopped, Run, Slot, Spread, spread, afterChange, afterJoin, toKept, toNext, afterBlock, turnAt, turns, blank, Verdict, accept, violation, refusal, lowest, verdictAt, verdict, run}
+use Rattle.meaning.specs.Listing.{Places, Listed, read, ifFine, ifNot, putAt, fullFor, placesFrom, faultAt, kindAt, nextAt, bodyAt, localsOf, faultyBlock, strayRet, firstOf, ruled, routineAt, afterRecords, noPlaces, readPlaces, readListing}
+use Rattle.meaning.specs.Verify.{runOf, mostVisits, verify, answerTo, areaWords}
+use Rattle.meaning.specs.Laws.Base.{decide, and-l, and-r}
+use Rattle.meaning.specs.Laws.Listing.{Ruled, accepted-promised, ruled-block, first-none-below, Accepted, accepted}
+use Rattle.meaning.specs.Laws.Promised.{promised}
+use Rattle.meaning.specs.Loop as L
+use Rattle.meaning.specs.Listing as S
+
+-- ---- the reader
+
+abbrev Below : ℕ → List ℕ → Type 0
+Below m xs = (i : ℕ) → getD xs i 0 ≤ m
+
+below-more : (m : ℕ) (xs : List ℕ) (x : ℕ) → Below m xs → x ≤ m → Below m (xs ++ (x ∷ []))
+below-more m [] x h k zero = k
+below-more m [] x h k (suc i) = omega arith
+below-more m (y ∷ xs) x h k zero = h zero
+below-more m (y ∷ xs) x h k (suc i) = below-more m xs x (λ j. h (suc j)) k i
+
+pub record LowPlaces (m : ℕ) (w : Places) : Type 0 where
+  pub blocks : Below m (w .blocks)
+  pub code : Below m (w .code)
+
+abbrev LowListed : {A : Type 0} → ℕ → (A → Type 0) → Listed A → Type 0
+LowListed m P (read a) = P a
+LowListed m P (S.refused n p) = p ≤ m
+
+low-fine : {A : Type 0} (m : ℕ) (P : A → Type 0) (x p : ℕ) (k : Listed A) → p ≤ m → LowListed m P k → LowListed m P (ifFine x p k)
+low-fine m P zero p k h l = l
+low-fine m P (suc x) p k h l = h
+
+low-not : {A : Type 0} (m : ℕ) (P : A → Type 0) (b : Bool) (n p : ℕ) (k : Listed A) → p ≤ m → (b ≡ false → LowListed m P k) → LowListed m P (ifNot b n p k)
+low-not m P true n p k h l = h
+low-not m P false n p k h l = l refl
+
+low-put : (m k p : ℕ) (w : Places) → LowPlaces m w → p ≤ m → LowPlaces m (putAt k p w)
+low-put m k p w l h =
+    decide (eqb k 1)
+    (λ e. rw e l)
+    (λ e. decide (eqb k 2)
+    (λ d. rw (e, d) (record { blocks = below-more m (w .blocks) p (l .blocks) h; code = l .code }))
+    (λ d. rw (e, d) (record { blocks = l .blocks; code = below-more m (w .code) p (l .code) h })))
+
+low-from : (f : ℕ) (s : List ℕ) (p : ℕ) (w : Places) → LowPlaces (length s) w → LowListed (length s) (LowPlaces (length s)) (placesFrom f s p w)
+unfolding placesFrom
+low-from zero s p w l = l
+low-from (suc f) s p w l =
+    decide (leb (length s) p)
+    (λ e. rw e l)
+    (λ e. let h : p < length s = leb-false _ _ e in
+    rw e
+    (low-fine (length s) _ (faultAt s (localsOf (bodyAt s 0)) p) p _ (omega (arith, h))
+    (low-not (length s) _ (fullFor (kindAt s p) w) 6 p _ (omega (arith, h)) (λ _. low-from f s (nextAt s p) (putAt (kindAt s p) p w) (low-put (length s) (kindAt s p) p w l (omega (arith, h)))))))
+
+abbrev Any : Routine → Type 0
+Any q = Unit {0}
+
+low-ruled : (m : ℕ) (w : Places) (q : Routine) → LowPlaces m w → LowListed m Any (ruled m w q)
+low-ruled m w q l =
+    let b : ℕ = firstOf (faultyBlock (length (q .code)) (q .blocks)) 0 (length (q .blocks)) in
+    let r : ℕ = firstOf (strayRet (q .code) (q .blocks)) 0 (length (q .code)) in
+    let last : Listed Routine = ifNot (ltb r (length (q .code))) 5 (getD (w .code) r 0) (read q) in
+    let blocks : Listed Routine = ifNot (ltb b (length (q .blocks))) 5 (getD (w .blocks) b 0) last in
+    low-not m Any (empty (q .blocks)) 5 m blocks (omega arith) (λ _.
+    low-not m Any (ltb b (length (q .blocks))) 5 (getD (w .blocks) b 0) last (l .blocks b) (λ _.
+    low-not m Any (ltb r (length (q .code))) 5 (getD (w .code) r 0) (read q) (l .code r) (λ _. tt)))
+
+low-after : (s : List ℕ) (x : Listed Places) → length s ≤ 65536 → LowListed (length s) (LowPlaces (length s)) x → LowListed 65536 Any (afterRecords s x)
+low-after s (read w) h l = raise (ruled (length s) w (routineAt s w)) (low-ruled (length s) w (routineAt s w) l)
+  where
+    raise : (x : Listed Routine) → LowListed (length s) Any x → LowListed 65536 Any x
+    raise (read q) k = tt
+    raise (S.refused n p) k = omega (arith, h, k)
+low-after s (S.refused n p) h l = omega (arith, h, l)
+
+none-low : (m : ℕ) → LowPlaces m noPlaces
+none-low m = record { blocks = λ i. none i; code = λ i. none i }
+  where
+    none : (i : ℕ) → getD [] i 0 ≤ m
+    none zero = omega arith
+    none (suc i) = omega arith
+
+pub low-reader : (s : List ℕ) → LowListed 65536 Any (readListing s)
+unfolding readListing readPlaces
+low-reader s =
+    decide (ltb 65536 (length s))
+    (λ e. rw e (omega arith))
+    (λ e. let h : length s ≤ 65536 = ltb-false _ _ e in
+    let rest : Listed Places = placesFrom (length s) s 0 noPlaces in
+    rw e (low-after s (ifNot (empty s) 1 0 rest) h (low-not (length s) (LowPlaces (length s)) (empty s) 1 0 rest (omega arith) (λ _. low-from (length s) s 0 noPlaces (none-low (length s))))))
+
+-- ---- a block
+
+abbrev LowResult : ℕ → Result State → Type 0
+LowResult m (Result.ended t) = Unit {0}
+LowResult m (Result.violated c o) = Unit {0}
+LowResult m (Result.refused n p) = p ≤ m
+
+module _ (returns : ℕ) (b : Block) (s : State) (m : ℕ) (exit : b .exit ≤ m) where
+  low-renamed : (a : Ans State) → LowResult m (renamedEnd (b .exit) a)
+  low-renamed (ok t) = tt
+  low-renamed (refuse n) = exit
+
+  low-hand : (es : List ℕ) (r : Running) → LowResult m (handOn b es s r)
+  low-hand [] r = tt
+  low-hand (e ∷ es) r = low-renamed (canonical (r .root) (record { locals = r .locals; graph = r .graph }))
+
+  low-finish : (r : Running) (vs : List Operand) → LowResult m (finish b s r vs)
+  low-finish r [] = low-hand (b .successors) r
+  low-finish r (v ∷ vs) = exit
+
+  low-settle : (o : ℕ) (x : Outcome Machine) (k : Machine → Result State) → o ≤ m → ((n : Machine) → LowResult m (k n)) → LowResult m (settle o x k)
+  low-settle o (done n) k h l = l n
+  low-settle o (violated c) k h l = tt
+  low-settle o (refused n) k h l = h
+
+  low-run : (is : List Instr) (o : ℕ) (n : Machine) → o + length is ≤ suc m → LowResult m (runFrom returns b s o is n)
+  unfolding runFrom
+  low-run [] o n h = low-finish (n .state) (n .stack)
+  low-run (i ∷ is) o n h = low-settle o (step returns i n) _ (omega (arith, h)) (λ x. low-run is (suc o) x (omega (arith, h)))
+
+low-exec : (q : Routine) (m i : ℕ) (s : State) → Ruled (length (q .code)) (q .blocks) i → length (q .code) ≤ m → LowResult m (exec q i s)
+unfolding exec runBlock instrsOf
+low-exec q m i s r h =
+    let b : Block = getD (q .blocks) i noBlock in
+    low-run (q .returns) b s m (omega (arith, r .inside, h)) (take (suc (b .exit - b .entry)) (drop (b .entry) (q .code))) (b .entry) (startMachine (q .locals) s)
+    (simp (length-take, length-drop) (omega (arith, r .inside, r .forth, h)))
+
+-- ---- the run
+
+abbrev LowNext : ℕ → Next → Type 0
+LowNext m (at i) = Unit {0}
+LowNext m (stopped n p) = p ≤ m
+
+module _ (ex : ℕ → State → Result State) (bs : List Block) (m : ℕ) (exits : (i : ℕ) → i < length bs → getD bs i noBlock .exit ≤ m)
+    (results : (i : ℕ) (s : State) → i < length bs → LowResult m (ex i s)) where
+  module _ (b : Block) (t : State) (exit : b .exit ≤ m) where
+    low-change : (e j : ℕ) (ss : List (Slot State)) (n : ℕ) (k : State) (x : Bool) → LowNext m (afterChange State join changed ex bs b e j ss n k x .next)
+    low-change e j ss n k true = tt
+    low-change e j ss n k false = tt
+
+    low-join : (e j : ℕ) (ss : List (Slot State)) (n : ℕ) (s : State) (x : Ans State) → LowNext m (afterJoin State join changed ex bs b e j ss n s x .next)
+    low-join e j ss n s (ok k) = low-change e j ss n k (changed s k)
+    low-join e j ss n s (refuse r) = exit
+
+    low-kept : (e j : ℕ) (ss : List (Slot State)) (n : ℕ) (x : Option State) → LowNext m (toKept State join changed ex bs b t e j ss n x .next)
+    low-kept e j ss n none = tt
+    low-kept e j ss n (some s) = low-join e j ss n s (join s t)
+
+    low-next : (e : ℕ) (ss : List (Slot State)) (x : Next) → LowNext m x → LowNext m (toNext State join changed ex bs b t e ss x .next)
+    low-next e ss (at n) l = low-kept e (L.position bs e) ss n (getD ss (L.position bs e) blank .kept)
+    low-next e ss (stopped r p) l = l
+
+    low-spread : (es : List ℕ) (a : Spread State) → LowNext m (a .next) → LowNext m (spread State join changed ex bs b t es a .next)
+    unfolding spread
+    low-spread [] a l = l
+    low-spread (e ∷ es) a l = low-spread es (toNext State join changed ex bs b t e (a .slots) (a .next)) (low-next e (a .slots) (a .next) l)
+
+  low-block : (r : Run State) (i : ℕ) (x : Result State) → i < length bs → LowResult m x → LowNext m (afterBlock State join changed ex bs r i x .next)
+  low-block r i (Result.ended t) h l = low-spread (getD bs i noBlock) t (exits i h) (getD bs i noBlock .successors) _ tt
+  low-block r i (Result.violated c o) h l = tt
+  low-block r i (Result.refused n p) h l = l
+
+  low-ran : (r : Run State) (i : ℕ) (x : Option State) → i < length bs → LowNext m (L.visitBlock State join changed ex bs r i x .next)
+  low-ran r i none h = tt
+  low-ran r i (some s) h = low-block r i (ex i s) h (results i s h)
+
+  low-at : (r : Run State) (x : Next) → r .next ≡ x → LowNext m x → LowNext m (turnAt State join changed ex bs r x .next)
+  low-at r (at i) e l =
+      decide (ltb i (length bs))
+      (λ d. rw d (low-ran r i (getD (r .slots) i blank .kept) (ltb-true _ _ d)))
+      (λ d. rw d (subst (LowNext m) (sym e) l))
+  low-at r (stopped n p) e l = subst (LowNext m) (sym e) l
+
+  low-steps : (f : ℕ) (r : Run State) → LowNext m (r .next) → LowNext m (turns State join changed ex bs f r .next)
+  unfolding turns L.turn
+  low-steps zero r l = l
+  low-steps (suc f) r l = low-steps f (turnAt State join changed ex bs r (r .next)) (low-at r (r .next) refl l)
+
+-- ---- the answer
+
+abbrev pub Low : Verdict → Type 0
+Low accept = Unit {0}
+Low (violation c o) = Unit {0}
+Low (refusal n p) = p ≤ 65536
+
+low-lowest : (bs : List Block) (ss : List (Slot State)) (e : ℕ) (v : Verdict) → Low v → Low (lowest bs ss e v)
+unfolding lowest
+low-lowest [] ss e v l = l
+low-lowest (b ∷ bs) [] e v l = l
+low-lowest (b ∷ bs) (x ∷ ss) e v l = low-lowest bs ss _ _ (one (x .status) v l)
+  where
+    one : (y : L.Status) (v : Verdict) → Low v → Low (L.lowestOf (b .entry) y e v)
+    one L.fine v l = l
+    one (L.failed c o) accept l = tt
+    one (L.failed c o) (violation d q) l = decide (ltb (b .entry) e) (λ z. rw z tt) (λ z. rw z tt)
+    one (L.failed c o) (refusal n p) l = l
+
+low-verdict : (bs : List Block) (r : Run State) → LowNext 512 (r .next) → Low (verdict bs r)
+unfolding verdict
+low-verdict bs r l = go (r .next) l
+  where
+    go : (x : Next) → LowNext 512 x → Low (verdictAt bs (r .slots) x)
+    go (at i) k = low-lowest bs (r .slots) 0 accept tt
+    go (stopped n p) k = omega (arith, k)
+
+few : (s : List ℕ) (q : Routine) → readListing s ≡ read q → length (q .code) ≤ 512
+unfolding promised
+few s q e = leb-true _ _ (and-r (leb (q .locals) 16) _ (and-l _ _ (accepted-promised s q e)))
+
+rules : (s : List ℕ) (q : Routine) → readListing s ≡ read q → (i : ℕ) → i < length (q .blocks) → Ruled (length (q .code)) (q .blocks) i
+rules s q e i h =
+    let a : Accepted s q = accepted s q e in
+    subst (λ (z : Routine). i < length (z .blocks) → Ruled (length (z .code)) (z .blocks) i) (sym (a .routine))
+    (λ k. ruled-block _ _ i (first-none-below (faultyBlock (length (routineAt s (a .places) .code)) (routineAt s (a .places) .blocks)) _ (a .fine-blocks) i k)) h
+
+low-routine : (s : List ℕ) (q : Routine) → readListing s ≡ read q → Low (verdict (q .blocks) (runOf q))
+unfolding runOf run
+low-routine s q e =
+    low-verdict (q .blocks) (runOf q)
+    (low-steps (exec q) (q .blocks) 512
+    (λ i h. let r : Ruled (length (q .code)) (q .blocks) i = rules s q e i h in omega (arith, r .inside, few s q e))
+    (λ i x h. low-exec q 512 i x (rules s q e i h) (few s q e))
+    (mostVisits q) _ tt)
+
+pub low-answer : (words : ℕ) (s : List ℕ) → Low (verify words s .verdict)
+unfolding verify
+low-answer words s =
+    decide (ltb words areaWords)
+    (λ e. rw e (omega arith))
+    (λ e. rw e (go (readListing s) refl (low-reader s)))
+  where
+    go : (x : Listed Routine) → readListing s ≡ x → LowListed 65536 Any x → Low (answerTo x .verdict)
+    go (read q) h l = low-routine s q h
+    go (S.refused n p) h l = l

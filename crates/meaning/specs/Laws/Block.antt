@@ -1,0 +1,309 @@
+-- A block's run from a state of the strong form ends in one, and is never refused with 8, 9 or 23. So the loop's theorems hold for the blocks of a routine.
+use Prim.Native.Nat.{ℕ, zero, suc, _≤_, _<_, zero-le, _+_, _*_, _-_}
+use native.Mathlib.Omega.{arith}
+use mathlib.Core.Bool.{true, false, Bool, not, _&&_, _||_, false≢true}
+use mathlib.Core.List.{List, [], _∷_}
+use mathlib.Core.Logic.{_⊎_, inl, inr, _≢_}
+use mathlib.Core.Path.{_≡_, sym, ap, refl, subst, _∙_}
+use lib.Dec.{eqb, leb, ltb}
+use lib.ListN.{getD, length, List·getD-eq-default, take, drop}
+use Rattle.meaning.specs.Answers.{ok, guard, ordinary, Outcome, Ans, refuse}
+use Rattle.meaning.specs.Lists.{all, empty}
+use Rattle.meaning.specs.BorrowGraph.{held, Graph, renamed}
+use Rattle.meaning.specs.AbstractState.{Local, absent, value, ref, count1, State, Form, canonical, crosses, newNameOf, ownNames, Operand}
+use Rattle.meaning.specs.EntryPoints.{localNames, Running}
+use Rattle.meaning.specs.Steps.{Machine, Instr, step, isRet}
+use Rattle.meaning.specs.Blocks.{startMachine, settle, renamedEnd, handOn, finish, runFrom, instrsOf, Routine, runBlock, exec}
+use Rattle.meaning.specs.Loop.{Result, Block, noBlock}
+use Rattle.meaning.specs.Laws.Base.{decide, eqb-eq, leb-le, leb-gt, eqb-self, both, eqb-no, and-l, and-r, and-i}
+use Rattle.meaning.specs.Laws.Forms.{Strong, Open}
+use Rattle.meaning.specs.Laws.Own.{times, count-no, count-le, count-yes, Owns, owns-held, owns-root, owns-once, fair}
+use Rattle.meaning.specs.Laws.Promised.{withinFrame, retsPlaced, promised}
+use Rattle.meaning.specs.Laws.Rename.{canonical-form, canonical-holds}
+use Rattle.meaning.specs.Laws.Running.{Meets, met, broke, barred}
+use Rattle.meaning.specs.Laws.State.{absent≢ref, value≢ref, ref-inj, name-le}
+use Rattle.meaning.specs.Laws.Step.{local-use, Good, Fine, good-less, step-fine, any-ret}
+
+-- ---- references in locals
+
+pub local-found : (xs : List Local) (n : ℕ) → 1 ≤ times n (localNames xs) → (i : ℕ) × (getD xs i absent ≡ ref n)
+local-found [] n h = absurd (omega arith)
+local-found (absent ∷ xs) n h = let z = local-found xs n h in (suc (z .0), z .1)
+local-found (value ∷ xs) n h = let z = local-found xs n h in (suc (z .0), z .1)
+local-found (ref k ∷ xs) n h =
+    decide (eqb n k)
+    (λ e. (zero, ap ref (sym (eqb-eq {m = n} {n = k} e))))
+    (λ e. let c : count1 (eqb n k) ≡ 0 = count-no e in let z = local-found xs n (omega arith) in (suc (z .0), z .1))
+
+-- one place only, and once only
+local-once : (xs : List Local) (n : ℕ) → ((i j : ℕ) → getD xs i absent ≡ ref n → getD xs j absent ≡ ref n → i ≡ j) → times n (localNames xs) ≤ 1
+local-once [] n h = zero-le
+local-once (absent ∷ xs) n h = local-once xs n (λ i j p q. let e : suc i ≡ suc j = h (suc i) (suc j) p q in omega arith)
+local-once (value ∷ xs) n h = local-once xs n (λ i j p q. let e : suc i ≡ suc j = h (suc i) (suc j) p q in omega arith)
+local-once (ref k ∷ xs) n h =
+    let r : times n (localNames xs) ≤ 1 = local-once xs n (λ i j p q. let e : suc i ≡ suc j = h (suc i) (suc j) p q in omega arith) in
+    decide (eqb n k)
+    (λ e. decide (leb 1 (times n (localNames xs)))
+    (λ y. let z = local-found xs n (leb-le y) in let w : 0 ≡ suc (z .0) = h zero (suc (z .0)) (ap ref (sym (eqb-eq {m = n} {n = k} e))) (z .1) in absurd (omega arith))
+    (λ y. let a : times n (localNames xs) < 1 = leb-gt {m = 1} y in let c : count1 (eqb n k) ≤ 1 = count-le (eqb n k) in omega arith))
+    (λ e. let c : count1 (eqb n k) ≡ 0 = count-no e in omega arith)
+
+local-unique : (xs : List Local) (n : ℕ) → times n (localNames xs) ≤ 1 → (i j : ℕ) → getD xs i absent ≡ ref n → getD xs j absent ≡ ref n → i ≡ j
+local-unique [] n b i j p q = absurd (absent≢ref p)
+local-unique (absent ∷ xs) n b zero j p q = absurd (absent≢ref p)
+local-unique (absent ∷ xs) n b (suc i) zero p q = absurd (absent≢ref q)
+local-unique (absent ∷ xs) n b (suc i) (suc j) p q = ap suc (local-unique xs n b i j p q)
+local-unique (value ∷ xs) n b zero j p q = absurd (value≢ref p)
+local-unique (value ∷ xs) n b (suc i) zero p q = absurd (value≢ref q)
+local-unique (value ∷ xs) n b (suc i) (suc j) p q = ap suc (local-unique xs n b i j p q)
+local-unique (ref k ∷ xs) n b zero zero p q = refl
+local-unique (ref k ∷ xs) n b zero (suc j) p q =
+    let c : count1 (eqb n k) ≡ 1 = count-yes (subst (λ (m : ℕ). eqb n m ≡ true) (sym (ref-inj p)) (eqb-self n)) in
+    let d : 1 ≤ times n (localNames xs) = local-use xs j n q in
+    absurd (omega arith)
+local-unique (ref k ∷ xs) n b (suc i) zero p q =
+    let c : count1 (eqb n k) ≡ 1 = count-yes (subst (λ (m : ℕ). eqb n m ≡ true) (sym (ref-inj q)) (eqb-self n)) in
+    let d : 1 ≤ times n (localNames xs) = local-use xs i n p in
+    absurd (omega arith)
+local-unique (ref k ∷ xs) n b (suc i) (suc j) p q = ap suc (local-unique xs n (omega arith) i j p q)
+
+-- ---- the start of a block
+
+ref-small : (l : ℕ) (s : State) → Form l s → (i n : ℕ) → getD (s .locals) i absent ≡ ref n → (n ≡ i) × (n < l)
+ref-small l s f i n e =
+    let q : n ≡ i = f .own i n e in
+    let c : length (s .locals) ≡ l = f .count in (
+      q,
+      decide (ltb i l) (λ z. let y : i < l = leb-le z in omega arith)
+          (λ z. let y : l < suc i = leb-gt {m = suc i} {n = l} z in absurd (absent≢ref (sym (List·getD-eq-default (s .locals) absent {n = i} (omega arith)) ∙ e))),
+    )
+
+pub strong-owns : (l m : ℕ) (s : State) → suc l + m ≤ 65536 → Strong l s → Owns l (s .graph) (suc l) (localNames (s .locals)) m
+strong-owns l m s b h =
+    let f : Form l s = h .form in
+    record {
+      formed = f .formed;
+      noRoot = f .noRoot;
+      counts = λ n. decide (held (s .graph) n) (λ e. yes-held f n e (f .among n e)) (λ e. not-held f n e);
+      below = λ n e. let k : n ≤ l = name-le l s f n e in omega arith;
+      left = b;
+    }
+  where
+    names : List ℕ
+    names = localNames (s .locals)
+
+    once : Form l s → (n : ℕ) → times n names ≤ 1
+    once f n = local-once (s .locals) n (λ i j p q. sym (ref-small l s f i n p .0) ∙ ref-small l s f j n q .0)
+
+    yes-held : Form l s → (n : ℕ) → held (s .graph) n ≡ true → (n ≡ l) ⊎ (getD (s .locals) n absent ≡ ref n) → times n (l ∷ names) ≡ count1 (held (s .graph) n)
+    yes-held f n e (inl q) =
+        let a : count1 (held (s .graph) n) ≡ 1 = count-yes e in
+        let c : count1 (eqb n l) ≡ 1 = count-yes (subst (λ (k : ℕ). eqb n k ≡ true) q (eqb-self n)) in
+        let d : times n names < 1 = decide (leb 1 (times n names)) (λ z. let y = local-found (s .locals) n (leb-le z) in let w : n < l = ref-small l s f (y .0) n (y .1) .1 in absurd (omega arith)) (λ z. leb-gt {m = 1} z) in
+        omega arith
+    yes-held f n e (inr q) =
+        let a : count1 (held (s .graph) n) ≡ 1 = count-yes e in
+        let w : n < l = ref-small l s f n n q .1 in
+        let c : count1 (eqb n l) ≡ 0 = count-no (eqb-no {m = n} {n = l} (λ z. omega arith)) in
+        let d : 1 ≤ times n names = local-use (s .locals) n n q in
+        let g : times n names ≤ 1 = once f n in
+        omega arith
+
+    not-held : Form l s → (n : ℕ) → held (s .graph) n ≡ false → times n (l ∷ names) ≡ count1 (held (s .graph) n)
+    not-held f n e =
+        let a : count1 (held (s .graph) n) ≡ 0 = count-no e in
+        let c : count1 (eqb n l) ≡ 0 = count-no (eqb-no {m = n} {n = l} (λ z. both (subst (λ (k : ℕ). held (s .graph) k ≡ true) (sym z) (h .root)) e)) in
+        let d : times n names < 1 = decide (leb 1 (times n names))
+        (λ z. let y = local-found (s .locals) n (leb-le z) in
+        let w : n ≡ y .0 = ref-small l s f (y .0) n (y .1) .0 in
+        absurd (both (h .refs n (subst (λ (i : ℕ). getD (s .locals) i absent ≡ ref n) (sym w) (y .1))) e)) (λ z. leb-gt {m = 1} z) in
+        omega arith
+
+start-good : (l m : ℕ) (s : State) → suc l + m ≤ 65536 → Strong l s → Good l m [] (startMachine l s .state)
+start-good l m s b h = record { count = h .form .count; keeps = record { root = refl; locals = refl; own = strong-owns l m s b h } }
+
+-- ---- the end of a block
+
+pub owns-open : (l m : ℕ) (ls : List Local) (g : Graph) (next : ℕ) → l ≤ 16 → length ls ≡ l → Owns l g next (localNames ls) m → Open l (record { locals = ls; graph = g })
+owns-open l m ls g next b c o = record { count = c; small = omega arith; formed = o .formed; among = among; noRoot = o .noRoot }
+  where
+    among : (n : ℕ) → held g n ≡ true → (n ≡ l) ⊎ ((i : ℕ) × (getD ls i absent ≡ ref n))
+    among n h =
+        let a : times n (l ∷ localNames ls) ≡ count1 (held g n) = o .counts n in
+        let d : count1 (held g n) ≡ 1 = count-yes h in
+        decide (eqb n l) (λ q. inl (eqb-eq {m = n} {n = l} q)) (λ q. let f : count1 (eqb n l) ≡ 0 = count-no q in inr (local-found ls n (omega arith)))
+
+canonical-strong : (l m : ℕ) (ls : List Local) (g : Graph) (next : ℕ) (t : State) → l ≤ 16 → length ls ≡ l → Owns l g next (localNames ls) m → canonical l (record { locals = ls; graph = g }) ≡ ok t → Strong l t
+canonical-strong l m ls g next t b c o e =
+    let s : State = record { locals = ls; graph = g } in
+    let op : Open l s = owns-open l m ls g next b c o in
+    let z = canonical-holds l s t op e (owns-root l g next (localNames ls) m o) inUse (λ i j n p q. local-unique ls n (once n) i j p q) in
+    record { form = canonical-form l s t op e; root = z .0; refs = z .1 }
+  where
+    once : (n : ℕ) → times n (localNames ls) ≤ 1
+    once n = let a : times n (l ∷ localNames ls) ≤ 1 = owns-once l g next (localNames ls) m o n in omega arith
+
+    inUse : (i n : ℕ) → getD ls i absent ≡ ref n → (n ≢ l) × (held g n ≡ true)
+    inUse i n q =
+        let u : 1 ≤ times n (localNames ls) = local-use ls i n q in
+        let a : times n (l ∷ localNames ls) ≤ 1 = owns-once l g next (localNames ls) m o n in
+        ((λ w. let d : count1 (eqb n l) ≡ 1 = count-yes (subst (λ (k : ℕ). eqb n k ≡ true) w (eqb-self n)) in omega arith), owns-held l g next (localNames ls) m o n (omega arith))
+
+canonical-fair : (l : ℕ) (s : State) → fair (canonical l s) ≡ true
+unfolding canonical
+canonical-fair l s = go (not (crosses (s .locals) 0 (s .locals))) (record { locals = ownNames 0 (s .locals); graph = renamed (newNameOf l (s .locals)) (s .graph) })
+  where
+    go : (b : Bool) (t : State) → fair (guard b 16 (ok t)) ≡ true
+    go true t = refl
+    go false t = refl
+
+-- the end state has the property; a refusal is not 8, 9 or 23
+pub data Ends (P : State → Type 0) : Result State → Type 0 where
+  ends : {t : State} → P t → Ends P (Result.ended t)
+  breaks : {c o : ℕ} → Ends P (Result.violated c o)
+  bars : {n p : ℕ} → ordinary n ≡ true → Ends P (Result.refused n p)
+
+settle-ends : {P : Machine → Type 0} {Q : State → Type 0} (o : ℕ) {a : Outcome Machine} (k : Machine → Result State) → Meets P a → ((x : Machine) → P x → Ends Q (k x)) → Ends Q (settle o a k)
+settle-ends o k (met {a} p) f = f a p
+settle-ends o k broke f = breaks
+settle-ends o k (barred e) f = bars e
+
+renamedEnd-ends : {Q : State → Type 0} (exit : ℕ) (a : Ans State) → fair a ≡ true → ((t : State) → a ≡ ok t → Q t) → Ends Q (renamedEnd exit a)
+renamedEnd-ends exit (ok t) f h = ends (h t refl)
+renamedEnd-ends exit (refuse n) f h = bars f
+
+module _ (l : ℕ) (small : l ≤ 16) (returns : ℕ) (b : Block) (s : State) (strong : Strong l s) where
+  finish-ends : (m : ℕ) (r : Running) (vs : List Operand) → Good l m vs r → Ends (Strong l) (finish b s r vs)
+  finish-ends m r (v ∷ vs) h = bars refl
+  finish-ends m r [] h = go (b .successors)
+    where
+      go : (es : List ℕ) → Ends (Strong l) (handOn b es s r)
+      go [] = ends strong
+      go (e ∷ es) = renamedEnd-ends (b .exit) (canonical (r .root) (record { locals = r .locals; graph = r .graph })) (canonical-fair (r .root) (record { locals = r .locals; graph = r .graph }))
+          (λ t q. canonical-strong l m (r .locals) (r .graph) (r .next) t small (h .count) (h .keeps .own)
+          (subst (λ (k : ℕ). canonical k (record { locals = r .locals; graph = r .graph }) ≡ ok t) (h .keeps .root) q))
+
+  -- after a return: nothing is left to do, and nobody gets a state
+  after-ret : (o : ℕ) (is : List Instr) (m : Machine) → empty is ≡ true → empty (b .successors) ≡ true → Ends (Strong l) (runFrom returns b s o is m)
+  unfolding runFrom
+  after-ret o (i ∷ is) m p q = absurd (false≢true p)
+  after-ret o [] m p q = go (m .stack) (b .successors) q
+    where
+      go₁ : (es : List ℕ) → empty es ≡ true → Ends (Strong l) (handOn b es s (m .state))
+      go₁ [] w = ends strong
+      go₁ (e ∷ es) w = absurd (false≢true w)
+
+      go : (vs : List Operand) (es : List ℕ) → empty (b .successors) ≡ true → Ends (Strong l) (finish b s (m .state) vs)
+      go [] es w = go₁ (b .successors) w
+      go (v ∷ vs) es w = bars refl
+
+  runFrom-ends : (o : ℕ) (is : List Instr) (k : ℕ) (m : Machine) → all (withinFrame l) is ≡ true → retsPlaced (b .successors) is ≡ true → Fine l k m → 17 * length is ≤ k → Ends (Strong l) (runFrom returns b s o is m)
+  unfolding runFrom retsPlaced step
+  runFrom-ends o [] k m f p h c = finish-ends k (m .state) (m .stack) (h .good)
+  runFrom-ends o (i ∷ is) k m f p h c =
+      let p₁ : not (isRet i) || (empty is && empty (b .successors)) ≡ true = and-l (not (isRet i) || (empty is && empty (b .successors))) (retsPlaced (b .successors) is) p in
+      let p₂ : retsPlaced (b .successors) is ≡ true = and-r (not (isRet i) || (empty is && empty (b .successors))) (retsPlaced (b .successors) is) p in
+      let e : length (i ∷ is) ≡ suc (length is) = refl in
+      decide (isRet i)
+      (λ q. let w : empty is && empty (b .successors) ≡ true = subst (λ (x : Bool). not x || (empty is && empty (b .successors)) ≡ true) q p₁ in
+      settle-ends o (λ n. runFrom returns b s (suc o) is n) (any-ret l small returns i q k (m .stack) (m .state) (h .good))
+      (λ n u. after-ret (suc o) is n (and-l (empty is) (empty (b .successors)) w) (and-r (empty is) (empty (b .successors)) w)))
+      (λ q. settle-ends o (λ n. runFrom returns b s (suc o) is n)
+      (step-fine l small returns i (m .stack) (17 * length is) (m .state) (and-l (withinFrame l i) (all (withinFrame l) is) f) q (good-less l small k (17 * length is + 17) (m .stack) (m .state) (h .good) (omega arith)) (h .few))
+      (λ n u. runFrom-ends (suc o) is (17 * length is) n (and-r (withinFrame l i) (all (withinFrame l) is) f) p₂ u (omega arith)))
+
+-- ---- the blocks of a routine
+
+module _ {A : Type 0} (f : A → Bool) where
+  all-take : (n : ℕ) (xs : List A) → all f xs ≡ true → all f (take n xs) ≡ true
+  all-take zero xs h = refl
+  all-take (suc n) [] h = refl
+  all-take (suc n) (x ∷ xs) h = and-i (and-l (f x) (all f xs) h) (all-take n xs (and-r (f x) (all f xs) h))
+
+  all-drop : (n : ℕ) (xs : List A) → all f xs ≡ true → all f (drop n xs) ≡ true
+  all-drop zero xs h = h
+  all-drop (suc n) [] h = refl
+  all-drop (suc n) (x ∷ xs) h = all-drop n xs (and-r (f x) (all f xs) h)
+
+  all-getD : (xs : List A) (i : ℕ) (d : A) → all f xs ≡ true → f d ≡ true → f (getD xs i d) ≡ true
+  all-getD [] i d h k = k
+  all-getD (x ∷ xs) zero d h k = and-l (f x) (all f xs) h
+  all-getD (x ∷ xs) (suc i) d h k = all-getD xs i d (and-r (f x) (all f xs) h) k
+
+module _ {A : Type 0} where
+  take-le : (n : ℕ) (xs : List A) → length (take n xs) ≤ length xs
+  take-le zero xs = zero-le
+  take-le (suc n) [] = zero-le
+  take-le (suc n) (x ∷ xs) = let h : length (take n xs) ≤ length xs = take-le n xs in omega arith
+
+  drop-le : (n : ℕ) (xs : List A) → length (drop n xs) ≤ length xs
+  drop-le zero xs = omega arith
+  drop-le (suc n) [] = zero-le
+  drop-le (suc n) (x ∷ xs) = let h : length (drop n xs) ≤ length xs = drop-le n xs in omega arith
+
+no-block : (code : List Instr) → retsPlaced (noBlock .successors) (instrsOf noBlock code) ≡ true
+unfolding retsPlaced instrsOf
+no-block [] = refl
+no-block (i ∷ is) = go (isRet i)
+  where
+    go : (x : Bool) → (not x || (true && true)) && true ≡ true
+    go true = refl
+    go false = refl
+
+-- What running a block answers: an end state of the strong form; a violation; or a refusal that is not 8, 9 or 23.
+pub exec-ends : (q : Routine) → promised q ≡ true → (i : ℕ) (s : State) → Strong (q .locals) s → Ends (Strong (q .locals)) (exec q i s)
+unfolding promised exec runBlock instrsOf
+exec-ends q h i s strong =
+    let b : Block = getD (q .blocks) i noBlock in
+    let is : List Instr = take (suc (b .exit - b .entry)) (drop (b .entry) (q .code)) in
+    let f : Block → Bool = λ c. retsPlaced (c .successors) (instrsOf c (q .code)) in
+    let x : Bool = leb (q .locals) 16 && leb (length (q .code)) 512 in
+    let y : Bool = all (withinFrame (q .locals)) (q .code) && all f (q .blocks) in
+    let h₁ : x ≡ true = and-l x y h in
+    let h₂ : y ≡ true = and-r x y h in
+    let small : q .locals ≤ 16 = leb-le (and-l (leb (q .locals) 16) (leb (length (q .code)) 512) h₁) in
+    let most : length (q .code) ≤ 512 = leb-le (and-r (leb (q .locals) 16) (leb (length (q .code)) 512) h₁) in
+    let l₁ : length is ≤ length (drop (b .entry) (q .code)) = take-le (suc (b .exit - b .entry)) (drop (b .entry) (q .code)) in
+    let l₂ : length (drop (b .entry) (q .code)) ≤ length (q .code) = drop-le (b .entry) (q .code) in
+    runFrom-ends (q .locals) small (q .returns) b s strong (b .entry) is (17 * length is) (startMachine (q .locals) s)
+    (all-take (withinFrame (q .locals)) (suc (b .exit - b .entry)) (drop (b .entry) (q .code)) (all-drop (withinFrame (q .locals)) (b .entry) (q .code) (and-l (all (withinFrame (q .locals)) (q .code)) (all f (q .blocks)) h₂)))
+    (all-getD f (q .blocks) i noBlock (and-r (all (withinFrame (q .locals)) (q .code)) (all f (q .blocks)) h₂) (no-block (q .code)))
+    (record { good = start-good (q .locals) (17 * length is) s (omega arith) strong; few = zero-le }) (omega arith)
+
+abbrev isEnded : Result State → Type 0
+isEnded (Result.ended v) = Unit {0}
+isEnded (Result.violated c o) = ⊥
+isEnded (Result.refused n o) = ⊥
+
+abbrev isRefused : Result State → Type 0
+isRefused (Result.ended v) = ⊥
+isRefused (Result.violated c o) = ⊥
+isRefused (Result.refused n o) = Unit {0}
+
+abbrev fromEnded : State → Result State → State
+fromEnded d (Result.ended v) = v
+fromEnded d (Result.violated c o) = d
+fromEnded d (Result.refused n o) = d
+
+abbrev fromRefused : ℕ → Result State → ℕ
+fromRefused d (Result.ended v) = d
+fromRefused d (Result.violated c o) = d
+fromRefused d (Result.refused n o) = n
+
+ends-at : {P : State → Type 0} {a : Result State} → Ends P a → (t : State) → a ≡ Result.ended t → P t
+ends-at {P} (ends {t} p) u e = subst P (ap (fromEnded t) e) p
+ends-at {P} breaks u e = absurd (subst isEnded (sym e) tt)
+ends-at {P} (bars w) u e = absurd (subst isEnded (sym e) tt)
+
+ends-refused : {P : State → Type 0} {a : Result State} → Ends P a → (n o : ℕ) → a ≡ Result.refused n o → ordinary n ≡ true
+ends-refused (ends p) n o e = absurd (subst isRefused (sym e) tt)
+ends-refused breaks n o e = absurd (subst isRefused (sym e) tt)
+ends-refused (bars {n = k} w) n o e = subst (λ (j : ℕ). ordinary j ≡ true) (ap (fromRefused n) e) w
+
+-- no block's run is refused with 8, 9 or 23
+pub exec-refuses : (q : Routine) → promised q ≡ true → (i : ℕ) (s : State) (n o : ℕ) → exec q i s ≡ Result.refused n o → Strong (q .locals) s → ordinary n ≡ true
+exec-refuses q h i s n o e f = ends-refused (exec-ends q h i s f) n o e
+
+-- the hypothesis of the loop's theorems
+pub exec-keeps : (q : Routine) → promised q ≡ true → (i : ℕ) (s t : State) → exec q i s ≡ Result.ended t → Strong (q .locals) s → Strong (q .locals) t
+exec-keeps q h i s t e f = ends-at (exec-ends q h i s f) t e

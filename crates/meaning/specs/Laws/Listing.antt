@@ -1,0 +1,462 @@
+-- Laws of the reading of listings: a record after another, and what holds of a listing that was read.
+use Prim.Native.Nat.{ℕ, zero, suc, _+_, _≤_, _<_, _*_, _-_}
+use native.Mathlib.Omega.{arith}
+use mathlib.Core.Bool.{true, cond, false, Bool, false≢true, Bool·beq, _&&_, not, _||_, true≢false}
+use mathlib.Core.List.{List, _∷_, [], _++_, map}
+use mathlib.Core.Logic.{_≢_}
+use mathlib.Core.Path.{_≡_, refl, ap, subst, sym, _∙_}
+use borrow.Author.Tests.{le-leb, lt-leb, ltb-false, ltb-true, not-false}
+use native.Mathlib.Nat.{not-suc-le-zero, add-suc, suc-add, le-of-suc-le-suc}
+use lib.Dec.{leb, eqb, ltb}
+use lib.ListN.{length, drop, getD, take, length-append, List·getD-eq-default, length-take, length-drop, length-map}
+use lib.Seq.{getD-drop, drop-drop, getD-take}
+use Rattle.meaning.specs.Lists.{all, any, empty}
+use Rattle.meaning.specs.Steps.{Pop, Instr, isRet}
+use Rattle.meaning.specs.Blocks.{instrsOf, Routine}
+use Rattle.meaning.specs.Loop.{Block, noBlock}
+use Rattle.meaning.specs.Listing.{kindAt, bodyAt, nextAt, localsOf, Listed, read, faultAt, Places, fullFor, putAt, ifFine, ifNot, placesFrom, unless, wholeAt, kindInUse, fieldsOf, fitsBody, withinLimits, Field, fieldWidth, fieldRight, fieldWithin, byte, word, words, tokens, frame, fieldsIn, isToken, refused, noPlaces, series, instructions, callOf, localIndex, tokenAs, instrOf, instrAt, firstOf, overlap, repeats, faultySuccessor, faultyBlock, endsBlock, strayRet, routineAt, readPlaces, afterRecords, readListing}
+use Rattle.meaning.specs.Laws.Base.{and-l, and-r, leb-le, and-i, all-append, leb-gt, eqb-eq, decide, eqb-ne}
+use Rattle.meaning.specs.Laws.Promised.{withinFrame, retsPlaced, promised}
+
+-- ---- the records in turn
+
+-- more budget than bytes changes nothing
+pub places-budget : (f g : ℕ) (s : List ℕ) (at : ℕ) (w : Places) → length s ≤ at + f → length s ≤ at + g → placesFrom f s at w ≡ placesFrom g s at w
+unfolding placesFrom
+places-budget zero zero s at w h k = refl
+places-budget zero (suc g) s at w h k = let e : leb (length s) at ≡ true = (let d : length s ≤ at = omega arith in le-leb _ _ d) in rw e
+places-budget (suc f) zero s at w h k = let e : leb (length s) at ≡ true = (let d : length s ≤ at = omega arith in le-leb _ _ d) in rw e
+places-budget (suc f) (suc g) s at w h k =
+    ap (λ (x : Listed Places). cond (leb (length s) at) (read w) (ifFine (faultAt s (localsOf (bodyAt s 0)) at) at (ifNot (fullFor (kindAt s at) w) 6 at x)))
+    (places-budget f g s (nextAt s at) (putAt (kindAt s at) at w) (omega arith) (omega arith))
+
+module _ (s : List ℕ) (at : ℕ) (w : Places) where
+  pub places-end : length s ≤ at → placesFrom (length s) s at w ≡ read w
+  unfolding placesFrom
+  places-end h = places-budget (length s) zero s at w (omega arith) (omega arith)
+
+  step : (n : ℕ) → length s ≡ n → at < n
+      → placesFrom n s at w
+      ≡ ifFine (faultAt s (localsOf (bodyAt s 0)) at) at (ifNot (fullFor (kindAt s at) w) 6 at (placesFrom (length s) s (nextAt s at) (putAt (kindAt s at) at w)))
+  unfolding placesFrom
+  step zero e h = absurd (not-suc-le-zero h)
+  step (suc n) e h =
+      let d : at < length s = omega arith in
+      let q : leb (length s) at ≡ false = lt-leb _ _ d in
+      rw q (ap (λ (x : Listed Places). ifFine (faultAt s (localsOf (bodyAt s 0)) at) at (ifNot (fullFor (kindAt s at) w) 6 at x))
+      (places-budget n (length s) s (nextAt s at) (putAt (kindAt s at) at w) (omega arith) (omega arith)))
+
+  pub places-step : at < length s
+      → placesFrom (length s) s at w
+      ≡ ifFine (faultAt s (localsOf (bodyAt s 0)) at) at (ifNot (fullFor (kindAt s at) w) 6 at (placesFrom (length s) s (nextAt s at) (putAt (kindAt s at) at w)))
+  places-step h = step (length s) refl h
+
+-- ---- a record that passed its tests
+
+unless-0 : (b : Bool) (n k : ℕ) → unless b (suc n) k ≡ 0 → (b ≡ true) × (k ≡ 0)
+unless-0 true n k e = (refl, e)
+unless-0 false n k e = absurd (omega arith)
+
+beq-true : (a b : Bool) → Bool·beq a b ≡ true → a ≡ b
+beq-true true true e = refl
+beq-true true false e = absurd (false≢true e)
+beq-true false true e = absurd (false≢true e)
+beq-true false false e = refl
+
+pub record Passed (s : List ℕ) (l at : ℕ) : Type 0 where
+  pub whole : wholeAt s at ≡ true
+  pub kind : kindInUse (kindAt s at) ≡ true
+  pub first : eqb (kindAt s at) 1 ≡ eqb at 0
+  pub fits : fitsBody l (fieldsOf (kindAt s at)) (bodyAt s at) ≡ true
+  pub within : withinLimits (fieldsOf (kindAt s at)) (bodyAt s at) ≡ true
+
+pub passed : (s : List ℕ) (l at : ℕ) → faultAt s l at ≡ 0 → Passed s l at
+unfolding faultAt
+passed s l at e =
+    let a = unless-0 (wholeAt s at) 0 _ e in
+    let b = unless-0 (kindInUse (kindAt s at)) 1 _ (a .1) in
+    let c = unless-0 (Bool·beq (eqb (kindAt s at) 1) (eqb at 0)) 3 _ (b .1) in
+    let d = unless-0 (fitsBody l (fieldsOf (kindAt s at)) (bodyAt s at)) 2 _ (c .1) in
+    let g = unless-0 (withinLimits (fieldsOf (kindAt s at)) (bodyAt s at)) 5 _ (d .1) in
+    record { whole = a .0; kind = b .0; first = beq-true (eqb (kindAt s at) 1) (eqb at 0) (c .0); fits = d .0; within = g .0 }
+
+-- a field after another
+pub fits-cons : (l : ℕ) (f : Field) (fs : List Field) (b : List ℕ) → fitsBody l (f ∷ fs) b ≡ true
+    → (fieldWidth f b ≤ length b) × (fieldRight l f b ≡ true) × (fitsBody l fs (drop (fieldWidth f b) b) ≡ true)
+unfolding fitsBody
+fits-cons l f fs b e =
+    let x : Bool = leb (fieldWidth f b) (length b) in
+    let y : Bool = fieldRight l f b in
+    let z : Bool = fitsBody l fs (drop (fieldWidth f b) b) in
+    (leb-le (and-l x (y && z) e), and-l y z (and-r x (y && z) e), and-r y z (and-r x (y && z) e))
+
+pub within-cons : (f : Field) (fs : List Field) (b : List ℕ) → withinLimits (f ∷ fs) b ≡ true
+    → (fieldWithin f b ≡ true) × (withinLimits fs (drop (fieldWidth f b) b) ≡ true)
+unfolding withinLimits
+within-cons f fs b e =
+    (and-l (fieldWithin f b) (withinLimits fs (drop (fieldWidth f b) b)) e, and-r (fieldWithin f b) (withinLimits fs (drop (fieldWidth f b) b)) e)
+
+module _ (s : List ℕ) (l at : ℕ) (p : Passed s l at) where
+  -- a block has at most two successors
+  pub two-successors : kindAt s at ≡ 2 → getD (bodyAt s at) 4 0 ≤ 2
+  unfolding fieldsOf fieldsIn
+  two-successors k =
+      let b : List ℕ = bodyAt s at in
+      let f : fitsBody l (word ∷ word ∷ words 2 2 ∷ []) b ≡ true = (rw k at (p .fits)) in
+      let g = fits-cons l word (word ∷ words 2 2 ∷ []) b f .2 in
+      let h = fits-cons l word (words 2 2 ∷ []) (drop 2 b) g .2 in
+      let r : leb (getD (drop 2 (drop 2 b)) 0 0) 2 ≡ true = fits-cons l (words 2 2) [] (drop 2 (drop 2 b)) h .1 in
+      leb-le (rw (drop-drop 2 2 b, getD-drop 4 b 0 0) at r)
+
+  -- a call is within the limits
+  pub call-limits : kindAt s at ≡ 22 → (getD (bodyAt s at) 1 0 ≤ 16) × (getD (bodyAt s at) (2 + 2 * getD (bodyAt s at) 1 0) 0 ≤ 8)
+  unfolding fieldsOf fieldsIn
+  call-limits k =
+      let b : List ℕ = bodyAt s at in
+      let n : ℕ = getD b 1 0 in
+      let f : withinLimits (byte 255 16 ∷ words 255 16 ∷ tokens 8 ∷ []) b ≡ true = (rw k at (p .within)) in
+      let g = within-cons (byte 255 16) (words 255 16 ∷ tokens 8 ∷ []) b f .1 in
+      let x : leb (getD (drop 1 b) 0 0) 16 ≡ true = within-cons (words 255 16) (tokens 8 ∷ []) (drop 1 b) g .0 in
+      let h = within-cons (words 255 16) (tokens 8 ∷ []) (drop 1 b) g .1 in
+      let y : leb (getD (drop (1 + 2 * getD (drop 1 b) 0 0) (drop 1 b)) 0 0) 8 ≡ true = within-cons (tokens 8) [] (drop (1 + 2 * getD (drop 1 b) 0 0) (drop 1 b)) h .0 in
+      let e : getD (drop 1 b) 0 0 ≡ n = getD-drop 1 b 0 0 in
+      let y′ : leb (getD b (1 + (1 + 2 * getD (drop 1 b) 0 0) + 0) 0) 8 ≡ true = (rw (drop-drop, getD-drop) at y) in
+      let z : 1 + (1 + 2 * getD (drop 1 b) 0 0) + 0 ≡ 2 + 2 * n = omega (arith, e) in
+      (leb-le (rw e at x), leb-le (rw z at y′))
+
+  -- the first record: the parameters are locals, the locals within the limit
+  pub frame-limits : kindAt s at ≡ 1 → (getD (bodyAt s at) 0 0 ≤ localsOf (bodyAt s at)) × (localsOf (bodyAt s at) ≤ 16)
+  unfolding fieldsOf fieldsIn
+  frame-limits k =
+      let b : List ℕ = bodyAt s at in
+      let f : fitsBody l (frame ∷ tokens 8 ∷ []) b ≡ true = (rw k at (p .fits)) in
+      let g : withinLimits (frame ∷ tokens 8 ∷ []) b ≡ true = (rw k at (p .within)) in
+      let x = fits-cons l frame (tokens 8 ∷ []) b f .1 in (
+        leb-le (and-l (leb (getD b 0 0) (getD b 1 0)) (all isToken (take (getD b 0 0) (drop 2 b))) x),
+        leb-le (within-cons frame (tokens 8 ∷ []) b g .0),
+      )
+
+-- ---- what holds of the places that were read
+
+abbrev pub okBlock : List ℕ → ℕ → Bool
+okBlock s p = eqb (faultAt s (localsOf (bodyAt s 0)) p) 0 && eqb (kindAt s p) 2
+
+abbrev pub okCode : List ℕ → ℕ → Bool
+okCode s p = eqb (faultAt s (localsOf (bodyAt s 0)) p) 0 && (not (eqb (kindAt s p) 1) && not (eqb (kindAt s p) 2))
+
+pub record Good (s : List ℕ) (w : Places) : Type 0 where
+  pub blocks : all (okBlock s) (w .blocks) ≡ true
+  pub code : all (okCode s) (w .code) ≡ true
+  pub few-blocks : length (w .blocks) ≤ 16
+  pub few : length (w .code) ≤ 512
+
+refused≢read : {A : Type 0} {n at : ℕ} {a : A} → refused n at ≡ read a → ⊥
+refused≢read e = let z : _≡_ {A = ℕ} 0 1 = cc in omega arith
+
+fine-read : {A : Type 0} (n at : ℕ) (k : Listed A) (a : A) → ifFine n at k ≡ read a → (n ≡ 0) × (k ≡ read a)
+fine-read zero at k a e = (refl, e)
+fine-read (suc n) at k a e = absurd (refused≢read e)
+
+not-read : {A : Type 0} (b : Bool) (n at : ℕ) (k : Listed A) (a : A) → ifNot b n at k ≡ read a → (b ≡ false) × (k ≡ read a)
+not-read true n at k a e = absurd (refused≢read e)
+not-read false n at k a e = (refl, e)
+
+pub read-inj : {A : Type 0} {a b : A} → read a ≡ read b → a ≡ b
+read-inj e = cc
+
+put-good : (s : List ℕ) (at : ℕ) (w : Places) → faultAt s (localsOf (bodyAt s 0)) at ≡ 0 → (a b : Bool) → eqb (kindAt s at) 1 ≡ a → eqb (kindAt s at) 2 ≡ b
+    → cond a false (cond b (leb 16 (length (w .blocks))) (leb 512 (length (w .code)))) ≡ false → Good s w
+    → Good s (cond a w (cond b (record { blocks = w .blocks ++ (at ∷ []); code = w .code }) (record { blocks = w .blocks; code = w .code ++ (at ∷ []) })))
+put-good s at w e true b p q h g = g
+put-good s at w e false true p q h g = record {
+  blocks = all-append (okBlock s) (w .blocks) (at ∷ []) (g .blocks) (and-i (and-i (ap (λ (n : ℕ). eqb n 0) e) q) refl);
+  code = g .code;
+  few-blocks = let l : length (w .blocks) < 16 = leb-gt h in simp length-append (omega arith);
+  few = g .few;
+}
+put-good s at w e false false p q h g = record {
+  blocks = g .blocks;
+  code = all-append (okCode s) (w .code) (at ∷ []) (g .code) (and-i (and-i (ap (λ (n : ℕ). eqb n 0) e) (and-i (ap not p) (ap not q))) refl);
+  few-blocks = g .few-blocks;
+  few = let l : length (w .code) < 512 = leb-gt h in simp length-append (omega arith);
+}
+
+go-good : (s : List ℕ) (at : ℕ) (w v : Places) (b : Bool) (k : Listed Places) → Good s w → (Good s (putAt (kindAt s at) at w) → k ≡ read v → Good s v)
+    → cond b (read w) (ifFine (faultAt s (localsOf (bodyAt s 0)) at) at (ifNot (fullFor (kindAt s at) w) 6 at k)) ≡ read v → Good s v
+go-good s at w v true k g f q = subst (Good s) (read-inj q) g
+go-good s at w v false k g f q =
+    let a = fine-read (faultAt s (localsOf (bodyAt s 0)) at) at _ v q in
+    let b = not-read (fullFor (kindAt s at) w) 6 at _ v (a .1) in
+    f (put-good s at w (a .0) (eqb (kindAt s at) 1) (eqb (kindAt s at) 2) refl refl (b .0) g) (b .1)
+
+pub places-good : (f : ℕ) (s : List ℕ) (at : ℕ) (w v : Places) → Good s w → placesFrom f s at w ≡ read v → Good s v
+unfolding placesFrom
+places-good zero s at w v g e = subst (Good s) (read-inj e) g
+places-good (suc f) s at w v g e =
+    go-good s at w v (leb (length s) at) (placesFrom f s (nextAt s at) (putAt (kindAt s at) at w)) g
+    (λ h q. places-good f s (nextAt s at) (putAt (kindAt s at) at w) v h q) e
+
+pub none-good : (s : List ℕ) → Good s noPlaces
+none-good s = record { blocks = refl; code = refl; few-blocks = omega arith; few = omega arith }
+
+-- the first record passed its tests, and is of kind 1
+pub first-passed : (s : List ℕ) (v : Places) → 0 < length s → placesFrom (length s) s 0 noPlaces ≡ read v → Passed s (localsOf (bodyAt s 0)) 0
+first-passed s v h e = passed s (localsOf (bodyAt s 0)) 0 (fine-read (faultAt s (localsOf (bodyAt s 0)) 0) 0 _ v (sym (places-step s 0 noPlaces h) ∙ e) .0)
+
+pub first-kind : (s : List ℕ) (l : ℕ) → Passed s l 0 → kindAt s 0 ≡ 1
+first-kind s l p = eqb-eq (p .first)
+
+-- ---- what holds of each number below n, shown one by one
+
+abbrev pub Every : (ℕ → Type 0) → ℕ → Type 0
+Every P zero = Unit {0}
+Every P (suc n) = Every P n × P n
+
+pub every-at : (P : ℕ → Type 0) (n : ℕ) → Every P n → (i : ℕ) → i < n → P i
+every-at P zero e i h = absurd (not-suc-le-zero h)
+every-at P (suc n) e i h =
+    decide (eqb i n)
+    (λ q. subst P (sym (eqb-eq q)) (e .1))
+    (λ q. let d : i ≢ n = eqb-ne q in every-at P n (e .0) i (omega arith))
+
+-- ---- a routine that was read meets what its run asks
+
+pub series-length : {A : Type 0} (n : ℕ) (f : ℕ → A) → length (series n f) ≡ n
+unfolding series
+series-length zero f = refl
+series-length (suc n) f = simp (length-append, series-length n f) (omega arith)
+
+-- the instructions that are no store and no call have nothing to meet
+abbrev Free : ℕ → Type 0
+Free j = (j ≡ 3 → ⊥) → (j ≡ 12 → ⊥) → (l : ℕ) (b : List ℕ) → withinFrame l (getD (instructions b) j Pop) ≡ true
+
+free : Every Free 18
+unfolding callOf
+free = ((((((((((((((((((tt, λ a c l b. refl), λ a c l b. refl), λ a c l b. refl), λ a c l b. absurd (a refl)), λ a c l b. refl), λ a c l b. refl), λ a c l b. refl), λ a c l b. refl), λ a c l b. refl), λ a c l b. refl), λ a c l b. refl), λ a c l b. refl), λ a c l b. absurd (c refl)), λ a c l b. refl), λ a c l b. refl), λ a c l b. refl), λ a c l b. refl), λ a c l b. refl)
+
+module _ (s : List ℕ) (l at : ℕ) (p : Passed s l at) where
+  store-local : kindAt s at ≡ 13 → ltb (getD (bodyAt s at) 0 0) l ≡ true
+  unfolding fieldsOf fieldsIn
+  store-local k =
+      let f : fitsBody l (localIndex ∷ []) (bodyAt s at) ≡ true = (rw k at (p .fits)) in
+      fits-cons l localIndex [] (bodyAt s at) f .1
+
+  -- a store's local is one, a call returns at most eight
+  code-fits : withinFrame l (instrAt s at) ≡ true
+  unfolding instrAt instrOf callOf
+  code-fits =
+      decide (eqb (kindAt s at) 13)
+      (λ q. let k : kindAt s at ≡ 13 = eqb-eq q in rw k (store-local k))
+      (λ q. decide (eqb (kindAt s at) 22)
+      (λ r. let k : kindAt s at ≡ 22 = eqb-eq r in
+      let n : ℕ = getD (bodyAt s at) (2 + 2 * getD (bodyAt s at) 1 0) 0 in
+      rw k (rw (series-length n (λ j. tokenAs (getD (bodyAt s at) (3 + 2 * getD (bodyAt s at) 1 0 + j) 0))) (le-leb _ _ (call-limits s l at p k .1))))
+      (λ r. decide (leb 18 (kindAt s at - 10))
+      (λ h. let g : 18 ≤ kindAt s at - 10 = leb-le h in
+      ap (withinFrame l) (List·getD-eq-default (instructions (bodyAt s at)) Pop g))
+      (λ h. let a : kindAt s at ≢ 13 = eqb-ne q in
+      let b : kindAt s at ≢ 22 = eqb-ne r in
+      every-at Free 18 free (kindAt s at - 10) (leb-gt h) (λ e. a (omega arith)) (λ e. b (omega arith)) l (bodyAt s at))))
+
+all-map : {A : Type 0} (p : ℕ → Bool) (f : A → Bool) (g : ℕ → A) → ((x : ℕ) → p x ≡ true → f (g x) ≡ true) → (xs : List ℕ) → all p xs ≡ true → all f (map g xs) ≡ true
+all-map p f g h [] e = refl
+all-map p f g h (x ∷ xs) e = and-i (h x (and-l (p x) (all p xs) e)) (all-map p f g h xs (and-r (p x) (all p xs) e))
+
+ok-fits : (s : List ℕ) (x : ℕ) → okCode s x ≡ true → withinFrame (localsOf (bodyAt s 0)) (instrAt s x) ≡ true
+ok-fits s x e =
+    code-fits s (localsOf (bodyAt s 0)) x (passed s (localsOf (bodyAt s 0)) x
+    (eqb-eq (and-l (eqb (faultAt s (localsOf (bodyAt s 0)) x) 0) (not (eqb (kindAt s x) 1) && not (eqb (kindAt s x) 2)) e)))
+
+none-go : (p : ℕ → Bool) (i n k : ℕ) → i ≤ k → (x : Bool) → p i ≡ x → (r : ℕ) → (ltb r (i + suc n) ≡ false → suc i ≤ k → p k ≡ false)
+    → ltb (cond x i r) (i + suc n) ≡ false → p k ≡ false
+none-go p i n k a true h r f q = let z : i + suc n ≤ i = ltb-false _ _ q in absurd (omega arith)
+none-go p i n k a false h r f q =
+    decide (eqb k i)
+    (λ e. subst (λ (j : ℕ). p j ≡ false) (sym (eqb-eq e)) h)
+    (λ e. let d : k ≢ i = eqb-ne e in f q (omega arith))
+
+-- no number passes the test
+first-none : (p : ℕ → Bool) (i n : ℕ) → ltb (firstOf p i n) (i + n) ≡ false → (k : ℕ) → i ≤ k → k < i + n → p k ≡ false
+unfolding firstOf
+first-none p i zero e k a b = absurd (omega arith)
+first-none p i (suc n) e k a b =
+    none-go p i n k a (p i) refl (firstOf p (suc i) n)
+    (λ q h. first-none p (suc i) n (subst (λ (m : ℕ). ltb (firstOf p (suc i) n) m ≡ false) (add-suc i n ∙ sym (suc-add i n)) q) k h (omega arith)) e
+
+pub first-none-below : (p : ℕ → Bool) (n : ℕ) → ltb (firstOf p 0 n) n ≡ false → (k : ℕ) → k < n → p k ≡ false
+first-none-below p n e k h =
+    let z : 0 + n ≡ n = omega arith in
+    first-none p 0 n (subst (λ (m : ℕ). ltb (firstOf p 0 n) m ≡ false) (sym z) e) k (omega arith) (omega arith)
+
+index-go : {A : Type 0} (p : A → Bool) (d x : A) (xs : List A) (b : Bool) → p x ≡ b → (any p xs ≡ true → (j : ℕ) × (j < length xs) × (p (getD xs j d) ≡ true))
+    → (b || any p xs) ≡ true → (j : ℕ) × (j < length (x ∷ xs)) × (p (getD (x ∷ xs) j d) ≡ true)
+index-go p d x xs true h f q = (0, omega arith, h)
+index-go p d x xs false h f q = let w = f q in (suc (w .0), omega (arith, w .1), w .2)
+
+any-index : {A : Type 0} (p : A → Bool) (d : A) (xs : List A) → any p xs ≡ true → (j : ℕ) × (j < length xs) × (p (getD xs j d) ≡ true)
+any-index p d [] e = absurd (false≢true e)
+any-index p d (x ∷ xs) e = index-go p d x xs (p x) refl (λ q. any-index p d xs q) e
+
+or-none-l : (a b : Bool) → (a || b) ≡ false → a ≡ false
+or-none-l true b e = e
+or-none-l false b e = refl
+
+or-none-r : (a b : Bool) → (a || b) ≡ false → b ≡ false
+or-none-r true b e = absurd (true≢false e)
+or-none-r false b e = e
+
+any-none : {A : Type 0} (p : A → Bool) (d : A) (xs : List A) → any p xs ≡ false → (j : ℕ) → j < length xs → p (getD xs j d) ≡ false
+any-none p d [] e j h = absurd (not-suc-le-zero h)
+any-none p d (x ∷ xs) e zero h = or-none-l (p x) (any p xs) e
+any-none p d (x ∷ xs) e (suc j) h = any-none p d xs (or-none-r (p x) (any p xs) e) j (le-of-suc-le-suc h)
+
+-- ---- a block's instructions
+
+-- what the rules of number 5 say of the block at position i
+pub record Ruled (n : ℕ) (bs : List Block) (i : ℕ) : Type 0 where
+  pub forth : getD bs i noBlock .entry ≤ getD bs i noBlock .exit
+  pub inside : getD bs i noBlock .exit < n
+  pub apart : any (overlap (getD bs i noBlock)) (take i bs) ≡ false
+
+pub ruled-block : (n : ℕ) (bs : List Block) (i : ℕ) → faultyBlock n bs i ≡ false → Ruled n bs i
+unfolding faultyBlock
+ruled-block n bs i e =
+    let b : Block = getD bs i noBlock in
+    let x1 : Bool = eqb i 0 && not (eqb (b .entry) 0) in
+    let x2 : Bool = ltb (b .exit) (b .entry) in
+    let x3 : Bool = leb n (b .exit) in
+    let x4 : Bool = any (overlap b) (take i bs) in
+    let x5 : Bool = repeats (b .successors) || any (faultySuccessor bs i b) (b .successors) in
+    let e1 : (x2 || (x3 || (x4 || x5))) ≡ false = or-none-r x1 (x2 || (x3 || (x4 || x5))) e in
+    let e2 : (x3 || (x4 || x5)) ≡ false = or-none-r x2 (x3 || (x4 || x5)) e1 in
+    record {
+      forth = ltb-false _ _ (or-none-l x2 (x3 || (x4 || x5)) e1);
+      inside = leb-gt (or-none-l x3 (x4 || x5) e2);
+      apart = or-none-l x4 x5 (or-none-r x3 (x4 || x5) e2);
+    }
+
+module _ (is : List Instr) (bs : List Block) (blocks : (i : ℕ) → i < length bs → Ruled (length is) bs i)
+    (rets : (k : ℕ) → k < length is → strayRet is bs k ≡ false) where
+  abbrev block : ℕ → Block
+  block i = getD bs i noBlock
+
+  -- two blocks share no instruction
+  apart-2 : (i j : ℕ) → j < length bs → i < j → overlap (block j) (block i) ≡ false
+  apart-2 i j h l =
+      let m : i < length (take j bs) = simp length-take (omega arith) in
+      rw (getD-take j bs i noBlock l) at (any-none (overlap (block j)) noBlock (take j bs) (blocks j h .apart) i m)
+
+  overlap-no : (b c : Block) → overlap b c ≡ false → b .entry ≤ c .exit → c .entry ≤ b .exit → ⊥
+  overlap-no b c e h k = true≢false (sym (and-i (le-leb _ _ h) (le-leb _ _ k)) ∙ e)
+
+  -- a Ret of the block at i is its exit, and the block has no successors
+  ret-last : (i k : ℕ) → i < length bs → block i .entry ≤ k → k ≤ block i .exit → isRet (getD is k Pop) ≡ true → (k ≡ block i .exit) × (empty (block i .successors) ≡ true)
+  unfolding strayRet
+  ret-last i k h a b r =
+      let w : k < length is = omega (arith, blocks i h .inside) in
+      let e : not (endsBlock bs k) ≡ false = (rw r at (rets k w)) in
+      let f : endsBlock bs k ≡ true = not-false _ e in
+      let p : Block → Bool = λ x. eqb k (x .exit) && empty (x .successors) in
+      let g = any-index p noBlock bs f in
+      let j : ℕ = g .0 in
+      let jx : k ≡ block j .exit = eqb-eq (and-l (eqb k (block j .exit)) (empty (block j .successors)) (g .2)) in
+      let je : empty (block j .successors) ≡ true = and-r (eqb k (block j .exit)) (empty (block j .successors)) (g .2) in
+      let jf : block j .entry ≤ block j .exit = blocks j (g .1) .forth in
+      decide (eqb i j)
+      (λ q. let m : i ≡ j = eqb-eq q in subst (λ (x : ℕ). (k ≡ block x .exit) × (empty (block x .successors) ≡ true)) (sym m) (jx, je))
+      (λ q. let d : i ≢ j = eqb-ne q in
+      decide (ltb i j)
+      (λ l. absurd (overlap-no (block j) (block i) (apart-2 i j (g .1) (ltb-true _ _ l)) (omega arith) (omega arith)))
+      (λ l. let m : j ≤ i = ltb-false _ _ l in
+      let n : j < i = omega arith in
+      absurd (overlap-no (block i) (block j) (apart-2 j i h n) (omega arith) (omega arith))))
+
+  placed-of : (es : List ℕ) (js : List Instr) → ((j : ℕ) → j < length js → isRet (getD js j Pop) ≡ true → (suc j ≡ length js) × (empty es ≡ true)) → retsPlaced es js ≡ true
+  unfolding retsPlaced
+  placed-of es [] f = refl
+  placed-of es (x ∷ js) f =
+      and-i (head-ok (isRet x) refl)
+      (placed-of es js (λ j h r. let w = f (suc j) (omega arith) r in (omega (arith, w .0), w .1)))
+    where
+      no-rest : (ys : List Instr) → 1 ≡ suc (length ys) → empty ys ≡ true
+      no-rest [] e = refl
+      no-rest (y ∷ ys) e = absurd (omega arith)
+
+      head-ok : (b : Bool) → isRet x ≡ b → (not b || (empty js && empty es)) ≡ true
+      head-ok true e = let w = f 0 (omega arith) e in and-i (no-rest js (w .0)) (w .1)
+      head-ok false e = refl
+
+  block-placed : (i : ℕ) → i < length bs → retsPlaced (block i .successors) (instrsOf (block i) is) ≡ true
+  unfolding instrsOf
+  block-placed i h =
+      let b : Block = block i in
+      let f : b .entry ≤ b .exit = blocks i h .forth in
+      let g : b .exit < length is = blocks i h .inside in
+      let c : length (take (suc (b .exit - b .entry)) (drop (b .entry) is)) ≡ suc (b .exit - b .entry) = simp (length-take, length-drop) (omega arith) in
+      placed-of (b .successors) (take (suc (b .exit - b .entry)) (drop (b .entry) is)) (λ j l r.
+      let m : j < suc (b .exit - b .entry) = omega arith in
+      let r′ : isRet (getD is (b .entry + j) Pop) ≡ true = (rw (getD-take (suc (b .exit - b .entry)) (drop (b .entry) is) j Pop m, getD-drop (b .entry) is j Pop) at r) in
+      let w = ret-last i (b .entry + j) h (omega arith) (omega arith) r′ in
+      (omega (arith, w .0), w .1))
+
+all-index : {A : Type 0} (p : A → Bool) (d : A) (xs : List A) → ((j : ℕ) → j < length xs → p (getD xs j d) ≡ true) → all p xs ≡ true
+all-index p d [] f = refl
+all-index p d (x ∷ xs) f = and-i (f 0 (omega arith)) (all-index p d xs (λ j h. f (suc j) (omega arith)))
+
+-- ---- a listing that was read
+
+pub record Accepted (s : List ℕ) (q : Routine) : Type 0 where
+  pub places : Places
+  pub read-so : placesFrom (length s) s 0 noPlaces ≡ read places
+  pub routine : q ≡ routineAt s places
+  pub some : 0 < length s
+  pub fine-blocks : ltb (firstOf (faultyBlock (length (routineAt s places .code)) (routineAt s places .blocks)) 0 (length (routineAt s places .blocks))) (length (routineAt s places .blocks)) ≡ false
+  pub fine-rets : ltb (firstOf (strayRet (routineAt s places .code) (routineAt s places .blocks)) 0 (length (routineAt s places .code))) (length (routineAt s places .code)) ≡ false
+
+some-bytes : (s : List ℕ) → empty s ≡ false → 0 < length s
+some-bytes [] e = absurd (true≢false e)
+some-bytes (x ∷ xs) e = omega arith
+
+-- the places were read: there are bytes, and each record passed
+pub read-places : (s : List ℕ) (v : Places) → readPlaces s ≡ read v → (0 < length s) × (placesFrom (length s) s 0 noPlaces ≡ read v)
+unfolding readPlaces
+read-places s v e =
+    let a = not-read (ltb 65536 (length s)) 6 65536 (ifNot (empty s) 1 0 (placesFrom (length s) s 0 noPlaces)) v e in
+    let b = not-read (empty s) 1 0 (placesFrom (length s) s 0 noPlaces) v (a .1) in
+    (some-bytes s (b .0), b .1)
+
+pub accepted : (s : List ℕ) (q : Routine) → readListing s ≡ read q → Accepted s q
+unfolding readListing
+accepted s q e = go (readPlaces s) refl e
+  where
+    go : (x : Listed Places) → readPlaces s ≡ x → afterRecords s x ≡ read q → Accepted s q
+    go (refused n at) h r = absurd (refused≢read r)
+    go (read v) h r =
+        let p : Routine = routineAt s v in
+        let c = not-read (empty (p .blocks)) 5 (length s) _ q r in
+        let d = not-read (ltb (firstOf (faultyBlock (length (p .code)) (p .blocks)) 0 (length (p .blocks))) (length (p .blocks))) 5 _ _ q (c .1) in
+        let f = not-read (ltb (firstOf (strayRet (p .code) (p .blocks)) 0 (length (p .code))) (length (p .code))) 5 _ _ q (d .1) in
+        let g = read-places s v h in
+        record { places = v; read-so = g .1; routine = sym (read-inj (f .1)); some = g .0; fine-blocks = d .0; fine-rets = f .0 }
+
+pub accepted-promised : (s : List ℕ) (q : Routine) → readListing s ≡ read q → promised q ≡ true
+unfolding promised
+accepted-promised s q e =
+    let a : Accepted s q = accepted s q e in
+    let v : Places = a .places in
+    let p : Routine = routineAt s v in
+    let l : ℕ = localsOf (bodyAt s 0) in
+    let g : Good s v = places-good (length s) s 0 noPlaces v (none-good s) (a .read-so) in
+    let w = first-passed s v (a .some) (a .read-so) in
+    let f = frame-limits s l 0 w (first-kind s l w) in
+    let bs : List Block = p .blocks in
+    let is : List Instr = p .code in
+    let rb : (i : ℕ) → i < length bs → Ruled (length is) bs i = λ i h. ruled-block (length is) bs i (first-none-below (faultyBlock (length is) bs) (length bs) (a .fine-blocks) i h) in
+    let rr : (k : ℕ) → k < length is → strayRet is bs k ≡ false = λ k h. first-none-below (strayRet is bs) (length is) (a .fine-rets) k h in
+    let few : length is ≤ 512 = rw (length-map (v .code) (instrAt s)) (g .few) in
+    subst (λ (r : Routine). promised r ≡ true) (sym (a .routine))
+    (and-i
+    (and-i (le-leb _ _ (f .1)) (le-leb _ _ few))
+    (and-i
+    (all-map (okCode s) (withinFrame l) (instrAt s) (ok-fits s) (v .code) (g .code))
+    (all-index (λ b. retsPlaced (b .successors) (instrsOf b is)) noBlock bs (λ j h. block-placed is bs rb rr j h))))

@@ -1,0 +1,190 @@
+-- The run of a routine: the bounds of demand 3 with no hypothesis but the reader's promise, and no refusal 8, 9 or 23.
+use Prim.Native.Nat.{ℕ, zero, suc, _+_, _*_, _≤_, _<_}
+use native.Mathlib.Omega.{arith}
+use mathlib.Core.Bool.{Bool, true, false, _&&_, cond, true≢false}
+use mathlib.Core.List.{List, [], _∷_, map}
+use mathlib.Core.Option.{Option, none, some}
+use mathlib.Core.Path.{_≡_, sym, ap, _∙_, subst}
+use lib.Dec.{leb, ltb, eqb}
+use lib.ListN.{length, getD, set}
+use lib.Seq.{getD-set-same, getD-set-other, set-out}
+use Rattle.meaning.specs.Answers.{Ans, ordinary}
+use Rattle.meaning.specs.Lists.{all}
+use Rattle.meaning.specs.AbstractState.{State, join, changed, Token, firstState}
+use Rattle.meaning.specs.Blocks.{Routine, exec, instrsOf}
+use Rattle.meaning.specs.Loop.{Result, Block, Status, fine, failed, Slot, Next, at, stopped, Run, visits, Spread, position, noBlock, blank, afterChange, afterJoin, toKept, toNext, spread, mark, afterBlock, visitBlock as runLoopBlock, turnAt, turn, turns, startSlots, run, hasEnded}
+use Rattle.meaning.specs.Laws.Base.{decide, and-l, eqb-eq, eqb-ne, leb-le, leb-gt}
+use Rattle.meaning.specs.Laws.Block.{Ends, ends, breaks, bars, exec-ends, exec-keeps}
+use Rattle.meaning.specs.Laws.First.{first-strong}
+use Rattle.meaning.specs.Laws.Forms.{Strong}
+use Rattle.meaning.specs.Laws.Join.{Sure, sure, unsure, join-sure, join-strong}
+use Rattle.meaning.specs.Laws.Promised.{promised, withinFrame, retsPlaced}
+use Rattle.meaning.specs.Laws.State.{rank, rank-le, join-law, change-lt}
+use Rattle.meaning.specs.Laws.Loop as Laws
+
+-- q: a routine that the reader accepted
+module _ (q : Routine) (p : promised q ≡ true) where
+  abbrev l : ℕ
+  l = q .locals
+
+  abbrev ts : List Token
+  ts = q .params
+
+  abbrev blocks : List Block
+  blocks = q .blocks
+
+  small : l ≤ 16
+  unfolding promised
+  small =
+      let x : Bool = leb l 16 in
+      let y : Bool = leb (length (q .code)) 512 in
+      let z : Bool = all (withinFrame l) (q .code) && all (λ b. retsPlaced (b .successors) (instrsOf b (q .code))) (q .blocks) in
+      leb-le (and-l x y (and-l (x && y) z p))
+
+  -- the run with a budget of steps
+  abbrev pub theRun : ℕ → Run State
+  theRun f = run State join changed (exec q) blocks f (firstState l ts)
+
+  -- the most that a kept state changes, and the most visits
+  abbrev pub mostChanges : ℕ
+  mostChanges = 11 * l * l + l
+
+  abbrev pub mostVisits : ℕ
+  mostVisits = length blocks * (1 + length blocks * (11 * l * l + l))
+
+  pub visits-bound : (f : ℕ) → visits (theRun f) ≤ mostVisits
+  unfolding Laws.most
+  visits-bound f =
+      Laws.run-visits State join changed (exec q) blocks (Strong l) (rank l) (11 * l * l + l) (rank-le l)
+      (join-strong l) (λ s o t e fs fo. change-lt l s o t (join-law s o t e) (fs .form) (fo .form)) (exec-keeps q p) f (firstState l ts) (first-strong l ts small)
+
+  pub run-changes-bound : (f j : ℕ) → getD (theRun f .slots) j blank .changes ≤ mostChanges
+  run-changes-bound f =
+      Laws.run-changes State join changed (exec q) blocks (Strong l) (rank l) (11 * l * l + l) (rank-le l)
+      (join-strong l) (λ s o t e fs fo. change-lt l s o t (join-law s o t e) (fs .form) (fo .form)) (exec-keeps q p) f (firstState l ts) (first-strong l ts small)
+
+  pub kept-strong : (f j : ℕ) (k : State) → getD (theRun f .slots) j blank .kept ≡ some k → Strong l k
+  kept-strong f =
+      Laws.run-form State join changed (exec q) blocks (Strong l) (rank l) (11 * l * l + l) (rank-le l)
+      (join-strong l) (λ s o t e fs fo. change-lt l s o t (join-law s o t e) (fs .form) (fo .form)) (exec-keeps q p) f (firstState l ts) (first-strong l ts small)
+
+  pub ends-itself : (f : ℕ) → mostVisits ≤ f → hasEnded State join changed (exec q) blocks (theRun f) ≡ true
+  unfolding Laws.most
+  ends-itself f =
+      Laws.run-ends State join changed (exec q) blocks (Strong l) (rank l) (11 * l * l + l) (rank-le l)
+      (join-strong l) (λ s o t e fs fo. change-lt l s o t (join-law s o t e) (fs .form) (fo .form)) (exec-keeps q p) f (firstState l ts) (first-strong l ts small)
+
+  pub same-run : (f : ℕ) → mostVisits ≤ f → theRun f ≡ theRun mostVisits
+  unfolding Laws.most
+  same-run f =
+      Laws.run-same State join changed (exec q) blocks (Strong l) (rank l) (11 * l * l + l) (rank-le l)
+      (join-strong l) (λ s o t e fs fo. change-lt l s o t (join-law s o t e) (fs .form) (fo .form)) (exec-keeps q p) f (firstState l ts) (first-strong l ts small)
+
+  steps-add : (k f : ℕ) (r : Run State) → turns State join changed (exec q) blocks (k + f) r ≡ turns State join changed (exec q) blocks f (turns State join changed (exec q) blocks k r)
+  unfolding turns
+  steps-add zero f r = let z : 0 + f ≡ f = omega arith in ap (λ (n : ℕ). turns State join changed (exec q) blocks n r) z
+  steps-add (suc k) f r = let z : suc k + f ≡ suc (k + f) = omega arith in ap (λ (n : ℕ). turns State join changed (exec q) blocks n r) z ∙ steps-add k f (turn State join changed (exec q) blocks r)
+
+  -- a run that has ended is the whole run, and one that has not has made fewer steps than the bound
+  pub settled : (k : ℕ) → hasEnded State join changed (exec q) blocks (theRun k) ≡ true → theRun k ≡ theRun mostVisits
+  unfolding run
+  settled k e =
+      let r : Run State = record { slots = startSlots State join changed (exec q) blocks blocks (firstState l ts); next = at 0; trail = [] } in
+      sym (Laws.steps-still State join changed (exec q) blocks (Strong l) (rank l) (11 * l * l + l) (rank-le l) (join-strong l) (λ s o t e fs fo. change-lt l s o t (join-law s o t e) (fs .form) (fo .form)) (exec-keeps q p) mostVisits (theRun k) e)
+      ∙ sym (steps-add k mostVisits r)
+      ∙ same-run (k + mostVisits) (omega arith)
+
+  pub unsettled : (k : ℕ) → hasEnded State join changed (exec q) blocks (theRun k) ≡ false → k < mostVisits
+  unsettled k e = decide (leb mostVisits k) (λ h. absurd (true≢false (sym (ends-itself k (leb-le h)) ∙ e))) (λ h. leb-gt h)
+
+  -- ---- the refusals of a run
+
+  abbrev KeptOk : Option State → Type 0
+  KeptOk none = Unit {0}
+  KeptOk (some s) = Strong l s
+
+  abbrev AllOk : List (Slot State) → Type 0
+  AllOk ss = (j : ℕ) → KeptOk (getD ss j blank .kept)
+
+  abbrev pub NextOk : Next → Type 0
+  NextOk (at i) = Unit {0}
+  NextOk (stopped n o) = ordinary n ≡ true
+
+  set-ok : (ss : List (Slot State)) (j : ℕ) (v : Slot State) → AllOk ss → KeptOk (v .kept) → AllOk (set ss j v)
+  set-ok ss j v a h i =
+      decide (eqb i j)
+      (λ e. decide (leb (length ss) j)
+      (λ b. subst (λ (xs : List (Slot State)). KeptOk (getD xs i blank .kept)) (sym (set-out ss j v (leb-le b))) (a i))
+      (λ b. subst (λ (k : ℕ). KeptOk (getD (set ss j v) k blank .kept)) (sym (eqb-eq {m = i} {n = j} e)) (subst (λ (x : Slot State). KeptOk (x .kept)) (sym (getD-set-same ss j v blank (leb-gt b))) h)))
+      (λ e. subst (λ (x : Slot State). KeptOk (x .kept)) (sym (getD-set-other ss j i v blank (eqb-ne {m = i} {n = j} e))) (a i))
+
+  abbrev SpreadOk : Spread State → Type 0
+  SpreadOk a = (AllOk (a .slots)) × (NextOk (a .next))
+
+  module _ (b : Block) (t : State) (ht : Strong l t) where
+    change-ok : (e j : ℕ) (ss : List (Slot State)) (n : ℕ) (k : State) (c : Bool) → AllOk ss → Strong l k → SpreadOk (afterChange State join changed (exec q) blocks b e j ss n k c)
+    change-ok e j ss n k true a h = (set-ok ss j (record { kept = some k; status = fine; changes = suc (getD ss j blank .changes) }) a h, tt)
+    change-ok e j ss n k false a h = (a, tt)
+
+    join-ok : (e j : ℕ) (ss : List (Slot State)) (n : ℕ) (s : State) {x : Ans State} → AllOk ss → Sure (Strong l) x → SpreadOk (afterJoin State join changed (exec q) blocks b e j ss n s x)
+    join-ok e j ss n s a (sure {a = k} h) = change-ok e j ss n k (changed s k) a h
+    join-ok e j ss n s a (unsure w) = (a, w)
+
+    kept-ok : (e j : ℕ) (ss : List (Slot State)) (n : ℕ) (k : Option State) → AllOk ss → KeptOk k → SpreadOk (toKept State join changed (exec q) blocks b t e j ss n k)
+    kept-ok e j ss n none a h = (set-ok ss j (record { kept = some t; status = fine; changes = getD ss j blank .changes }) a ht, tt)
+    kept-ok e j ss n (some s) a h = join-ok e j ss n s a (join-sure l s t small h ht)
+
+    next-ok : (e : ℕ) (ss : List (Slot State)) (x : Next) → AllOk ss → NextOk x → SpreadOk (toNext State join changed (exec q) blocks b t e ss x)
+    next-ok e ss (at n) a h = kept-ok e (position blocks e) ss n (getD ss (position blocks e) blank .kept) a (a (position blocks e))
+    next-ok e ss (stopped r o) a h = (a, h)
+
+    spread-ok : (es : List ℕ) (a : Spread State) → SpreadOk a → SpreadOk (spread State join changed (exec q) blocks b t es a)
+    unfolding spread
+    spread-ok [] a h = h
+    spread-ok (e ∷ es) a h = spread-ok es (toNext State join changed (exec q) blocks b t e (a .slots) (a .next)) (next-ok e (a .slots) (a .next) (h .0) (h .1))
+
+  abbrev RunOk : Run State → Type 0
+  RunOk r = (AllOk (r .slots)) × (NextOk (r .next))
+
+  mark-ok : (ss : List (Slot State)) (i : ℕ) (x : Status) → AllOk ss → AllOk (mark State join changed (exec q) blocks ss i x)
+  mark-ok ss i x a = set-ok ss i (record { kept = getD ss i blank .kept; status = x; changes = getD ss i blank .changes }) a (a i)
+
+  block-ok : (r : Run State) (i : ℕ) {x : Result State} → RunOk r → Ends (Strong l) x → RunOk (afterBlock State join changed (exec q) blocks r i x)
+  block-ok r i h (ends {t} w) =
+      let b : Block = getD blocks i noBlock in
+      spread-ok b t w (b .successors) (record { slots = mark State join changed (exec q) blocks (r .slots) i fine; next = at (suc i) }) (mark-ok (r .slots) i fine (h .0), tt)
+  block-ok r i h (breaks {c} {o}) = (mark-ok (r .slots) i (failed c o) (h .0), tt)
+  block-ok r i h (bars w) = (h .0, w)
+
+  visit-ok : (r : Run State) (i : ℕ) (k : Option State) → RunOk r → KeptOk k → RunOk (runLoopBlock State join changed (exec q) blocks r i k)
+  visit-ok r i none h w = (h .0, tt)
+  visit-ok r i (some s) h w = block-ok r i h (exec-ends q p i s w)
+
+  step-ok : (r : Run State) (x : Next) → RunOk r → RunOk (turnAt State join changed (exec q) blocks r x)
+  step-ok r (at i) h = go (ltb i (length blocks))
+    where
+      go : (b : Bool) → RunOk (cond b (runLoopBlock State join changed (exec q) blocks r i (getD (r .slots) i blank .kept)) r)
+      go true = visit-ok r i (getD (r .slots) i blank .kept) h (h .0 i)
+      go false = h
+  step-ok r (stopped n o) h = h
+
+  steps-ok : (f : ℕ) (r : Run State) → RunOk r → RunOk (turns State join changed (exec q) blocks f r)
+  unfolding turns turn
+  steps-ok zero r h = h
+  steps-ok (suc f) r h = steps-ok f (turn State join changed (exec q) blocks r) (step-ok r (r .next) h)
+
+  first-ok : (bs : List Block) → AllOk (startSlots State join changed (exec q) blocks bs (firstState l ts))
+  unfolding startSlots
+  first-ok [] j = tt
+  first-ok (b ∷ bs) zero = first-strong l ts small
+  first-ok (b ∷ bs) (suc j) = go bs j
+    where
+      go : (cs : List Block) (i : ℕ) → KeptOk (getD (map (λ c. blank) cs) i blank .kept)
+      go [] i = tt
+      go (c ∷ cs) zero = tt
+      go (c ∷ cs) (suc i) = go cs i
+
+  -- A run that a refusal ended: not 8, 9 or 23.
+  pub refusals : (f : ℕ) → NextOk (theRun f .next)
+  unfolding run
+  refusals f = steps-ok f (record { slots = startSlots State join changed (exec q) blocks blocks (firstState l ts); next = at 0; trail = [] }) (first-ok blocks, tt) .1

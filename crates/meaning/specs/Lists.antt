@@ -1,0 +1,44 @@
+use Prim.Native.Nat.{ℕ, zero, suc, _+_}
+use mathlib.Core.Bool.{Bool, true, false, _&&_, _||_, cond}
+use mathlib.Core.List.{List, [], _∷_, _++_}
+use mathlib.Core.Option.{Option, none, some}
+
+module _ {A : Type 0} where
+  abbrev pub all : (A → Bool) → List A → Bool
+  all f [] = true
+  all f (x ∷ xs) = f x && all f xs
+
+  abbrev pub any : (A → Bool) → List A → Bool
+  any f [] = false
+  any f (x ∷ xs) = f x || any f xs
+
+  -- those that pass the test
+  abbrev pub keep : (A → Bool) → List A → List A
+  keep f [] = []
+  keep f (x ∷ xs) = cond (f x) (x ∷ keep f xs) (keep f xs)
+
+  abbrev pub empty : List A → Bool
+  empty [] = true
+  empty (x ∷ xs) = false
+
+  -- what stands at an index
+  abbrev pub nth : List A → ℕ → Option A
+  nth [] i = none
+  nth (x ∷ xs) zero = some x
+  nth (x ∷ xs) (suc i) = nth xs i
+
+-- each x's list, one after the other
+abbrev pub each : {A B : Type 0} → List A → (A → List B) → List B
+each [] f = []
+each (x ∷ xs) f = f x ++ each xs f
+
+-- ---- sums over a range
+
+abbrev pub sum : ℕ → (ℕ → ℕ) → ℕ
+sum zero f = 0
+sum (suc n) f = sum n f + f n
+
+-- f 0, f 1 and so on: n of them
+unfoldable pub upTo : {A : Type 0} → ℕ → (ℕ → A) → List A
+upTo zero f = []
+upTo (suc n) f = f 0 ∷ upTo n (λ i. f (suc i))
