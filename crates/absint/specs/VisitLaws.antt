@@ -15,6 +15,8 @@ use Rattle.meaning.specs.Laws.Array.{front-all}
 use Rattle.meaning.specs.Area.{keptOf, Stored, Forgotten}
 use Rattle.meaning.specs.AbstractState.{State, join, changed, firstState}
 use Rattle.meaning.specs.EntryPoints as R
+use Rattle.meaning.specs.AbstractState as S
+use Rattle.meaning.specs.Answers as A
 use Rattle.meaning.specs.Answers.{Outcome, done}
 use Rattle.meaning.specs.EntryPoints.{Running}
 use Rattle.meaning.specs.Laws.Base.{and-l, leb-le}
@@ -45,27 +47,27 @@ use Rattle.absint.specs.declared.tally.Tally.{Tally}
 
 abbrev given : {A : Type 0} → A → Outcome A → A
 given d (done a) = a
-given d (R.violated c) = d
-given d (R.refused n) = d
+given d (A.violated c) = d
+given d (A.refused n) = d
 
 -- a state whose outcome is known goes on with it
 pub done-inv : {A : Type 0} (v n : ℕ) (a b : A) → halted v n a ≡ done b → a ≡ b
 done-inv {A} v n a b e = go (eqb v 0) (eqb n 0) e
   where
-    go : (x y : Bool) → cond x (cond y (done a) (R.refused n)) (R.violated v) ≡ done b → a ≡ b
+    go : (x y : Bool) → cond x (cond y (done a) (A.refused n)) (A.violated v) ≡ done b → a ≡ b
     go true true e = ap (given a) e
     go true false e = ap (given a) e
     go false y e = ap (given a) e
 
 module _ (v n : ℕ) (a : Running) (p : ℕ) (o : Result State) (e : placed p (halted v n a) ≡ o) where
   pub placed-violated : (v ≡ 0 → ⊥) → o ≡ Result.violated v p
-  placed-violated h = sym e ∙ ap (λ (x : Bool). placed p (cond x (cond (eqb n 0) (done a) (R.refused n)) (R.violated v))) (ne-eqb v 0 h)
+  placed-violated h = sym e ∙ ap (λ (x : Bool). placed p (cond x (cond (eqb n 0) (done a) (A.refused n)) (A.violated v))) (ne-eqb v 0 h)
 
   pub placed-refused : v ≡ 0 → (n ≡ 0 → ⊥) → o ≡ Result.refused n p
-  placed-refused z h = sym e ∙ (λ i. placed p (cond (eq-eqb v 0 z i) (cond (ne-eqb n 0 h i) (done a) (R.refused n)) (R.violated v)))
+  placed-refused z h = sym e ∙ (λ i. placed p (cond (eq-eqb v 0 z i) (cond (ne-eqb n 0 h i) (done a) (A.refused n)) (A.violated v)))
 
   pub placed-ended : v ≡ 0 → n ≡ 0 → o ≡ Result.ended (record { locals = a .locals; graph = a .graph })
-  placed-ended z h = sym e ∙ (λ i. placed p (cond (eq-eqb v 0 z i) (cond (eq-eqb n 0 h i) (done a) (R.refused n)) (R.violated v)))
+  placed-ended z h = sym e ∙ (λ i. placed p (cond (eq-eqb v 0 z i) (cond (eq-eqb n 0 h i) (done a) (A.refused n)) (A.violated v)))
 
 -- a state that was loaded, or joined with one, has L locals
 pub loaded-root : (s : AbstractState) (r : Running) → outcomeOf s ≡ done r → s .«num_locals» ≡ r .root
@@ -293,11 +295,11 @@ test-off true i n e = inl refl
 test-off false i n e = inr (ltb-false i n e)
 
 -- the first state, as the code makes it
-pub first-made : (a : AbstractState) (l : ℕ) (ts : List R.Token) → l ≤ 16 → answerOf a ≡ R.answer (firstRunning (min l 16) ts) R.Operand.nonRef → (a .«num_locals» ≡ l) × (stateOf a ≡ firstState l ts)
+pub first-made : (a : AbstractState) (l : ℕ) (ts : List S.Token) → l ≤ 16 → answerOf a ≡ R.answer (firstRunning (min l 16) ts) S.Operand.nonRef → (a .«num_locals» ≡ l) × (stateOf a ≡ firstState l ts)
 unfolding firstRunning
 first-made a l ts h e =
     let z : min l 16 ≡ l = omega (arith, h) in
-    let x : runningOf a ≡ firstRunning (min l 16) ts = ap (λ (y : R.Answer). y .state) (done-inv (a .violation) (a .refusal) (record { state = runningOf a; operand = operandOf (a .value) }) (record { state = firstRunning (min l 16) ts; operand = R.Operand.nonRef }) e) in
+    let x : runningOf a ≡ firstRunning (min l 16) ts = ap (λ (y : R.Answer). y .state) (done-inv (a .violation) (a .refusal) (record { state = runningOf a; operand = operandOf (a .value) }) (record { state = firstRunning (min l 16) ts; operand = S.Operand.nonRef }) e) in
     (ap (λ (y : Running). y .root) x ∙ z, (λ k. record { locals = x k .locals; graph = x k .graph }) ∙ ap (λ (n : ℕ). firstState n ts) z)
 
 pub stored-as : (m l : ℕ) (a b : State) (ws ws′ : List ℕ) → m ≡ l → a ≡ b → Stored m a 0 ws ws′ → Stored l b 0 ws ws′

@@ -1,11 +1,11 @@
 // A block's end state goes to its successors.
 use crate::tally::Tally;
-use abstract_state::state::AbstractState;
-use file_format::CodeOffset;
 use absint_area::load;
 use absint_area::store;
-use listing::Block;
+use abstract_state::state::AbstractState;
 use abstract_state_join::join::join;
+use file_format::CodeOffset;
+use listing::Block;
 ghost use mathlib.Core.Path.{_≡_};
 ghost use Prim.Native.Nat.{_≤_};
 ghost use lib.ListN.{length};

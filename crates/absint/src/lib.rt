@@ -6,8 +6,8 @@ mod visit;
 
 use crate::error::rule;
 use crate::visit::visit_all;
-use file_format::CodeOffset;
 use absint_area::clear;
+use file_format::CodeOffset;
 use listing::Routine;
 use listing::read_listing;
 ghost use mathlib.Core.Path.{_≡_};

@@ -2,14 +2,14 @@
 use crate::hand::spread;
 use crate::tally::BlockStatus;
 use crate::tally::Tally;
-use abstract_state::state::AbstractState;
 use absint_area::forget;
 use absint_area::load;
 use absint_area::store;
+use abstract_state::state::AbstractState;
+use abstract_state_join::first::new;
 use listing::Block;
 use listing::Routine;
 use reference_safety::block::run_block;
-use abstract_state_join::first::new;
 ghost use mathlib.Core.Path.{_≡_};
 ghost use Prim.Native.Nat.{_≤_, _<_};
 ghost use lib.ListN.{length, getD};

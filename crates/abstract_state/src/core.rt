@@ -2,13 +2,13 @@
 use crate::state::AbstractState;
 use crate::state::AbstractValue;
 use crate::state::Local;
+use borrow_graph::graph::Answer;
+use borrow_graph::graph::Told;
 use borrow_graph_edit::borrow::add_strong_borrow;
 use borrow_graph_edit::borrow::add_strong_field_borrow;
 use borrow_graph_edit::borrow::add_weak_borrow;
 use borrow_graph_edit::borrow::add_weak_field_borrow;
 use borrow_graph_edit::release::release;
-use borrow_graph::graph::Answer;
-use borrow_graph::graph::Told;
 use file_format::LocalIndex;
 use references::paths::Label;
 use references::references::RefID;

@@ -14,6 +14,9 @@ ghost use mathlib.Core.Option.{some};
 ghost use Rattle.meaning.specs.Labels.{fieldLabel};
 ghost use Rattle.borrow_graph.specs.Models.{filterOf};
 ghost use Rattle.meaning.specs.EntryPoints as R;
+ghost use Rattle.meaning.specs.AbstractState as S;
+ghost use Rattle.meaning.specs.BorrowGraph as G;
+ghost use Rattle.meaning.specs.Answers as A;
 ghost use Rattle.meaning.specs.Answers.{then};
 ghost use Rattle.file_format.specs.Models.{tokenOf};
 ghost use Rattle.abstract_state.specs.Models.{operandOf, outcomeOf, answerOf};
@@ -29,7 +32,7 @@ pub fn value_for(state: AbstractState, token: SignatureToken) -> AbstractState
 }
 
 fn value_for_ref(state: AbstractState, mutable: bool) -> AbstractState
-    ensures { λ r. ⌜ answerOf r ≡ then (outcomeOf state) (R.valueFor (R.Token.ofRef mutable)) ⌝ }
+    ensures { λ r. ⌜ answerOf r ≡ then (outcomeOf state) (R.valueFor (S.Token.ofRef mutable)) ⌝ }
 {
     let id = state.fresh();
     let s = state.new_ref(mutable);
@@ -158,7 +161,7 @@ pub fn comparison(state: AbstractState, v1: AbstractValue, v2: AbstractValue) ->
 }
 
 fn compare_refs(state: AbstractState, id1: RefID, id2: RefID) -> AbstractState
-    ensures { λ r. ⌜ answerOf r ≡ then (outcomeOf state) (R.comparison (R.Operand.reference (id1 .0)) (R.Operand.reference (id2 .0))) ⌝ }
+    ensures { λ r. ⌜ answerOf r ≡ then (outcomeOf state) (R.comparison (S.Operand.reference (id1 .0)) (S.Operand.reference (id2 .0))) ⌝ }
 {
     let s = fail_unreadable(state, id1, LabelFilter::Any, 105);
     let t = fail_unreadable(s, id2, LabelFilter::Any, 105);
@@ -170,7 +173,7 @@ fn compare_refs(state: AbstractState, id1: RefID, id2: RefID) -> AbstractState
 // The violation, where the reference is not readable.
 fn fail_unreadable(state: AbstractState, id: RefID, at: LabelFilter, code: u8) -> AbstractState
     requires { ⌜ (code ≡ 0 → ⊥) ⌝ }
-    ensures { λ r. ⌜ outcomeOf r ≡ then (outcomeOf state) (λ s. R.needsName (s .graph) (id .0) (R.fails (not (R.readable (s .graph) (id .0) (filterOf at))) code (R.Outcome.done s))) ⌝ }
+    ensures { λ r. ⌜ outcomeOf r ≡ then (outcomeOf state) (λ s. R.needsName (s .graph) (id .0) (A.fails (not (R.readable (s .graph) (id .0) (filterOf at))) code (A.Outcome.done s))) ⌝ }
 {
     let b = state.is_readable(id, at);
     state.fail(
@@ -230,7 +233,7 @@ pub fn borrow_field(state: AbstractState, mutable: bool, id: RefID, field: u16) 
 
 // A mutable borrow fails on an empty-path borrow; another one, where the field is not readable.
 fn fail_field(state: AbstractState, mutable: bool, id: RefID, field: u16) -> AbstractState
-    ensures { λ r. ⌜ outcomeOf r ≡ then (outcomeOf state) (λ s. R.needsName (s .graph) (id .0) (R.fails (cond mutable (R.fullyBorrowed (s .graph) (id .0)) (not (R.readable (s .graph) (id .0) (some (fieldLabel field))))) 108 (R.Outcome.done s))) ⌝ }
+    ensures { λ r. ⌜ outcomeOf r ≡ then (outcomeOf state) (λ s. R.needsName (s .graph) (id .0) (A.fails (cond mutable (G.fullyBorrowed (s .graph) (id .0)) (not (R.readable (s .graph) (id .0) (some (fieldLabel field))))) 108 (A.Outcome.done s))) ⌝ }
 {
     if mutable {
         let b = state.has_full_borrows(id);
@@ -268,7 +271,7 @@ pub fn move_from(state: AbstractState, resource: u16) -> AbstractState
 // A mutable vector step wants a mutable reference with no borrow.
 fn vector_test(state: AbstractState, mutable: bool, id: RefID, code: u8) -> AbstractState
     requires { ⌜ (code ≡ 0 → ⊥) ⌝ }
-    ensures { λ r. ⌜ outcomeOf r ≡ then (outcomeOf state) (λ s. R.needsName (s .graph) (id .0) (R.vectorTest mutable (s .graph) (id .0) code (R.Outcome.done s))) ⌝ }
+    ensures { λ r. ⌜ outcomeOf r ≡ then (outcomeOf state) (λ s. R.needsName (s .graph) (id .0) (R.vectorTest mutable (s .graph) (id .0) code (A.Outcome.done s))) ⌝ }
 {
     let m = state.is_mutable(id);
     if mutable {

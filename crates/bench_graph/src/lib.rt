@@ -1,9 +1,9 @@
 // What the graph's calls cost: each function makes a graph and repeats calls on it. bench/graph times them.
+use borrow_graph::graph::BorrowGraph;
 use borrow_graph_edit::borrow::add_strong_field_borrow;
 use borrow_graph_edit::borrow::add_weak_field_borrow;
 use borrow_graph_edit::join::join;
 use borrow_graph_edit::release::release;
-use borrow_graph::graph::BorrowGraph;
 use references::paths::Label;
 use references::references::RefID;
 ghost use mathlib.Core.Path.{_≡_};

@@ -1,6 +1,7 @@
 // Reads listings from standard input, each after three bytes with its length, runs the first block of each from the routine's first state,
 // and writes for each a line with the violation or refusal and its offset; zeros where the block ends.
 use abstract_state::state::AbstractState;
+use abstract_state_join::first::new;
 use libc::STDIN_FILENO;
 use libc::STDOUT_FILENO;
 use listing::Block;
@@ -8,7 +9,6 @@ use listing::Routine;
 use listing::read_listing;
 use reference_safety::block::Ran;
 use reference_safety::block::run_block;
-use abstract_state_join::first::new;
 ghost use mathlib.Core.Path.{_≡_};
 ghost use Prim.Native.Nat.{_+_, _≤_};
 ghost use lib.ListN.{length};

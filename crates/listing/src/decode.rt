@@ -1,12 +1,12 @@
 // The instruction of a record.
 use file_format::LocalIndex;
 use file_format::SignatureToken;
-use meaning::MAX_ACQUIRED;
-use meaning::MAX_RETURNS;
 use listing_records::Cursor;
 use listing_records::body;
 use listing_records::byte_at;
 use listing_records::u16_at;
+use meaning::MAX_ACQUIRED;
+use meaning::MAX_RETURNS;
 ghost use mathlib.Core.Path.{_≡_};
 ghost use Prim.Native.Nat.{_≤_, _<_};
 ghost use lib.ListN.{getD, take};

@@ -103,7 +103,7 @@ module _ (l : ℕ) (fs : List D.Field) (b : List ℕ) (i : ℕ) (past : fs ≡ [
 pub some-width : (f : D.Field) (b : List ℕ) → 0 < D.fieldWidth f b
 some-width (D.Field.byte r m) b = omega arith
 some-width D.Field.word b = omega arith
-some-width D.Field.local b = omega arith
+some-width D.Field.localIndex b = omega arith
 some-width (D.Field.words r m) b = omega arith
 some-width (D.Field.tokens m) b = omega arith
 some-width D.Field.frame b = omega arith

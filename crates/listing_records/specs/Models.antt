@@ -22,7 +22,7 @@ fieldList =
     ∷ D.flag
     ∷ D.token
     ∷ D.Field.byte 255 16
-    ∷ D.Field.local
+    ∷ D.Field.localIndex
     ∷ D.Field.word
     ∷ D.Field.words 2 2
     ∷ D.Field.words 255 16

@@ -1,8 +1,8 @@
 // Reads a listing from standard input to its end, and prints the line of its verdict. Where a read fails it prints nothing.
-use loader_line::Line;
-use loader_line::answer_line;
 use libc::STDIN_FILENO;
 use libc::STDOUT_FILENO;
+use loader_line::Line;
+use loader_line::answer_line;
 ghost use mathlib.Core.Path.{_≡_};
 ghost use lib.ListN.{length};
 ghost use Rattle.io.specs.Counts.{Counts};

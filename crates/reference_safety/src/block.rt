@@ -4,6 +4,7 @@ use crate::machine::pushed;
 use crate::steps;
 use crate::values::on_values;
 use abstract_state::state::AbstractState;
+use abstract_state_join::canonical::construct_canonical_state;
 use file_format::CodeOffset;
 use listing::Block;
 use listing::Routine;
@@ -14,7 +15,6 @@ use meaning::MAX_INSTRUCTIONS;
 use meaning::lesser;
 use operand_stack::depth;
 use operand_stack::empty;
-use abstract_state_join::canonical::construct_canonical_state;
 ghost use mathlib.Core.Path.{_≡_};
 ghost use mathlib.Core.Bool.{true, _&&_};
 ghost use Prim.Native.Nat.{suc, _+_, _-_, min};
@@ -50,7 +50,10 @@ pub fn execute(m: Machine, d: Decoded, returns: u8) -> Machine
         Instruction::ReadRef => steps::read_ref(state, stack),
         Instruction::WriteRef => steps::write_ref(state, stack),
         Instruction::BorrowLoc(local, mutable) => {
-            pushed(abstract_state_steps::borrow_loc(state, mutable, local), stack)
+            pushed(
+                abstract_state_steps::borrow_loc(state, mutable, local),
+                stack,
+            )
         }
         Instruction::BorrowField(n, mutable) => steps::borrow_field(state, stack, n, mutable),
         Instruction::BorrowGlobal(n, mutable) => steps::borrow_global(state, stack, n, mutable),

@@ -36,8 +36,8 @@ give-requires c κs = search needs
 
 returns : tie.Need-returns
 returns c =
-    let q : toldOf (record { refusal = (c .before .before .before .before .before .before .before .before .is-global-borrowed) .result .refusal; yes = (((c .before .before .before .before .before .before .before .before .before .args) .mutable) && (c .before .before .before .before .before .before .before .before .is-global-borrowed) .result .yes) || (c .before .before .before .before .before .before .before .is-global-mutably-borrowed) .result .yes }) ≡ (L.ofName (graphOf ((c .before .before .before .before .before .before .before .before .before .args) .state .«borrow_graph»)) ((c .before .before .before .before .before .before .before .before .before .args) .state .«num_locals») ((((c .before .before .before .before .before .before .before .before .before .args) .mutable) && (R.borrowed (graphOf ((c .before .before .before .before .before .before .before .before .before .args) .state .«borrow_graph»)) ((c .before .before .before .before .before .before .before .before .before .args) .state .«num_locals») (some (globalLabel ((c .before .before .before .before .before .before .before .before .before .args) .resource))))) || (R.mutablyBorrowed (graphOf ((c .before .before .before .before .before .before .before .before .before .args) .state .«borrow_graph»)) ((c .before .before .before .before .before .before .before .before .before .args) .state .«num_locals») (some (globalLabel ((c .before .before .before .before .before .before .before .before .before .args) .resource)))))) = told-both (graphOf ((c .before .before .before .before .before .before .before .before .before .args) .state .«borrow_graph»)) ((c .before .before .before .before .before .before .before .before .before .args) .state .«num_locals») ((c .before .before .before .before .before .before .before .is-global-mutably-borrowed) .result .refusal) ((c .before .before .before .before .before .before .before .before .is-global-borrowed) .result .refusal) ((c .before .before .before .before .before .before .before .is-global-mutably-borrowed) .result .yes) (R.mutablyBorrowed (graphOf ((c .before .before .before .before .before .before .before .before .before .args) .state .«borrow_graph»)) ((c .before .before .before .before .before .before .before .before .before .args) .state .«num_locals») (some (globalLabel ((c .before .before .before .before .before .before .before .before .before .args) .resource)))) ((c .before .before .before .before .before .before .before .before .is-global-borrowed) .result .yes) (R.borrowed (graphOf ((c .before .before .before .before .before .before .before .before .before .args) .state .«borrow_graph»)) ((c .before .before .before .before .before .before .before .before .before .args) .state .«num_locals») (some (globalLabel ((c .before .before .before .before .before .before .before .before .before .args) .resource)))) (λ y w. (((c .before .before .before .before .before .before .before .before .before .args) .mutable) && w) || y) ((c .before .before .before .before .before .before .before .is-global-mutably-borrowed) .ensures) ((c .before .before .before .before .before .before .before .before .is-global-borrowed) .ensures) in
-    E.lend-law ((c .before .before .before .before .before .before .before .before .before .args) .state .violation) ((c .before .before .before .before .before .before .before .before .before .args) .state .refusal) (runningOf ((c .before .before .before .before .before .before .before .before .before .args) .state)) (failing (L.ofName (graphOf ((c .before .before .before .before .before .before .before .before .before .args) .state .«borrow_graph»)) ((c .before .before .before .before .before .before .before .before .before .args) .state .«num_locals») ((((c .before .before .before .before .before .before .before .before .before .args) .mutable) && (R.borrowed (graphOf ((c .before .before .before .before .before .before .before .before .before .args) .state .«borrow_graph»)) ((c .before .before .before .before .before .before .before .before .before .args) .state .«num_locals») (some (globalLabel ((c .before .before .before .before .before .before .before .before .before .args) .resource))))) || (R.mutablyBorrowed (graphOf ((c .before .before .before .before .before .before .before .before .before .args) .state .«borrow_graph»)) ((c .before .before .before .before .before .before .before .before .before .args) .state .«num_locals») (some (globalLabel ((c .before .before .before .before .before .before .before .before .before .args) .resource)))))) 109) ((c .before .before .before .before .before .before .before .before .before .args) .mutable) (R.addResourceBorrow ((c .before .before .before .before .before .before .before .before .before .args) .resource)) ((c .before .before .before .before .before .before .fresh) .result .0) _ _ _ _ (R.borrowGlobal ((c .before .before .before .before .before .before .before .before .before .args) .mutable) ((c .before .before .before .before .before .before .before .before .before .args) .resource)) (E.borrow-global-at (runningOf ((c .before .before .before .before .before .before .before .before .before .args) .state)) ((c .before .before .before .before .before .before .fresh) .result .0) ((c .before .before .before .before .before .before .fresh) .ensures) ((c .before .before .before .before .before .before .before .before .before .args) .mutable) ((c .before .before .before .before .before .before .before .before .before .args) .resource)) ((c .before .before .before .fail) .ensures ∙ ap (λ (t : Ans Bool). then (outcomeOf ((c .before .before .before .before .before .before .before .before .before .args) .state)) (failing t 109)) q) ((c .before .before .new-ref) .ensures) ((c .before .add-resource-borrow) .ensures) ((c .give) .ensures)
+    let q : toldOf (record { refusal = (c .before .before .before .before .before .before .before .before .is-global-borrowed) .result .refusal; yes = (((c .before .before .before .before .before .before .before .before .before .args) .mutable) && (c .before .before .before .before .before .before .before .before .is-global-borrowed) .result .yes) || (c .before .before .before .before .before .before .before .is-global-mutably-borrowed) .result .yes }) ≡ (L.ofName (graphOf ((c .before .before .before .before .before .before .before .before .before .args) .state .«borrow_graph»)) ((c .before .before .before .before .before .before .before .before .before .args) .state .«num_locals») ((((c .before .before .before .before .before .before .before .before .before .args) .mutable) && (L.borrowed (graphOf ((c .before .before .before .before .before .before .before .before .before .args) .state .«borrow_graph»)) ((c .before .before .before .before .before .before .before .before .before .args) .state .«num_locals») (some (globalLabel ((c .before .before .before .before .before .before .before .before .before .args) .resource))))) || (L.mutablyBorrowed (graphOf ((c .before .before .before .before .before .before .before .before .before .args) .state .«borrow_graph»)) ((c .before .before .before .before .before .before .before .before .before .args) .state .«num_locals») (some (globalLabel ((c .before .before .before .before .before .before .before .before .before .args) .resource)))))) = told-both (graphOf ((c .before .before .before .before .before .before .before .before .before .args) .state .«borrow_graph»)) ((c .before .before .before .before .before .before .before .before .before .args) .state .«num_locals») ((c .before .before .before .before .before .before .before .is-global-mutably-borrowed) .result .refusal) ((c .before .before .before .before .before .before .before .before .is-global-borrowed) .result .refusal) ((c .before .before .before .before .before .before .before .is-global-mutably-borrowed) .result .yes) (L.mutablyBorrowed (graphOf ((c .before .before .before .before .before .before .before .before .before .args) .state .«borrow_graph»)) ((c .before .before .before .before .before .before .before .before .before .args) .state .«num_locals») (some (globalLabel ((c .before .before .before .before .before .before .before .before .before .args) .resource)))) ((c .before .before .before .before .before .before .before .before .is-global-borrowed) .result .yes) (L.borrowed (graphOf ((c .before .before .before .before .before .before .before .before .before .args) .state .«borrow_graph»)) ((c .before .before .before .before .before .before .before .before .before .args) .state .«num_locals») (some (globalLabel ((c .before .before .before .before .before .before .before .before .before .args) .resource)))) (λ y w. (((c .before .before .before .before .before .before .before .before .before .args) .mutable) && w) || y) ((c .before .before .before .before .before .before .before .is-global-mutably-borrowed) .ensures) ((c .before .before .before .before .before .before .before .before .is-global-borrowed) .ensures) in
+    E.lend-law ((c .before .before .before .before .before .before .before .before .before .args) .state .violation) ((c .before .before .before .before .before .before .before .before .before .args) .state .refusal) (runningOf ((c .before .before .before .before .before .before .before .before .before .args) .state)) (failing (L.ofName (graphOf ((c .before .before .before .before .before .before .before .before .before .args) .state .«borrow_graph»)) ((c .before .before .before .before .before .before .before .before .before .args) .state .«num_locals») ((((c .before .before .before .before .before .before .before .before .before .args) .mutable) && (L.borrowed (graphOf ((c .before .before .before .before .before .before .before .before .before .args) .state .«borrow_graph»)) ((c .before .before .before .before .before .before .before .before .before .args) .state .«num_locals») (some (globalLabel ((c .before .before .before .before .before .before .before .before .before .args) .resource))))) || (L.mutablyBorrowed (graphOf ((c .before .before .before .before .before .before .before .before .before .args) .state .«borrow_graph»)) ((c .before .before .before .before .before .before .before .before .before .args) .state .«num_locals») (some (globalLabel ((c .before .before .before .before .before .before .before .before .before .args) .resource)))))) 109) ((c .before .before .before .before .before .before .before .before .before .args) .mutable) (R.addResourceBorrow ((c .before .before .before .before .before .before .before .before .before .args) .resource)) ((c .before .before .before .before .before .before .fresh) .result .0) _ _ _ _ (R.borrowGlobal ((c .before .before .before .before .before .before .before .before .before .args) .mutable) ((c .before .before .before .before .before .before .before .before .before .args) .resource)) (E.borrow-global-at (runningOf ((c .before .before .before .before .before .before .before .before .before .args) .state)) ((c .before .before .before .before .before .before .fresh) .result .0) ((c .before .before .before .before .before .before .fresh) .ensures) ((c .before .before .before .before .before .before .before .before .before .args) .mutable) ((c .before .before .before .before .before .before .before .before .before .args) .resource)) ((c .before .before .before .fail) .ensures ∙ ap (λ (t : Ans Bool). then (outcomeOf ((c .before .before .before .before .before .before .before .before .before .args) .state)) (failing t 109)) q) ((c .before .before .new-ref) .ensures) ((c .before .add-resource-borrow) .ensures) ((c .give) .ensures)
 
 pub borrow-global-spec : {M : Type 1} → statement M
 borrow-global-spec =

@@ -33,8 +33,8 @@ give-requires c κs = search needs
 
 returns : tie.Need-returns
 returns c =
-    let q : toldOf (record { refusal = (c .before .before .before .before .before .before .is-local-mutably-borrowed) .result .refusal; yes = not ((c .before .before .before .before .before .before .before .args) .mutable) && (c .before .before .before .before .before .before .is-local-mutably-borrowed) .result .yes }) ≡ (L.ofName (graphOf ((c .before .before .before .before .before .before .before .args) .state .«borrow_graph»)) ((c .before .before .before .before .before .before .before .args) .state .«num_locals») (not ((c .before .before .before .before .before .before .before .args) .mutable) && (R.mutablyBorrowed (graphOf ((c .before .before .before .before .before .before .before .args) .state .«borrow_graph»)) ((c .before .before .before .before .before .before .before .args) .state .«num_locals») (some (localLabel ((c .before .before .before .before .before .before .before .args) .local .0)))))) = told-map (graphOf ((c .before .before .before .before .before .before .before .args) .state .«borrow_graph»)) ((c .before .before .before .before .before .before .before .args) .state .«num_locals») ((c .before .before .before .before .before .before .is-local-mutably-borrowed) .result .refusal) ((c .before .before .before .before .before .before .is-local-mutably-borrowed) .result .yes) (R.mutablyBorrowed (graphOf ((c .before .before .before .before .before .before .before .args) .state .«borrow_graph»)) ((c .before .before .before .before .before .before .before .args) .state .«num_locals») (some (localLabel ((c .before .before .before .before .before .before .before .args) .local .0)))) (λ y. not ((c .before .before .before .before .before .before .before .args) .mutable) && y) ((c .before .before .before .before .before .before .is-local-mutably-borrowed) .ensures) in
-    E.lend-law ((c .before .before .before .before .before .before .before .args) .state .violation) ((c .before .before .before .before .before .before .before .args) .state .refusal) (runningOf ((c .before .before .before .before .before .before .before .args) .state)) (failing (L.ofName (graphOf ((c .before .before .before .before .before .before .before .args) .state .«borrow_graph»)) ((c .before .before .before .before .before .before .before .args) .state .«num_locals») (not ((c .before .before .before .before .before .before .before .args) .mutable) && (R.mutablyBorrowed (graphOf ((c .before .before .before .before .before .before .before .args) .state .«borrow_graph»)) ((c .before .before .before .before .before .before .before .args) .state .«num_locals») (some (localLabel ((c .before .before .before .before .before .before .before .args) .local .0)))))) 107) ((c .before .before .before .before .before .before .before .args) .mutable) (R.addLocalBorrow ((c .before .before .before .before .before .before .before .args) .local .0)) ((c .before .before .before .before .before .fresh) .result .0) _ _ _ _ (R.borrowLoc ((c .before .before .before .before .before .before .before .args) .mutable) ((c .before .before .before .before .before .before .before .args) .local .0)) (E.borrow-loc-at (runningOf ((c .before .before .before .before .before .before .before .args) .state)) ((c .before .before .before .before .before .fresh) .result .0) ((c .before .before .before .before .before .fresh) .ensures) ((c .before .before .before .before .before .before .before .args) .mutable) ((c .before .before .before .before .before .before .before .args) .local .0)) ((c .before .before .before .fail) .ensures ∙ ap (λ (t : Ans Bool). then (outcomeOf ((c .before .before .before .before .before .before .before .args) .state)) (failing t 107)) q) ((c .before .before .new-ref) .ensures) ((c .before .add-local-borrow) .ensures) ((c .give) .ensures)
+    let q : toldOf (record { refusal = (c .before .before .before .before .before .before .is-local-mutably-borrowed) .result .refusal; yes = not ((c .before .before .before .before .before .before .before .args) .mutable) && (c .before .before .before .before .before .before .is-local-mutably-borrowed) .result .yes }) ≡ (L.ofName (graphOf ((c .before .before .before .before .before .before .before .args) .state .«borrow_graph»)) ((c .before .before .before .before .before .before .before .args) .state .«num_locals») (not ((c .before .before .before .before .before .before .before .args) .mutable) && (L.mutablyBorrowed (graphOf ((c .before .before .before .before .before .before .before .args) .state .«borrow_graph»)) ((c .before .before .before .before .before .before .before .args) .state .«num_locals») (some (localLabel ((c .before .before .before .before .before .before .before .args) .local .0)))))) = told-map (graphOf ((c .before .before .before .before .before .before .before .args) .state .«borrow_graph»)) ((c .before .before .before .before .before .before .before .args) .state .«num_locals») ((c .before .before .before .before .before .before .is-local-mutably-borrowed) .result .refusal) ((c .before .before .before .before .before .before .is-local-mutably-borrowed) .result .yes) (L.mutablyBorrowed (graphOf ((c .before .before .before .before .before .before .before .args) .state .«borrow_graph»)) ((c .before .before .before .before .before .before .before .args) .state .«num_locals») (some (localLabel ((c .before .before .before .before .before .before .before .args) .local .0)))) (λ y. not ((c .before .before .before .before .before .before .before .args) .mutable) && y) ((c .before .before .before .before .before .before .is-local-mutably-borrowed) .ensures) in
+    E.lend-law ((c .before .before .before .before .before .before .before .args) .state .violation) ((c .before .before .before .before .before .before .before .args) .state .refusal) (runningOf ((c .before .before .before .before .before .before .before .args) .state)) (failing (L.ofName (graphOf ((c .before .before .before .before .before .before .before .args) .state .«borrow_graph»)) ((c .before .before .before .before .before .before .before .args) .state .«num_locals») (not ((c .before .before .before .before .before .before .before .args) .mutable) && (L.mutablyBorrowed (graphOf ((c .before .before .before .before .before .before .before .args) .state .«borrow_graph»)) ((c .before .before .before .before .before .before .before .args) .state .«num_locals») (some (localLabel ((c .before .before .before .before .before .before .before .args) .local .0)))))) 107) ((c .before .before .before .before .before .before .before .args) .mutable) (R.addLocalBorrow ((c .before .before .before .before .before .before .before .args) .local .0)) ((c .before .before .before .before .before .fresh) .result .0) _ _ _ _ (R.borrowLoc ((c .before .before .before .before .before .before .before .args) .mutable) ((c .before .before .before .before .before .before .before .args) .local .0)) (E.borrow-loc-at (runningOf ((c .before .before .before .before .before .before .before .args) .state)) ((c .before .before .before .before .before .fresh) .result .0) ((c .before .before .before .before .before .fresh) .ensures) ((c .before .before .before .before .before .before .before .args) .mutable) ((c .before .before .before .before .before .before .before .args) .local .0)) ((c .before .before .before .fail) .ensures ∙ ap (λ (t : Ans Bool). then (outcomeOf ((c .before .before .before .before .before .before .before .args) .state)) (failing t 107)) q) ((c .before .before .new-ref) .ensures) ((c .before .add-local-borrow) .ensures) ((c .give) .ensures)
 
 pub borrow-loc-spec : {M : Type 1} → statement M
 borrow-loc-spec =

@@ -1,5 +1,6 @@
 use mathlib.Core.Path.{refl}
 use Rattle.meaning.specs.EntryPoints as R
+use Rattle.meaning.specs.AbstractState as S
 use Rattle.abstract_state.specs.Models.{runningOf, halted}
 use Rattle.abstract_state_steps.specs.EntryLaws as E
 use borrow.Author.Needs.{needs}
@@ -47,11 +48,11 @@ returns c = rw ((c .before .before .before .before .before .v1) .given .1, (c .b
 
 returns-2 : tie.Need-returns-2
 unfolding R.comparison
-returns-2 c = rw ((c .before .before .before .before .before .v1) .given .1, (c .before .before .enum-told) .given .1) (E.test-law ((c .before .before .before .before .before .before .before .args) .state .violation) ((c .before .before .before .before .before .before .before .args) .state .refusal) (runningOf ((c .before .before .before .before .before .before .before .args) .state)) (λ s. halted 0 11 s) (R.comparison (R.Operand.reference ((c .before .before .before .before .before .v1) .given .0 .0 .0)) R.Operand.nonRef) R.Operand.nonRef _ _ refl ((c .before .refuse) .ensures) ((c .give) .ensures))
+returns-2 c = rw ((c .before .before .before .before .before .v1) .given .1, (c .before .before .enum-told) .given .1) (E.test-law ((c .before .before .before .before .before .before .before .args) .state .violation) ((c .before .before .before .before .before .before .before .args) .state .refusal) (runningOf ((c .before .before .before .before .before .before .before .args) .state)) (λ s. halted 0 11 s) (R.comparison (S.Operand.reference ((c .before .before .before .before .before .v1) .given .0 .0 .0)) S.Operand.nonRef) S.Operand.nonRef _ _ refl ((c .before .refuse) .ensures) ((c .give) .ensures))
 
 returns-3 : tie.Need-returns-3
 unfolding R.comparison
-returns-3 c = rw ((c .before .before .before .before .before .enum-told2) .given .1, (c .before .before .before .v22) .given .1) (E.test-law ((c .before .before .before .before .before .before .before .args) .state .violation) ((c .before .before .before .before .before .before .before .args) .state .refusal) (runningOf ((c .before .before .before .before .before .before .before .args) .state)) (λ s. halted 0 11 s) (R.comparison R.Operand.nonRef (R.Operand.reference ((c .before .before .before .v22) .given .0 .0 .0))) R.Operand.nonRef _ _ refl ((c .before .refuse2) .ensures) ((c .give2) .ensures))
+returns-3 c = rw ((c .before .before .before .before .before .enum-told2) .given .1, (c .before .before .before .v22) .given .1) (E.test-law ((c .before .before .before .before .before .before .before .args) .state .violation) ((c .before .before .before .before .before .before .before .args) .state .refusal) (runningOf ((c .before .before .before .before .before .before .before .args) .state)) (λ s. halted 0 11 s) (R.comparison S.Operand.nonRef (S.Operand.reference ((c .before .before .before .v22) .given .0 .0 .0))) S.Operand.nonRef _ _ refl ((c .before .refuse2) .ensures) ((c .give2) .ensures))
 
 returns-4 : tie.Need-returns-4
 unfolding R.comparison

@@ -6,6 +6,7 @@ use Rattle.meaning.specs.Answers.{Ans, then}
 use Rattle.meaning.specs.Labels.{localLabel}
 use Rattle.meaning.specs.BorrowGraph as L
 use Rattle.meaning.specs.EntryPoints as R
+use Rattle.meaning.specs.AbstractState as S
 use Rattle.borrow_graph.specs.Models.{graphOf, toldOf}
 use Rattle.abstract_state.specs.Models.{runningOf, outcomeOf, halted, heeding, failing}
 use Rattle.abstract_state_steps.specs.EntryLaws as E
@@ -53,7 +54,7 @@ give-requires-2 : tie.Need-give-requires-2
 give-requires-2 c κs = search needs
 
 returns-2 : tie.Need-returns-2
-returns-2 c = E.test-law ((c .before .before .before .before .before .before .before .args) .state .violation) ((c .before .before .before .before .before .before .before .args) .state .refusal) (runningOf ((c .before .before .before .before .before .before .before .args) .state)) (failing (L.ofName (graphOf ((c .before .before .before .before .before .before .before .args) .state .«borrow_graph»)) ((c .before .before .before .before .before .before .before .args) .state .«num_locals») (R.mutablyBorrowed (graphOf ((c .before .before .before .before .before .before .before .args) .state .«borrow_graph»)) ((c .before .before .before .before .before .before .before .args) .state .«num_locals») (some (localLabel ((c .before .before .before .before .before .before .before .args) .local .0))))) 101) (R.copyLoc ((c .before .before .before .before .before .before .before .args) .local .0)) R.Operand.nonRef _ _ (E.copy-value (runningOf ((c .before .before .before .before .before .before .before .args) .state)) ((c .before .before .before .before .before .before .before .args) .local .0) (sym ((c .before .before .before .before .before .before .local) .ensures) ∙ E.local-told ((c .before .before .before .before .before .before .local) .result) NonReference ((c .before .before .before .before .before .if1) .taken) ((c .before .before .before .enum-told) .given .1))) ((c .before .fail) .ensures ∙ ap (λ (t : Ans Bool). then (outcomeOf ((c .before .before .before .before .before .before .before .args) .state)) (failing t 101)) ((c .before .before .is-local-mutably-borrowed) .ensures)) ((c .give2) .ensures)
+returns-2 c = E.test-law ((c .before .before .before .before .before .before .before .args) .state .violation) ((c .before .before .before .before .before .before .before .args) .state .refusal) (runningOf ((c .before .before .before .before .before .before .before .args) .state)) (failing (L.ofName (graphOf ((c .before .before .before .before .before .before .before .args) .state .«borrow_graph»)) ((c .before .before .before .before .before .before .before .args) .state .«num_locals») (L.mutablyBorrowed (graphOf ((c .before .before .before .before .before .before .before .args) .state .«borrow_graph»)) ((c .before .before .before .before .before .before .before .args) .state .«num_locals») (some (localLabel ((c .before .before .before .before .before .before .before .args) .local .0))))) 101) (R.copyLoc ((c .before .before .before .before .before .before .before .args) .local .0)) S.Operand.nonRef _ _ (E.copy-value (runningOf ((c .before .before .before .before .before .before .before .args) .state)) ((c .before .before .before .before .before .before .before .args) .local .0) (sym ((c .before .before .before .before .before .before .local) .ensures) ∙ E.local-told ((c .before .before .before .before .before .before .local) .result) NonReference ((c .before .before .before .before .before .if1) .taken) ((c .before .before .before .enum-told) .given .1))) ((c .before .fail) .ensures ∙ ap (λ (t : Ans Bool). then (outcomeOf ((c .before .before .before .before .before .before .before .args) .state)) (failing t 101)) ((c .before .before .is-local-mutably-borrowed) .ensures)) ((c .give2) .ensures)
 
 refuse-requires : tie.Need-refuse-requires
 refuse-requires c κs = search needs
@@ -62,7 +63,7 @@ give-requires-3 : tie.Need-give-requires-3
 give-requires-3 c κs = search needs
 
 returns-3 : tie.Need-returns-3
-returns-3 c = E.test-law ((c .before .before .before .before .args) .state .violation) ((c .before .before .before .before .args) .state .refusal) (runningOf ((c .before .before .before .before .args) .state)) (λ s. halted 0 12 s) (R.copyLoc ((c .before .before .before .before .args) .local .0)) R.Operand.nonRef _ _ (E.copy-absent (runningOf ((c .before .before .before .before .args) .state)) ((c .before .before .before .before .args) .local .0) (sym ((c .before .before .before .local) .ensures) ∙ E.local-absent ((c .before .before .before .local) .result) ((c .before .before .if1) .left))) ((c .before .refuse) .ensures) ((c .give3) .ensures)
+returns-3 c = E.test-law ((c .before .before .before .before .args) .state .violation) ((c .before .before .before .before .args) .state .refusal) (runningOf ((c .before .before .before .before .args) .state)) (λ s. halted 0 12 s) (R.copyLoc ((c .before .before .before .before .args) .local .0)) S.Operand.nonRef _ _ (E.copy-absent (runningOf ((c .before .before .before .before .args) .state)) ((c .before .before .before .before .args) .local .0) (sym ((c .before .before .before .local) .ensures) ∙ E.local-absent ((c .before .before .before .local) .result) ((c .before .before .if1) .left))) ((c .before .refuse) .ensures) ((c .give3) .ensures)
 
 pub copy-loc-spec : {M : Type 1} → statement M
 copy-loc-spec =

@@ -42,9 +42,9 @@ give-requires c κs = search needs
 
 returns : tie.Need-returns
 returns c =
-    let needy : outcomeOf ((c .before .before .before .before .before .need) .result) ≡ then (outcomeOf ((c .before .before .before .before .before .before .before .before .before .args) .state)) (needing (L.ofName (graphOf ((c .before .before .before .before .before .before .before .before .before .args) .state .«borrow_graph»)) ((c .before .before .before .before .before .before .before .before .before .args) .id .0) (R.isMutable (graphOf ((c .before .before .before .before .before .before .before .before .before .args) .state .«borrow_graph»)) ((c .before .before .before .before .before .before .before .before .before .args) .id .0))) 13) = (c .before .before .before .before .before .need) .ensures ∙ ap (λ (t : Ans Bool). then (outcomeOf ((c .before .before .before .before .before .before .before .before .before .args) .state)) (needing t 13)) ((c .before .before .before .before .before .before .before .before .is-mutable) .ensures) in
-    let faily : outcomeOf ((c .before .before .before .before .fail) .result) ≡ then (outcomeOf ((c .before .before .before .before .before .need) .result)) (failing (L.ofName (graphOf ((c .before .before .before .before .before .before .before .before .before .args) .state .«borrow_graph»)) ((c .before .before .before .before .before .before .before .before .before .args) .id .0) (R.mutablyBorrowed (graphOf ((c .before .before .before .before .before .before .before .before .before .args) .state .«borrow_graph»)) ((c .before .before .before .before .before .before .before .before .before .args) .id .0) none)) 104) = (c .before .before .before .before .fail) .ensures ∙ ap (λ (t : Ans Bool). then (outcomeOf ((c .before .before .before .before .before .need) .result)) (failing t 104)) ((c .before .before .before .before .before .before .before .has-consistent-mutable-borrows) .ensures) in
-    E.pass-law ((c .before .before .before .before .before .before .before .before .before .args) .state .violation) ((c .before .before .before .before .before .before .before .before .before .args) .state .refusal) (runningOf ((c .before .before .before .before .before .before .before .before .before .args) .state)) (λ s. then (needing (L.ofName (graphOf ((c .before .before .before .before .before .before .before .before .before .args) .state .«borrow_graph»)) ((c .before .before .before .before .before .before .before .before .before .args) .id .0) (R.isMutable (graphOf ((c .before .before .before .before .before .before .before .before .before .args) .state .«borrow_graph»)) ((c .before .before .before .before .before .before .before .before .before .args) .id .0))) 13 s) (failing (L.ofName (graphOf ((c .before .before .before .before .before .before .before .before .before .args) .state .«borrow_graph»)) ((c .before .before .before .before .before .before .before .before .before .args) .id .0) (R.mutablyBorrowed (graphOf ((c .before .before .before .before .before .before .before .before .before .args) .state .«borrow_graph»)) ((c .before .before .before .before .before .before .before .before .before .args) .id .0) none)) 104)) false (R.addCopy ((c .before .before .before .before .before .before .before .before .before .args) .id .0)) ((c .before .before .before .before .before .before .fresh) .result .0) ((c .before .before .before .before .before .before .before .before .before .args) .id .0) _ _ _ _ _ (R.freezeRef ((c .before .before .before .before .before .before .before .before .before .args) .id .0)) (then-then (needing (L.ofName (graphOf ((c .before .before .before .before .before .before .before .before .before .args) .state .«borrow_graph»)) ((c .before .before .before .before .before .before .before .before .before .args) .id .0) (R.isMutable (graphOf ((c .before .before .before .before .before .before .before .before .before .args) .state .«borrow_graph»)) ((c .before .before .before .before .before .before .before .before .before .args) .id .0))) 13 (runningOf ((c .before .before .before .before .before .before .before .before .before .args) .state))) (failing (L.ofName (graphOf ((c .before .before .before .before .before .before .before .before .before .args) .state .«borrow_graph»)) ((c .before .before .before .before .before .before .before .before .before .args) .id .0) (R.mutablyBorrowed (graphOf ((c .before .before .before .before .before .before .before .before .before .args) .state .«borrow_graph»)) ((c .before .before .before .before .before .before .before .before .before .args) .id .0) none)) 104) (λ t. then (R.newRef false t) (E.pass (R.addCopy ((c .before .before .before .before .before .before .before .before .before .args) .id .0)) ((c .before .before .before .before .before .before .before .before .before .args) .id .0) ((c .before .before .before .before .before .before .fresh) .result .0))) ∙ E.freeze-at (runningOf ((c .before .before .before .before .before .before .before .before .before .args) .state)) ((c .before .before .before .before .before .before .fresh) .result .0) ((c .before .before .before .before .before .before .fresh) .ensures) ((c .before .before .before .before .before .before .before .before .before .args) .id .0)) (O.link (outcomeOf ((c .before .before .before .before .before .before .before .before .before .args) .state)) _ _ (needing (L.ofName (graphOf ((c .before .before .before .before .before .before .before .before .before .args) .state .«borrow_graph»)) ((c .before .before .before .before .before .before .before .before .before .args) .id .0) (R.isMutable (graphOf ((c .before .before .before .before .before .before .before .before .before .args) .state .«borrow_graph»)) ((c .before .before .before .before .before .before .before .before .before .args) .id .0))) 13) (failing (L.ofName (graphOf ((c .before .before .before .before .before .before .before .before .before .args) .state .«borrow_graph»)) ((c .before .before .before .before .before .before .before .before .before .args) .id .0) (R.mutablyBorrowed (graphOf ((c .before .before .before .before .before .before .before .before .before .args) .state .«borrow_graph»)) ((c .before .before .before .before .before .before .before .before .before .args) .id .0) none)) 104) needy faily) ((c .before .before .before .new-ref) .ensures) ((c .before .before .add-copy) .ensures) ((c .before .release) .ensures) ((c .give) .ensures)
+    let needy : outcomeOf ((c .before .before .before .before .before .need) .result) ≡ then (outcomeOf ((c .before .before .before .before .before .before .before .before .before .args) .state)) (needing (L.ofName (graphOf ((c .before .before .before .before .before .before .before .before .before .args) .state .«borrow_graph»)) ((c .before .before .before .before .before .before .before .before .before .args) .id .0) (L.isMutable (graphOf ((c .before .before .before .before .before .before .before .before .before .args) .state .«borrow_graph»)) ((c .before .before .before .before .before .before .before .before .before .args) .id .0))) 13) = (c .before .before .before .before .before .need) .ensures ∙ ap (λ (t : Ans Bool). then (outcomeOf ((c .before .before .before .before .before .before .before .before .before .args) .state)) (needing t 13)) ((c .before .before .before .before .before .before .before .before .is-mutable) .ensures) in
+    let faily : outcomeOf ((c .before .before .before .before .fail) .result) ≡ then (outcomeOf ((c .before .before .before .before .before .need) .result)) (failing (L.ofName (graphOf ((c .before .before .before .before .before .before .before .before .before .args) .state .«borrow_graph»)) ((c .before .before .before .before .before .before .before .before .before .args) .id .0) (L.mutablyBorrowed (graphOf ((c .before .before .before .before .before .before .before .before .before .args) .state .«borrow_graph»)) ((c .before .before .before .before .before .before .before .before .before .args) .id .0) none)) 104) = (c .before .before .before .before .fail) .ensures ∙ ap (λ (t : Ans Bool). then (outcomeOf ((c .before .before .before .before .before .need) .result)) (failing t 104)) ((c .before .before .before .before .before .before .before .has-consistent-mutable-borrows) .ensures) in
+    E.pass-law ((c .before .before .before .before .before .before .before .before .before .args) .state .violation) ((c .before .before .before .before .before .before .before .before .before .args) .state .refusal) (runningOf ((c .before .before .before .before .before .before .before .before .before .args) .state)) (λ s. then (needing (L.ofName (graphOf ((c .before .before .before .before .before .before .before .before .before .args) .state .«borrow_graph»)) ((c .before .before .before .before .before .before .before .before .before .args) .id .0) (L.isMutable (graphOf ((c .before .before .before .before .before .before .before .before .before .args) .state .«borrow_graph»)) ((c .before .before .before .before .before .before .before .before .before .args) .id .0))) 13 s) (failing (L.ofName (graphOf ((c .before .before .before .before .before .before .before .before .before .args) .state .«borrow_graph»)) ((c .before .before .before .before .before .before .before .before .before .args) .id .0) (L.mutablyBorrowed (graphOf ((c .before .before .before .before .before .before .before .before .before .args) .state .«borrow_graph»)) ((c .before .before .before .before .before .before .before .before .before .args) .id .0) none)) 104)) false (R.addCopy ((c .before .before .before .before .before .before .before .before .before .args) .id .0)) ((c .before .before .before .before .before .before .fresh) .result .0) ((c .before .before .before .before .before .before .before .before .before .args) .id .0) _ _ _ _ _ (R.freezeRef ((c .before .before .before .before .before .before .before .before .before .args) .id .0)) (then-then (needing (L.ofName (graphOf ((c .before .before .before .before .before .before .before .before .before .args) .state .«borrow_graph»)) ((c .before .before .before .before .before .before .before .before .before .args) .id .0) (L.isMutable (graphOf ((c .before .before .before .before .before .before .before .before .before .args) .state .«borrow_graph»)) ((c .before .before .before .before .before .before .before .before .before .args) .id .0))) 13 (runningOf ((c .before .before .before .before .before .before .before .before .before .args) .state))) (failing (L.ofName (graphOf ((c .before .before .before .before .before .before .before .before .before .args) .state .«borrow_graph»)) ((c .before .before .before .before .before .before .before .before .before .args) .id .0) (L.mutablyBorrowed (graphOf ((c .before .before .before .before .before .before .before .before .before .args) .state .«borrow_graph»)) ((c .before .before .before .before .before .before .before .before .before .args) .id .0) none)) 104) (λ t. then (R.newRef false t) (E.pass (R.addCopy ((c .before .before .before .before .before .before .before .before .before .args) .id .0)) ((c .before .before .before .before .before .before .before .before .before .args) .id .0) ((c .before .before .before .before .before .before .fresh) .result .0))) ∙ E.freeze-at (runningOf ((c .before .before .before .before .before .before .before .before .before .args) .state)) ((c .before .before .before .before .before .before .fresh) .result .0) ((c .before .before .before .before .before .before .fresh) .ensures) ((c .before .before .before .before .before .before .before .before .before .args) .id .0)) (O.link (outcomeOf ((c .before .before .before .before .before .before .before .before .before .args) .state)) _ _ (needing (L.ofName (graphOf ((c .before .before .before .before .before .before .before .before .before .args) .state .«borrow_graph»)) ((c .before .before .before .before .before .before .before .before .before .args) .id .0) (L.isMutable (graphOf ((c .before .before .before .before .before .before .before .before .before .args) .state .«borrow_graph»)) ((c .before .before .before .before .before .before .before .before .before .args) .id .0))) 13) (failing (L.ofName (graphOf ((c .before .before .before .before .before .before .before .before .before .args) .state .«borrow_graph»)) ((c .before .before .before .before .before .before .before .before .before .args) .id .0) (L.mutablyBorrowed (graphOf ((c .before .before .before .before .before .before .before .before .before .args) .state .«borrow_graph»)) ((c .before .before .before .before .before .before .before .before .before .args) .id .0) none)) 104) needy faily) ((c .before .before .before .new-ref) .ensures) ((c .before .before .add-copy) .ensures) ((c .before .release) .ensures) ((c .give) .ensures)
 
 pub freeze-ref-spec : {M : Type 1} → statement M
 freeze-ref-spec =

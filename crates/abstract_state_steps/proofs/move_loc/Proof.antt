@@ -28,7 +28,7 @@ give-requires : tie.Need-give-requires
 give-requires c κs = search needs
 
 returns : tie.Need-returns
-returns c = E.test-law ((c .before .before .before .before .before .before .before .args) .state .violation) ((c .before .before .before .before .before .before .before .args) .state .refusal) (runningOf ((c .before .before .before .before .before .before .before .args) .state)) (λ s. done (R.withLocal s ((c .before .before .before .before .before .before .before .args) .local .0) S.Local.absent)) (R.moveLoc ((c .before .before .before .before .before .before .before .args) .local .0)) (R.Operand.reference ((c .before .before .before .v) .given .0 .0 .0)) _ _ (E.move-ref (runningOf ((c .before .before .before .before .before .before .before .args) .state)) ((c .before .before .before .before .before .before .before .args) .local .0) (((c .before .before .before .v) .given .0 .0) .0) (sym ((c .before .before .before .before .before .before .local) .ensures) ∙ E.local-told ((c .before .before .before .before .before .before .local) .result) (Reference ((c .before .before .before .v) .given .0 .0)) ((c .before .before .before .before .before .if1) .taken) ((c .before .before .before .v) .given .1))) ((c .before .set-local) .ensures) ((c .give) .ensures)
+returns c = E.test-law ((c .before .before .before .before .before .before .before .args) .state .violation) ((c .before .before .before .before .before .before .before .args) .state .refusal) (runningOf ((c .before .before .before .before .before .before .before .args) .state)) (λ s. done (R.withLocal s ((c .before .before .before .before .before .before .before .args) .local .0) S.Local.absent)) (R.moveLoc ((c .before .before .before .before .before .before .before .args) .local .0)) (S.Operand.reference ((c .before .before .before .v) .given .0 .0 .0)) _ _ (E.move-ref (runningOf ((c .before .before .before .before .before .before .before .args) .state)) ((c .before .before .before .before .before .before .before .args) .local .0) (((c .before .before .before .v) .given .0 .0) .0) (sym ((c .before .before .before .before .before .before .local) .ensures) ∙ E.local-told ((c .before .before .before .before .before .before .local) .result) (Reference ((c .before .before .before .v) .given .0 .0)) ((c .before .before .before .before .before .if1) .taken) ((c .before .before .before .v) .given .1))) ((c .before .set-local) .ensures) ((c .give) .ensures)
 
 enum-told : tie.Need-enum-told
 enum-told c = search needs
@@ -46,7 +46,7 @@ give-requires-2 : tie.Need-give-requires-2
 give-requires-2 c κs = search needs
 
 returns-2 : tie.Need-returns-2
-returns-2 c = E.test-law ((c .before .before .before .before .before .before .before .before .args) .state .violation) ((c .before .before .before .before .before .before .before .before .args) .state .refusal) (runningOf ((c .before .before .before .before .before .before .before .before .args) .state)) (λ s. then (failing (L.ofName (graphOf ((c .before .before .before .before .before .before .before .before .args) .state .«borrow_graph»)) ((c .before .before .before .before .before .before .before .before .args) .state .«num_locals») (R.borrowed (graphOf ((c .before .before .before .before .before .before .before .before .args) .state .«borrow_graph»)) ((c .before .before .before .before .before .before .before .before .args) .state .«num_locals») (some (localLabel ((c .before .before .before .before .before .before .before .before .args) .local .0))))) 102 s) (λ u. done (R.withLocal u ((c .before .before .before .before .before .before .before .before .args) .local .0) S.Local.absent))) (R.moveLoc ((c .before .before .before .before .before .before .before .before .args) .local .0)) R.Operand.nonRef _ _ (E.move-value (runningOf ((c .before .before .before .before .before .before .before .before .args) .state)) ((c .before .before .before .before .before .before .before .before .args) .local .0) (sym ((c .before .before .before .before .before .before .before .local) .ensures) ∙ E.local-told ((c .before .before .before .before .before .before .before .local) .result) NonReference ((c .before .before .before .before .before .before .if1) .taken) ((c .before .before .before .before .enum-told) .given .1))) (O.link (outcomeOf ((c .before .before .before .before .before .before .before .before .args) .state)) _ _ (failing (L.ofName (graphOf ((c .before .before .before .before .before .before .before .before .args) .state .«borrow_graph»)) ((c .before .before .before .before .before .before .before .before .args) .state .«num_locals») (R.borrowed (graphOf ((c .before .before .before .before .before .before .before .before .args) .state .«borrow_graph»)) ((c .before .before .before .before .before .before .before .before .args) .state .«num_locals») (some (localLabel ((c .before .before .before .before .before .before .before .before .args) .local .0))))) 102) (λ u. done (R.withLocal u ((c .before .before .before .before .before .before .before .before .args) .local .0) S.Local.absent)) ((c .before .before .fail) .ensures ∙ ap (λ (t : Ans Bool). then (outcomeOf ((c .before .before .before .before .before .before .before .before .args) .state)) (failing t 102)) ((c .before .before .before .is-local-borrowed) .ensures)) ((c .before .set-local2) .ensures)) ((c .give2) .ensures)
+returns-2 c = E.test-law ((c .before .before .before .before .before .before .before .before .args) .state .violation) ((c .before .before .before .before .before .before .before .before .args) .state .refusal) (runningOf ((c .before .before .before .before .before .before .before .before .args) .state)) (λ s. then (failing (L.ofName (graphOf ((c .before .before .before .before .before .before .before .before .args) .state .«borrow_graph»)) ((c .before .before .before .before .before .before .before .before .args) .state .«num_locals») (L.borrowed (graphOf ((c .before .before .before .before .before .before .before .before .args) .state .«borrow_graph»)) ((c .before .before .before .before .before .before .before .before .args) .state .«num_locals») (some (localLabel ((c .before .before .before .before .before .before .before .before .args) .local .0))))) 102 s) (λ u. done (R.withLocal u ((c .before .before .before .before .before .before .before .before .args) .local .0) S.Local.absent))) (R.moveLoc ((c .before .before .before .before .before .before .before .before .args) .local .0)) S.Operand.nonRef _ _ (E.move-value (runningOf ((c .before .before .before .before .before .before .before .before .args) .state)) ((c .before .before .before .before .before .before .before .before .args) .local .0) (sym ((c .before .before .before .before .before .before .before .local) .ensures) ∙ E.local-told ((c .before .before .before .before .before .before .before .local) .result) NonReference ((c .before .before .before .before .before .before .if1) .taken) ((c .before .before .before .before .enum-told) .given .1))) (O.link (outcomeOf ((c .before .before .before .before .before .before .before .before .args) .state)) _ _ (failing (L.ofName (graphOf ((c .before .before .before .before .before .before .before .before .args) .state .«borrow_graph»)) ((c .before .before .before .before .before .before .before .before .args) .state .«num_locals») (L.borrowed (graphOf ((c .before .before .before .before .before .before .before .before .args) .state .«borrow_graph»)) ((c .before .before .before .before .before .before .before .before .args) .state .«num_locals») (some (localLabel ((c .before .before .before .before .before .before .before .before .args) .local .0))))) 102) (λ u. done (R.withLocal u ((c .before .before .before .before .before .before .before .before .args) .local .0) S.Local.absent)) ((c .before .before .fail) .ensures ∙ ap (λ (t : Ans Bool). then (outcomeOf ((c .before .before .before .before .before .before .before .before .args) .state)) (failing t 102)) ((c .before .before .before .is-local-borrowed) .ensures)) ((c .before .set-local2) .ensures)) ((c .give2) .ensures)
 
 refuse-requires : tie.Need-refuse-requires
 refuse-requires c κs = search needs
@@ -55,7 +55,7 @@ give-requires-3 : tie.Need-give-requires-3
 give-requires-3 c κs = search needs
 
 returns-3 : tie.Need-returns-3
-returns-3 c = E.test-law ((c .before .before .before .before .args) .state .violation) ((c .before .before .before .before .args) .state .refusal) (runningOf ((c .before .before .before .before .args) .state)) (λ s. halted 0 12 s) (R.moveLoc ((c .before .before .before .before .args) .local .0)) R.Operand.nonRef _ _ (E.move-absent (runningOf ((c .before .before .before .before .args) .state)) ((c .before .before .before .before .args) .local .0) (sym ((c .before .before .before .local) .ensures) ∙ E.local-absent ((c .before .before .before .local) .result) ((c .before .before .if1) .left))) ((c .before .refuse) .ensures) ((c .give3) .ensures)
+returns-3 c = E.test-law ((c .before .before .before .before .args) .state .violation) ((c .before .before .before .before .args) .state .refusal) (runningOf ((c .before .before .before .before .args) .state)) (λ s. halted 0 12 s) (R.moveLoc ((c .before .before .before .before .args) .local .0)) S.Operand.nonRef _ _ (E.move-absent (runningOf ((c .before .before .before .before .args) .state)) ((c .before .before .before .before .args) .local .0) (sym ((c .before .before .before .local) .ensures) ∙ E.local-absent ((c .before .before .before .local) .result) ((c .before .before .if1) .left))) ((c .before .refuse) .ensures) ((c .give3) .ensures)
 
 pub move-loc-spec : {M : Type 1} → statement M
 move-loc-spec =

@@ -40,7 +40,7 @@ fail-requires : tie.Need-fail-requires
 fail-requires c κs = search needs
 
 returns-2 : tie.Need-returns-2
-returns-2 c = E.test-call ((c .before .before .before .before .before .before .before .args) .state .violation) ((c .before .before .before .before .before .before .before .args) .state .refusal) (runningOf ((c .before .before .before .before .before .before .before .args) .state)) (λ s. done (R.withLocal s ((c .before .before .before .before .before .before .before .args) .local .0) (R.localOf (operandOf ((c .before .before .before .before .before .before .before .args) .new))))) (failing (L.ofName (graphOf ((c .before .before .before .before .before .before .before .args) .state .«borrow_graph»)) ((c .before .before .before .before .before .before .before .args) .state .«num_locals») (R.borrowed (graphOf ((c .before .before .before .before .before .before .before .args) .state .«borrow_graph»)) ((c .before .before .before .before .before .before .before .args) .state .«num_locals») (some (localLabel ((c .before .before .before .before .before .before .before .args) .local .0))))) 103) (R.stLoc ((c .before .before .before .before .before .before .before .args) .local .0) (operandOf ((c .before .before .before .before .before .before .before .args) .new))) _ _ (E.store-value (runningOf ((c .before .before .before .before .before .before .before .args) .state)) ((c .before .before .before .before .before .before .before .args) .local .0) (operandOf ((c .before .before .before .before .before .before .before .args) .new)) (sym ((c .before .before .before .before .before .before .local) .ensures) ∙ E.local-told ((c .before .before .before .before .before .before .local) .result) NonReference ((c .before .before .before .before .if1) .taken) ((c .before .before .enum-told) .given .1))) ((c .before .before .before .before .before .set-local) .ensures) ((c .fail) .ensures ∙ ap (λ (t : Ans Bool). then (outcomeOf ((c .before .before .before .before .before .set-local) .result)) (failing t 103)) ((c .before .is-local-borrowed) .ensures))
+returns-2 c = E.test-call ((c .before .before .before .before .before .before .before .args) .state .violation) ((c .before .before .before .before .before .before .before .args) .state .refusal) (runningOf ((c .before .before .before .before .before .before .before .args) .state)) (λ s. done (R.withLocal s ((c .before .before .before .before .before .before .before .args) .local .0) (R.localOf (operandOf ((c .before .before .before .before .before .before .before .args) .new))))) (failing (L.ofName (graphOf ((c .before .before .before .before .before .before .before .args) .state .«borrow_graph»)) ((c .before .before .before .before .before .before .before .args) .state .«num_locals») (L.borrowed (graphOf ((c .before .before .before .before .before .before .before .args) .state .«borrow_graph»)) ((c .before .before .before .before .before .before .before .args) .state .«num_locals») (some (localLabel ((c .before .before .before .before .before .before .before .args) .local .0))))) 103) (R.stLoc ((c .before .before .before .before .before .before .before .args) .local .0) (operandOf ((c .before .before .before .before .before .before .before .args) .new))) _ _ (E.store-value (runningOf ((c .before .before .before .before .before .before .before .args) .state)) ((c .before .before .before .before .before .before .before .args) .local .0) (operandOf ((c .before .before .before .before .before .before .before .args) .new)) (sym ((c .before .before .before .before .before .before .local) .ensures) ∙ E.local-told ((c .before .before .before .before .before .before .local) .result) NonReference ((c .before .before .before .before .if1) .taken) ((c .before .before .enum-told) .given .1))) ((c .before .before .before .before .before .set-local) .ensures) ((c .fail) .ensures ∙ ap (λ (t : Ans Bool). then (outcomeOf ((c .before .before .before .before .before .set-local) .result)) (failing t 103)) ((c .before .is-local-borrowed) .ensures))
 
 returns-3 : tie.Need-returns-3
 returns-3 c = (c .before .set-local) .ensures ∙ here ((c .before .before .before .args) .state .violation) ((c .before .before .before .args) .state .refusal) (runningOf ((c .before .before .before .args) .state)) (λ s. done (R.withLocal s ((c .before .before .before .args) .local .0) (R.localOf (operandOf ((c .before .before .before .args) .new))))) (R.stLoc ((c .before .before .before .args) .local .0) (operandOf ((c .before .before .before .args) .new))) (E.store-over (runningOf ((c .before .before .before .args) .state)) ((c .before .before .before .args) .local .0) (operandOf ((c .before .before .before .args) .new)) S.Local.absent (sym ((c .before .before .local) .ensures) ∙ E.local-absent ((c .before .before .local) .result) ((c .if1) .left)))

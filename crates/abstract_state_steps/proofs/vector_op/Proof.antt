@@ -1,4 +1,5 @@
 use Rattle.meaning.specs.EntryPoints as R
+use Rattle.meaning.specs.AbstractState as S
 use Rattle.meaning.specs.Answers.{done}
 use Rattle.abstract_state.specs.Models.{runningOf}
 use Rattle.abstract_state_steps.specs.EntryLaws as E
@@ -22,7 +23,7 @@ refuse-requires : tie.Need-refuse-requires
 refuse-requires c κs = search needs
 
 returns : tie.Need-returns
-returns c = rw ((c .before .before .before .vector) .given .1) (E.test-call ((c .before .before .before .before .before .args) .state .violation) ((c .before .before .before .before .before .args) .state .refusal) (runningOf ((c .before .before .before .before .before .args) .state)) (λ s. R.needsName (s .graph) ((c .before .before .before .vector) .given .0 .0 .0) (R.vectorTest ((c .before .before .before .before .before .args) .mutable) (s .graph) ((c .before .before .before .vector) .given .0 .0 .0) 110 (done s))) (R.releaseName ((c .before .before .before .vector) .given .0 .0 .0)) (R.vectorOp (R.Operand.reference ((c .before .before .before .vector) .given .0 .0 .0)) ((c .before .before .before .before .before .args) .mutable)) _ _ (E.vector-op-at (runningOf ((c .before .before .before .before .before .args) .state)) ((c .before .before .before .before .before .args) .mutable) ((c .before .before .before .vector) .given .0 .0 .0)) ((c .before .vector-test) .ensures) ((c .release) .ensures))
+returns c = rw ((c .before .before .before .vector) .given .1) (E.test-call ((c .before .before .before .before .before .args) .state .violation) ((c .before .before .before .before .before .args) .state .refusal) (runningOf ((c .before .before .before .before .before .args) .state)) (λ s. R.needsName (s .graph) ((c .before .before .before .vector) .given .0 .0 .0) (R.vectorTest ((c .before .before .before .before .before .args) .mutable) (s .graph) ((c .before .before .before .vector) .given .0 .0 .0) 110 (done s))) (R.releaseName ((c .before .before .before .vector) .given .0 .0 .0)) (R.vectorOp (S.Operand.reference ((c .before .before .before .vector) .given .0 .0 .0)) ((c .before .before .before .before .before .args) .mutable)) _ _ (E.vector-op-at (runningOf ((c .before .before .before .before .before .args) .state)) ((c .before .before .before .before .before .args) .mutable) ((c .before .before .before .vector) .given .0 .0 .0)) ((c .before .vector-test) .ensures) ((c .release) .ensures))
 
 returns-2 : tie.Need-returns-2
 unfolding R.vectorOp

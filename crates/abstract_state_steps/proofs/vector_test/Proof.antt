@@ -28,15 +28,15 @@ fail-requires c κs = search needs
 
 returns : tie.Need-returns
 returns c =
-    let needy : outcomeOf ((c .before .need) .result) ≡ then (outcomeOf ((c .before .before .before .before .before .args) .state)) (needing (L.ofName (graphOf ((c .before .before .before .before .before .args) .state .«borrow_graph»)) ((c .before .before .before .before .before .args) .id .0) (R.isMutable (graphOf ((c .before .before .before .before .before .args) .state .«borrow_graph»)) ((c .before .before .before .before .before .args) .id .0))) 13) = (c .before .need) .ensures ∙ ap (λ (t : Ans Bool). then (outcomeOf ((c .before .before .before .before .before .args) .state)) (needing t 13)) ((c .before .before .before .before .is-mutable) .ensures) in
-    let faily : outcomeOf ((c .fail) .result) ≡ then (outcomeOf ((c .before .need) .result)) (failing (L.ofName (graphOf ((c .before .before .before .before .before .args) .state .«borrow_graph»)) ((c .before .before .before .before .before .args) .id .0) (R.borrowed (graphOf ((c .before .before .before .before .before .args) .state .«borrow_graph»)) ((c .before .before .before .before .before .args) .id .0) none)) ((c .before .before .before .before .before .args) .code)) = (c .fail) .ensures ∙ ap (λ (t : Ans Bool). then (outcomeOf ((c .before .need) .result)) (failing t ((c .before .before .before .before .before .args) .code))) ((c .before .before .has-consistent-borrows) .ensures) in
-    rw ((c .before .before .before .if1) .taken) (E.test-call ((c .before .before .before .before .before .args) .state .violation) ((c .before .before .before .before .before .args) .state .refusal) (runningOf ((c .before .before .before .before .before .args) .state)) (needing (L.ofName (graphOf ((c .before .before .before .before .before .args) .state .«borrow_graph»)) ((c .before .before .before .before .before .args) .id .0) (R.isMutable (graphOf ((c .before .before .before .before .before .args) .state .«borrow_graph»)) ((c .before .before .before .before .before .args) .id .0))) 13) (failing (L.ofName (graphOf ((c .before .before .before .before .before .args) .state .«borrow_graph»)) ((c .before .before .before .before .before .args) .id .0) (R.borrowed (graphOf ((c .before .before .before .before .before .args) .state .«borrow_graph»)) ((c .before .before .before .before .before .args) .id .0) none)) ((c .before .before .before .before .before .args) .code)) (λ s. R.needsName (s .graph) ((c .before .before .before .before .before .args) .id .0) (R.vectorTest true (s .graph) ((c .before .before .before .before .before .args) .id .0) ((c .before .before .before .before .before .args) .code) (done s))) _ _ (E.vector-mutable (runningOf ((c .before .before .before .before .before .args) .state)) ((c .before .before .before .before .before .args) .id .0) ((c .before .before .before .before .before .args) .code) (ne-eqb _ _ ((c .before .before .before .before .before .pre)))) needy faily)
+    let needy : outcomeOf ((c .before .need) .result) ≡ then (outcomeOf ((c .before .before .before .before .before .args) .state)) (needing (L.ofName (graphOf ((c .before .before .before .before .before .args) .state .«borrow_graph»)) ((c .before .before .before .before .before .args) .id .0) (L.isMutable (graphOf ((c .before .before .before .before .before .args) .state .«borrow_graph»)) ((c .before .before .before .before .before .args) .id .0))) 13) = (c .before .need) .ensures ∙ ap (λ (t : Ans Bool). then (outcomeOf ((c .before .before .before .before .before .args) .state)) (needing t 13)) ((c .before .before .before .before .is-mutable) .ensures) in
+    let faily : outcomeOf ((c .fail) .result) ≡ then (outcomeOf ((c .before .need) .result)) (failing (L.ofName (graphOf ((c .before .before .before .before .before .args) .state .«borrow_graph»)) ((c .before .before .before .before .before .args) .id .0) (L.borrowed (graphOf ((c .before .before .before .before .before .args) .state .«borrow_graph»)) ((c .before .before .before .before .before .args) .id .0) none)) ((c .before .before .before .before .before .args) .code)) = (c .fail) .ensures ∙ ap (λ (t : Ans Bool). then (outcomeOf ((c .before .need) .result)) (failing t ((c .before .before .before .before .before .args) .code))) ((c .before .before .has-consistent-borrows) .ensures) in
+    rw ((c .before .before .before .if1) .taken) (E.test-call ((c .before .before .before .before .before .args) .state .violation) ((c .before .before .before .before .before .args) .state .refusal) (runningOf ((c .before .before .before .before .before .args) .state)) (needing (L.ofName (graphOf ((c .before .before .before .before .before .args) .state .«borrow_graph»)) ((c .before .before .before .before .before .args) .id .0) (L.isMutable (graphOf ((c .before .before .before .before .before .args) .state .«borrow_graph»)) ((c .before .before .before .before .before .args) .id .0))) 13) (failing (L.ofName (graphOf ((c .before .before .before .before .before .args) .state .«borrow_graph»)) ((c .before .before .before .before .before .args) .id .0) (L.borrowed (graphOf ((c .before .before .before .before .before .args) .state .«borrow_graph»)) ((c .before .before .before .before .before .args) .id .0) none)) ((c .before .before .before .before .before .args) .code)) (λ s. R.needsName (s .graph) ((c .before .before .before .before .before .args) .id .0) (R.vectorTest true (s .graph) ((c .before .before .before .before .before .args) .id .0) ((c .before .before .before .before .before .args) .code) (done s))) _ _ (E.vector-mutable (runningOf ((c .before .before .before .before .before .args) .state)) ((c .before .before .before .before .before .args) .id .0) ((c .before .before .before .before .before .args) .code) (ne-eqb _ _ ((c .before .before .before .before .before .pre)))) needy faily)
 
 heed-requires : tie.Need-heed-requires
 heed-requires c κs = search needs
 
 returns-2 : tie.Need-returns-2
-returns-2 c = rw ((c .before .if1) .left) ((c .heed) .ensures ∙ ap (λ (t : Ans Bool). then (outcomeOf ((c .before .before .before .args) .state)) (heeding t)) ((c .before .before .is-mutable) .ensures) ∙ here ((c .before .before .before .args) .state .violation) ((c .before .before .before .args) .state .refusal) (runningOf ((c .before .before .before .args) .state)) (heeding (L.ofName (graphOf ((c .before .before .before .args) .state .«borrow_graph»)) ((c .before .before .before .args) .id .0) (R.isMutable (graphOf ((c .before .before .before .args) .state .«borrow_graph»)) ((c .before .before .before .args) .id .0)))) (λ s. R.needsName (s .graph) ((c .before .before .before .args) .id .0) (done s)) (O.then-done (heeding (L.ofName (graphOf ((c .before .before .before .args) .state .«borrow_graph»)) ((c .before .before .before .args) .id .0) (R.isMutable (graphOf ((c .before .before .before .args) .state .«borrow_graph»)) ((c .before .before .before .args) .id .0))) (runningOf ((c .before .before .before .args) .state))) ∙ E.heed-at (graphOf ((c .before .before .before .args) .state .«borrow_graph»)) ((c .before .before .before .args) .id .0) (R.isMutable (graphOf ((c .before .before .before .args) .state .«borrow_graph»)) ((c .before .before .before .args) .id .0)) (runningOf ((c .before .before .before .args) .state)) done))
+returns-2 c = rw ((c .before .if1) .left) ((c .heed) .ensures ∙ ap (λ (t : Ans Bool). then (outcomeOf ((c .before .before .before .args) .state)) (heeding t)) ((c .before .before .is-mutable) .ensures) ∙ here ((c .before .before .before .args) .state .violation) ((c .before .before .before .args) .state .refusal) (runningOf ((c .before .before .before .args) .state)) (heeding (L.ofName (graphOf ((c .before .before .before .args) .state .«borrow_graph»)) ((c .before .before .before .args) .id .0) (L.isMutable (graphOf ((c .before .before .before .args) .state .«borrow_graph»)) ((c .before .before .before .args) .id .0)))) (λ s. R.needsName (s .graph) ((c .before .before .before .args) .id .0) (done s)) (O.then-done (heeding (L.ofName (graphOf ((c .before .before .before .args) .state .«borrow_graph»)) ((c .before .before .before .args) .id .0) (L.isMutable (graphOf ((c .before .before .before .args) .state .«borrow_graph»)) ((c .before .before .before .args) .id .0))) (runningOf ((c .before .before .before .args) .state))) ∙ E.heed-at (graphOf ((c .before .before .before .args) .state .«borrow_graph»)) ((c .before .before .before .args) .id .0) (L.isMutable (graphOf ((c .before .before .before .args) .state .«borrow_graph»)) ((c .before .before .before .args) .id .0)) (runningOf ((c .before .before .before .args) .state)) done))
 
 pub vector-test-spec : {M : Type 1} → statement M
 vector-test-spec =

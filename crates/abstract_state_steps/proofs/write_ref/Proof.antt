@@ -29,9 +29,9 @@ release-requires c κs = search needs
 
 returns : tie.Need-returns
 returns c =
-    let needy : outcomeOf ((c .before .before .need) .result) ≡ then (outcomeOf ((c .before .before .before .before .before .args) .state)) (needing (L.ofName (graphOf ((c .before .before .before .before .before .args) .state .«borrow_graph»)) ((c .before .before .before .before .before .args) .id .0) (R.isMutable (graphOf ((c .before .before .before .before .before .args) .state .«borrow_graph»)) ((c .before .before .before .before .before .args) .id .0))) 13) = (c .before .before .need) .ensures ∙ ap (λ (t : Ans Bool). then (outcomeOf ((c .before .before .before .before .before .args) .state)) (needing t 13)) ((c .before .before .before .before .is-mutable) .ensures) in
-    let faily : outcomeOf ((c .before .fail) .result) ≡ then (outcomeOf ((c .before .before .need) .result)) (failing (L.ofName (graphOf ((c .before .before .before .before .before .args) .state .«borrow_graph»)) ((c .before .before .before .before .before .args) .id .0) (R.borrowed (graphOf ((c .before .before .before .before .before .args) .state .«borrow_graph»)) ((c .before .before .before .before .before .args) .id .0) none)) 106) = (c .before .fail) .ensures ∙ ap (λ (t : Ans Bool). then (outcomeOf ((c .before .before .need) .result)) (failing t 106)) ((c .before .before .before .has-consistent-borrows) .ensures) in
-    E.test-call ((c .before .before .before .before .before .args) .state .violation) ((c .before .before .before .before .before .args) .state .refusal) (runningOf ((c .before .before .before .before .before .args) .state)) (λ s. then (needing (L.ofName (graphOf ((c .before .before .before .before .before .args) .state .«borrow_graph»)) ((c .before .before .before .before .before .args) .id .0) (R.isMutable (graphOf ((c .before .before .before .before .before .args) .state .«borrow_graph»)) ((c .before .before .before .before .before .args) .id .0))) 13 s) (failing (L.ofName (graphOf ((c .before .before .before .before .before .args) .state .«borrow_graph»)) ((c .before .before .before .before .before .args) .id .0) (R.borrowed (graphOf ((c .before .before .before .before .before .args) .state .«borrow_graph»)) ((c .before .before .before .before .before .args) .id .0) none)) 106)) (R.releaseName ((c .before .before .before .before .before .args) .id .0)) (R.writeRef ((c .before .before .before .before .before .args) .id .0)) _ _ (E.write-at (runningOf ((c .before .before .before .before .before .args) .state)) ((c .before .before .before .before .before .args) .id .0)) (O.link (outcomeOf ((c .before .before .before .before .before .args) .state)) _ _ (needing (L.ofName (graphOf ((c .before .before .before .before .before .args) .state .«borrow_graph»)) ((c .before .before .before .before .before .args) .id .0) (R.isMutable (graphOf ((c .before .before .before .before .before .args) .state .«borrow_graph»)) ((c .before .before .before .before .before .args) .id .0))) 13) (failing (L.ofName (graphOf ((c .before .before .before .before .before .args) .state .«borrow_graph»)) ((c .before .before .before .before .before .args) .id .0) (R.borrowed (graphOf ((c .before .before .before .before .before .args) .state .«borrow_graph»)) ((c .before .before .before .before .before .args) .id .0) none)) 106) needy faily) ((c .release) .ensures)
+    let needy : outcomeOf ((c .before .before .need) .result) ≡ then (outcomeOf ((c .before .before .before .before .before .args) .state)) (needing (L.ofName (graphOf ((c .before .before .before .before .before .args) .state .«borrow_graph»)) ((c .before .before .before .before .before .args) .id .0) (L.isMutable (graphOf ((c .before .before .before .before .before .args) .state .«borrow_graph»)) ((c .before .before .before .before .before .args) .id .0))) 13) = (c .before .before .need) .ensures ∙ ap (λ (t : Ans Bool). then (outcomeOf ((c .before .before .before .before .before .args) .state)) (needing t 13)) ((c .before .before .before .before .is-mutable) .ensures) in
+    let faily : outcomeOf ((c .before .fail) .result) ≡ then (outcomeOf ((c .before .before .need) .result)) (failing (L.ofName (graphOf ((c .before .before .before .before .before .args) .state .«borrow_graph»)) ((c .before .before .before .before .before .args) .id .0) (L.borrowed (graphOf ((c .before .before .before .before .before .args) .state .«borrow_graph»)) ((c .before .before .before .before .before .args) .id .0) none)) 106) = (c .before .fail) .ensures ∙ ap (λ (t : Ans Bool). then (outcomeOf ((c .before .before .need) .result)) (failing t 106)) ((c .before .before .before .has-consistent-borrows) .ensures) in
+    E.test-call ((c .before .before .before .before .before .args) .state .violation) ((c .before .before .before .before .before .args) .state .refusal) (runningOf ((c .before .before .before .before .before .args) .state)) (λ s. then (needing (L.ofName (graphOf ((c .before .before .before .before .before .args) .state .«borrow_graph»)) ((c .before .before .before .before .before .args) .id .0) (L.isMutable (graphOf ((c .before .before .before .before .before .args) .state .«borrow_graph»)) ((c .before .before .before .before .before .args) .id .0))) 13 s) (failing (L.ofName (graphOf ((c .before .before .before .before .before .args) .state .«borrow_graph»)) ((c .before .before .before .before .before .args) .id .0) (L.borrowed (graphOf ((c .before .before .before .before .before .args) .state .«borrow_graph»)) ((c .before .before .before .before .before .args) .id .0) none)) 106)) (R.releaseName ((c .before .before .before .before .before .args) .id .0)) (R.writeRef ((c .before .before .before .before .before .args) .id .0)) _ _ (E.write-at (runningOf ((c .before .before .before .before .before .args) .state)) ((c .before .before .before .before .before .args) .id .0)) (O.link (outcomeOf ((c .before .before .before .before .before .args) .state)) _ _ (needing (L.ofName (graphOf ((c .before .before .before .before .before .args) .state .«borrow_graph»)) ((c .before .before .before .before .before .args) .id .0) (L.isMutable (graphOf ((c .before .before .before .before .before .args) .state .«borrow_graph»)) ((c .before .before .before .before .before .args) .id .0))) 13) (failing (L.ofName (graphOf ((c .before .before .before .before .before .args) .state .«borrow_graph»)) ((c .before .before .before .before .before .args) .id .0) (L.borrowed (graphOf ((c .before .before .before .before .before .args) .state .«borrow_graph»)) ((c .before .before .before .before .before .args) .id .0) none)) 106) needy faily) ((c .release) .ensures)
 
 pub write-ref-spec : {M : Type 1} → statement M
 write-ref-spec =

@@ -1,4 +1,4 @@
--- `listing_bench::listing_number` meets its contract. Assumes nothing.
+-- `bench_listing::listing_number` meets its contract. Assumes nothing.
 use mathlib.Core.Path.{_≡_, refl, sym, ap, _∙_}
 use mathlib.Core.List.{List}
 use Prim.Native.Nat.{ℕ}

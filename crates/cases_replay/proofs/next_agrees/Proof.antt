@@ -1,4 +1,4 @@
--- `replay::next_agrees` is safe and ends. Assumes nothing.
+-- `cases_replay::next_agrees` is safe and ends. Assumes nothing.
 use native.Mathlib.Omega.{arith}
 use mathlib.Core.Path.{_≡_, sym, _∙_}
 use mathlib.Core.List.{List, _++_}

@@ -1,4 +1,4 @@
--- `replay::replay` is safe and ends. Assumes nothing.
+-- `cases_replay::replay` is safe and ends. Assumes nothing.
 use Prim.Native.Nat.{_-_, _≤_}
 use native.Mathlib.Omega.{arith}
 use Rattle.cases_replay.proofs.replay.Statement.{statement}

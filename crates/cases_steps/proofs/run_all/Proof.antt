@@ -1,4 +1,4 @@
--- `step_cases::run_all` meets its contract. Assumes nothing.
+-- `cases_steps::run_all` meets its contract. Assumes nothing.
 use Prim.Native.Nat.{_≤_, _-_}
 use native.Mathlib.Omega.{arith}
 use lib.ListN.{length}

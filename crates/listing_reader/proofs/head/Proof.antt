@@ -1,4 +1,4 @@
--- `reader::head` meets its contract: a walk of its MIR, by hand. A `Reader` that one call returns is held in a local and passed to the body. All that the proof knows of `Reader::new` and `Reader::body` is that each meets its contract.
+-- `listing_reader::head` meets its contract: a walk of its MIR, by hand. A `Reader` that one call returns is held in a local and passed to the body. All that the proof knows of `Reader::new` and `Reader::body` is that each meets its contract.
 -- In a local of a body MIR erases the lifetime of the struct's type, so the value is shown to have the type at `erased`. Assumes nothing.
 use mathlib.Core.Path.{_≡_, refl, ap, _∙_}
 use Prim.Native.Nat.{ℕ}
@@ -155,5 +155,5 @@ head-spec 𝓤 H 𝓜 𝓖 𝓡 =
     entered 𝓤 H (tripleOf 𝓤 H (𝓖 .A) head.signature (head.spec 𝓤 H (𝓖 .A) (𝓜 .mem) (𝓡 .run)))
     (tables 𝓤 H 𝓜 𝓡 code.env .C) (tables 𝓤 H 𝓜 𝓡 code.env .Λ) #head code.function (code.unfolded 𝓤 H 𝓜 𝓡)
     (head-meets 𝓤 H (𝓖 .A) (givenOf 𝓤 H 𝓜 𝓖) (𝓜 .mem) (𝓡 .run) (tablesOf 𝓤 H 𝓜 (tables 𝓤 H 𝓜 𝓡 code.env))
-    (cited 𝓤 H (New 𝓤 H (𝓖 .A) (𝓜 .mem) (𝓡 .run)) 𝓜 𝓡 code.env #new new-def.routine code.calls-reader·Reader·new (new-thm.met 𝓤 H 𝓜 𝓖 𝓡))
-    (cited 𝓤 H (BodyOf 𝓤 H (𝓖 .A) (𝓜 .mem) (𝓡 .run)) 𝓜 𝓡 code.env #body body-def.routine code.calls-reader·Reader·body (body-thm.met 𝓤 H 𝓜 𝓖 𝓡)))
+    (cited 𝓤 H (New 𝓤 H (𝓖 .A) (𝓜 .mem) (𝓡 .run)) 𝓜 𝓡 code.env #new new-def.routine code.calls-listing-reader·Reader·new (new-thm.met 𝓤 H 𝓜 𝓖 𝓡))
+    (cited 𝓤 H (BodyOf 𝓤 H (𝓖 .A) (𝓜 .mem) (𝓡 .run)) 𝓜 𝓡 code.env #body body-def.routine code.calls-listing-reader·Reader·body (body-thm.met 𝓤 H 𝓜 𝓖 𝓡)))

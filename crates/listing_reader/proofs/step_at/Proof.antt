@@ -1,4 +1,4 @@
--- `reader::step_at` meets its contract. Assumes nothing.
+-- `listing_reader::step_at` meets its contract. Assumes nothing.
 use Prim.Native.Nat.{ℕ}
 use mathlib.Core.Path.{_≡_, refl, sym, ap, _∙_}
 use mathlib.Core.List.{List}

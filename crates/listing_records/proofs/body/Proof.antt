@@ -1,4 +1,4 @@
--- `records::body` meets its contract. Assumes nothing.
+-- `listing_records::body` meets its contract. Assumes nothing.
 use mathlib.Core.Path.{_≡_, sym, ap, _∙_}
 use borrow.Author.Tests.{leb-true}
 use Prim.Native.Nat.{ℕ, _+_, _-_, _≤_}

@@ -1,4 +1,4 @@
--- `records::byte_at` meets its contract. Assumes nothing.
+-- `listing_records::byte_at` meets its contract. Assumes nothing.
 use borrow.Author.Needs.{needs}
 use mathlib.Core.Path.{sym}
 use lib.ListN.{List·getD-eq-default}

@@ -1,4 +1,4 @@
--- `records::limit_of` meets its contract. Assumes nothing.
+-- `listing_records::limit_of` meets its contract. Assumes nothing.
 use Rattle.listing_records.proofs.Laws.{limit-low, limit-high}
 use borrow.Author.Needs.{needs}
 use Rattle.listing_records.proofs.limit_of.Statement.{statement}

@@ -1,4 +1,4 @@
--- `records::misplaced` meets its contract. Assumes nothing.
+-- `listing_records::misplaced` meets its contract. Assumes nothing.
 use mathlib.Core.Path.{sym}
 use borrow.Author.Tests.{eq-eqb, ne-eqb}
 use Rattle.listing_records.proofs.Laws.{beq-first, beq-later}

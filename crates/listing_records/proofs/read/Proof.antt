@@ -1,4 +1,4 @@
--- `records::read` meets its contract. Assumes nothing.
+-- `listing_records::read` meets its contract. Assumes nothing.
 use mathlib.Core.Path.{_≡_, sym, _∙_}
 use mathlib.Core.Bool.{true, false}
 use borrow.Author.Tests.{le-leb, lt-leb, leb-true}

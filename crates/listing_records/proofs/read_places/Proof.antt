@@ -1,4 +1,4 @@
--- `records::read_places` meets its contract. Assumes nothing.
+-- `listing_records::read_places` meets its contract. Assumes nothing.
 use native.Mathlib.Omega.{arith}
 use mathlib.Core.Path.{sym, ap, _∙_}
 use Rattle.meaning.specs.Listing.{localsOf}

@@ -1,4 +1,4 @@
--- `records::read_records` meets its contract. Assumes nothing.
+-- `listing_records::read_records` meets its contract. Assumes nothing.
 use mathlib.Core.Path.{_≡_, refl, sym, _∙_}
 use Prim.Native.Nat.{_-_, _≤_}
 use lib.ListN.{length, take, length-set}

@@ -1,4 +1,4 @@
--- `records::test_body` meets its contract. Assumes nothing.
+-- `listing_records::test_body` meets its contract. Assumes nothing.
 use mathlib.Core.Path.{_≡_, refl, sym, ap, _∙_}
 use Prim.Native.Nat.{ℕ, _-_, _%_, _/_, _≤_, _<_}
 use mathlib.Core.Bool.{_&&_}

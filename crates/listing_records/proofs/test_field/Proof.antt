@@ -1,4 +1,4 @@
--- `records::test_field` meets its contract. Assumes nothing.
+-- `listing_records::test_field` meets its contract. Assumes nothing.
 use mathlib.Core.Path.{refl, sym, ap}
 use borrow.Author.Tests.{le-leb}
 use Prim.Native.Nat.{ℕ, _<_}

@@ -1,4 +1,4 @@
--- `records::test_record` meets its contract. Assumes nothing.
+-- `listing_records::test_record` meets its contract. Assumes nothing.
 use mathlib.Core.Path.{_≡_, sym, ap, _∙_}
 use borrow.Author.Tests.{not-true, not-false}
 use mathlib.Core.Bool.{true, false, Bool·beq}

@@ -1,4 +1,4 @@
--- `records::tokens_from` meets its contract. Assumes nothing.
+-- `listing_records::tokens_from` meets its contract. Assumes nothing.
 use mathlib.Core.Path.{_≡_, ap, _∙_}
 use Prim.Native.Nat.{ℕ, _+_, _-_}
 use lib.ListN.{take, drop}

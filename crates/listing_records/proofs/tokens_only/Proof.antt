@@ -1,4 +1,4 @@
--- `records::tokens_only` meets its contract. Assumes nothing.
+-- `listing_records::tokens_only` meets its contract. Assumes nothing.
 use mathlib.Core.Path.{_≡_, refl}
 use borrow.Author.Tests.{le-leb, lt-leb}
 use Prim.Native.Nat.{_≤_, _-_}

@@ -1,4 +1,4 @@
--- `records::u16_in` meets its contract. Assumes nothing.
+-- `listing_records::u16_in` meets its contract. Assumes nothing.
 use mathlib.Core.Path.{_≡_}
 use Prim.Native.Nat.{_+_}
 use lib.ListN.{getD}

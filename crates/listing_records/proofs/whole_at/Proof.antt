@@ -1,4 +1,4 @@
--- `records::whole_at` meets its contract. Assumes nothing.
+-- `listing_records::whole_at` meets its contract. Assumes nothing.
 use mathlib.Core.Path.{sym}
 use borrow.Author.Tests.{lt-leb}
 use Prim.Native.Nat.{_+_, _-_, _<_}

@@ -1,4 +1,4 @@
--- `answer_line::answer_line` meets its contract. Assumes nothing.
+-- `loader_line::answer_line` meets its contract. Assumes nothing.
 use mathlib.Core.Path.{ap, _∙_}
 use Rattle.loader_line.specs.Text.{lineOf}
 use borrow.Author.Needs.{needs}

@@ -1,4 +1,4 @@
--- `answer_line::no_text` meets its contract. Assumes nothing.
+-- `loader_line::no_text` meets its contract. Assumes nothing.
 use mathlib.Core.Path.{refl}
 use native.Mathlib.Omega.{arith}
 use Rattle.loader_line.specs.Models.{textOf}

@@ -1,4 +1,4 @@
--- `answer_line::put` meets its contract. Assumes nothing.
+-- `loader_line::put` meets its contract. Assumes nothing.
 use mathlib.Core.Path.{_≡_}
 use mathlib.Core.List.{_++_}
 use Prim.Native.Nat.{_+_, _-_, _≤_}

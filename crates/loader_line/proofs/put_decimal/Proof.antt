@@ -1,4 +1,4 @@
--- `answer_line::put_decimal` meets its contract. Assumes nothing.
+-- `loader_line::put_decimal` meets its contract. Assumes nothing.
 use native.Mathlib.Omega.{arith}
 use mathlib.Core.Path.{_≡_, ap, _∙_}
 use lib.ListN.{length, take}

@@ -1,4 +1,4 @@
--- `answer_line::put_numbers` meets its contract. Assumes nothing.
+-- `loader_line::put_numbers` meets its contract. Assumes nothing.
 use mathlib.Core.Path.{ap, _∙_}
 use mathlib.Core.List.{List, _++_}
 use Prim.Native.Nat.{ℕ}

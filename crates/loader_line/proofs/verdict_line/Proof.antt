@@ -1,4 +1,4 @@
--- `answer_line::verdict_line` meets its contract. Assumes nothing.
+-- `loader_line::verdict_line` meets its contract. Assumes nothing.
 use mathlib.Core.Path.{sym, ap, _∙_}
 use mathlib.Core.List.{List, _++_}
 use Prim.Native.Nat.{ℕ}

@@ -1,4 +1,4 @@
--- `lent_stack::push_on` meets its contract: a walk of its MIR, by hand. The borrow is opened, the stack is copied and passed to `push`, the stack that comes back is stored, and the borrow is closed at it.
+-- `operand_stack_lent::push_on` meets its contract: a walk of its MIR, by hand. The borrow is opened, the stack is copied and passed to `push`, the stack that comes back is stored, and the borrow is closed at it.
 -- All that the proof knows of `push` is that it meets its contract. Assumes nothing.
 use mathlib.Core.Path.{_≡_, refl, ap}
 use Prim.Native.Nat.{ℕ}

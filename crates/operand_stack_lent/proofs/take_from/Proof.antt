@@ -1,4 +1,4 @@
--- `lent_stack::take_from` meets its contract: a walk of its MIR, by hand. The borrow is opened, the stack is copied and passed to `pop`, the stack that comes back is stored, the answer is made of the other fields, and the borrow is closed at the new stack.
+-- `operand_stack_lent::take_from` meets its contract: a walk of its MIR, by hand. The borrow is opened, the stack is copied and passed to `pop`, the stack that comes back is stored, the answer is made of the other fields, and the borrow is closed at the new stack.
 -- All that the proof knows of `pop` is that it meets its contract. Assumes nothing.
 use mathlib.Core.Path.{_≡_, refl, ap}
 use Prim.Native.Nat.{ℕ}

@@ -1,4 +1,4 @@
--- `reader::Reader::body` meets its contract: a walk of its MIR, by hand. The struct is taken apart, and `body_at` is called on the bytes and the place. All that the proof knows of `body_at` is that it meets its contract.
+-- `listing_reader::Reader::body` meets its contract: a walk of its MIR, by hand. The struct is taken apart, and `body_at` is called on the bytes and the place. All that the proof knows of `body_at` is that it meets its contract.
 -- The struct is Copy: what it owns is had twice, one copy is kept whole for the exit, and of the other what listing owns goes to the callee. Assumes nothing.
 use mathlib.Core.Path.{_≡_, refl}
 use Prim.Native.Nat.{ℕ, _<_, _^_}
@@ -139,4 +139,4 @@ body-spec 𝓤 H 𝓜 𝓖 𝓡 =
     entered 𝓤 H (tripleOf 𝓤 H (𝓖 .A) body.signature (body.spec 𝓤 H (𝓖 .A) (𝓜 .mem) (𝓡 .run)))
     (tables 𝓤 H 𝓜 𝓡 code.env .C) (tables 𝓤 H 𝓜 𝓡 code.env .Λ) #body code.function (code.unfolded 𝓤 H 𝓜 𝓡)
     (body-meets 𝓤 H (𝓖 .A) (givenOf 𝓤 H 𝓜 𝓖) (𝓜 .mem) (𝓡 .run) (tablesOf 𝓤 H 𝓜 (tables 𝓤 H 𝓜 𝓡 code.env))
-    (cited 𝓤 H (BodyAt 𝓤 H (𝓖 .A) (𝓜 .mem) (𝓡 .run)) 𝓜 𝓡 code.env #body-at at-def.routine code.calls-reader·body-at (at-thm.met 𝓤 H 𝓜 𝓖 𝓡)))
+    (cited 𝓤 H (BodyAt 𝓤 H (𝓖 .A) (𝓜 .mem) (𝓡 .run)) 𝓜 𝓡 code.env #body-at at-def.routine code.calls-listing-reader·body-at (at-thm.met 𝓤 H 𝓜 𝓖 𝓡)))

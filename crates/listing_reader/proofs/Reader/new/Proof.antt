@@ -1,4 +1,4 @@
--- `reader::Reader::new` meets its contract: a walk of its MIR, by hand. A `Reader` is made of the bytes passed and 0, in the result's local.
+-- `listing_reader::Reader::new` meets its contract: a walk of its MIR, by hand. A `Reader` is made of the bytes passed and 0, in the result's local.
 -- A `&[u8]` is Copy, so what it owns is had twice: once for listing at exit, and once inside the result. Assumes nothing.
 use mathlib.Core.Path.{refl}
 use Prim.Native.Nat.{ℕ}

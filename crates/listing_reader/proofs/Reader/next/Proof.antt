@@ -1,4 +1,4 @@
--- `reader::Reader::next` meets its contract: a walk of its MIR, by hand. The borrow is opened, the struct is taken apart, `step_at` is called on the bytes and the place, the place that it answers is stored, and the borrow is closed at the struct with that place.
+-- `listing_reader::Reader::next` meets its contract: a walk of its MIR, by hand. The borrow is opened, the struct is taken apart, `step_at` is called on the bytes and the place, the place that it answers is stored, and the borrow is closed at the struct with that place.
 -- What the struct owns is had twice: of one copy what listing owns goes to the callee, and the other is kept for the struct. All that the proof knows of `step_at` is that it meets its contract. Assumes nothing.
 use mathlib.Core.Path.{_≡_, refl, ap}
 use Prim.Native.Nat.{ℕ, _<_, _^_}
@@ -183,4 +183,4 @@ next-spec 𝓤 H 𝓜 𝓖 𝓡 =
     entered 𝓤 H (tripleOf 𝓤 H (𝓖 .A) next.signature (next.spec 𝓤 H (𝓖 .A) (𝓜 .mem) (𝓡 .run)))
     (tables 𝓤 H 𝓜 𝓡 code.env .C) (tables 𝓤 H 𝓜 𝓡 code.env .Λ) #next code.function (code.unfolded 𝓤 H 𝓜 𝓡)
     (next-meets 𝓤 H (𝓖 .A) (givenOf 𝓤 H 𝓜 𝓖) (𝓜 .mem) (𝓡 .run) (tablesOf 𝓤 H 𝓜 (tables 𝓤 H 𝓜 𝓡 code.env))
-    (cited 𝓤 H (StepAt 𝓤 H (𝓖 .A) (𝓜 .mem) (𝓡 .run)) 𝓜 𝓡 code.env #step-at at-def.routine code.calls-reader·step-at (at-thm.met 𝓤 H 𝓜 𝓖 𝓡)))
+    (cited 𝓤 H (StepAt 𝓤 H (𝓖 .A) (𝓜 .mem) (𝓡 .run)) 𝓜 𝓡 code.env #step-at at-def.routine code.calls-listing-reader·step-at (at-thm.met 𝓤 H 𝓜 𝓖 𝓡)))

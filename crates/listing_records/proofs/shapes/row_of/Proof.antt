@@ -1,4 +1,4 @@
--- `records::shapes::row_of` meets its contract. The rows of the kinds 10 to 27 stand eight before their numbers. Assumes nothing.
+-- `listing_records::shapes::row_of` meets its contract. The rows of the kinds 10 to 27 stand eight before their numbers. Assumes nothing.
 use mathlib.Core.Path.{_≡_, refl, sym, _∙_}
 use Prim.Native.Nat.{ℕ, _+_, _-_, _≤_}
 use lib.ListN.{getD}

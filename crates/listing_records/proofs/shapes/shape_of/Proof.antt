@@ -1,4 +1,4 @@
--- `records::shapes::shape_of` meets its contract. The table's rule is one computed statement over its rows. Assumes nothing.
+-- `listing_records::shapes::shape_of` meets its contract. The table's rule is one computed statement over its rows. Assumes nothing.
 use mathlib.Core.Path.{_≡_, refl, sym}
 use Prim.Native.Nat.{ℕ}
 use mathlib.Core.Bool.{true}

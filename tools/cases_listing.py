@@ -1,5 +1,5 @@
 #!/usr/bin/env python3
-"""Writes the cases of crates/listing_cases: `stdin` (each case as three bytes of length and its bytes) and `stdout` (the answers).
+"""Writes the cases of crates/cases_listing: `stdin` (each case as three bytes of length and its bytes) and `stdout` (the answers).
 
 The answers are stated beside the cases, and a reader written from document 01 must agree with each of them.
 """
@@ -256,7 +256,7 @@ def cases():
 
 
 def main():
-    folder = Path(__file__).resolve().parent.parent / "crates/listing_cases"
+    folder = Path(__file__).resolve().parent.parent / "crates/cases_listing"
     given, answers = b"", ""
     for n, (s, (number, place)) in enumerate(cases()):
         if read(s) != (number, place):

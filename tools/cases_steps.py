@@ -1,5 +1,5 @@
 #!/usr/bin/env python3
-"""Writes the cases of crates/step_cases: `stdin` (each case as three bytes of length and its listing) and `stdout` (the answers of its first block).
+"""Writes the cases of crates/cases_steps: `stdin` (each case as three bytes of length and its listing) and `stdout` (the answers of its first block).
 
 Each routine has one block, or where names are to be changed a second one that only returns. With the path of the oracle's `answer` the
 answers are held against the Rust's verdict.
@@ -206,7 +206,7 @@ def cases():
 
 
 def main():
-    folder = Path(__file__).resolve().parent.parent / "crates/step_cases"
+    folder = Path(__file__).resolve().parent.parent / "crates/cases_steps"
     given, answers = b"", ""
     for case in cases():
         listing = routine(*case[:4], *case[5:])
