@@ -9,6 +9,7 @@ use mathlib.Core.List.{List, [], _++_, _∷_, map}
 use mathlib.Core.Option.{Option, none, some}
 use lib.Dec.{eqb, ltb, leb}
 use lib.ListN.{length, drop}
+use Rattle.meaning.specs.Limits.{maxNames, maxEdges, u16End}
 use Rattle.meaning.specs.Answers.{Ans, ok, andThen, guard}
 use Rattle.meaning.specs.Lists.{any, keep, all, each, empty}
 use Rattle.meaning.specs.References.{Edge, EdgeSet, emptySet, setOk, insert, covered, prefix}
@@ -73,7 +74,7 @@ setTo p c s xs = keep (isBefore p c) xs ++ (tagged p c (s .blurred) (s .edges) +
 
 unfoldable pub ascending : List Name → Bool
 ascending [] = true
-ascending (n ∷ ns) = (ltb (n .id) 65536 && all (λ m. ltb (n .id) (m .id)) ns) && ascending ns
+ascending (n ∷ ns) = (ltb (n .id) u16End && all (λ m. ltb (n .id) (m .id)) ns) && ascending ns
 
 abbrev pub pairOk : List Name → ℕ → ℕ → Bool
 pairOk ns p c = holds ns p && (holds ns c && not (eqb p c))
@@ -93,8 +94,8 @@ inOrder (x ∷ xs) = all (notBefore x) xs && inOrder xs
 unfoldable pub wellFormed : Graph → Bool
 unfolding ascending holds setAt inOrder
 wellFormed g =
-    (leb (length (g .names)) 48 && ascending (g .names))
-    && (leb (length (g .edges)) 96
+    (leb (length (g .names)) maxNames && ascending (g .names))
+    && (leb (length (g .edges)) maxEdges
     && (onPairs (pairOk (g .names)) (g .edges) && (onPairs (λ p c. setOk (setAt p c (g .edges))) (g .edges) && inOrder (g .edges))))
 
 -- ---- operations
@@ -112,7 +113,7 @@ addAll (x ∷ xs) g = andThen (addEdge g x) (λ h. addAll xs h)
 
 -- at most 96 edges after a call
 unfoldable pub limit : Graph → Ans Graph
-limit g = guard (leb (length (g .edges)) 96) 21 (ok g)
+limit g = guard (leb (length (g .edges)) maxEdges) 21 (ok g)
 
 unfoldable pub splice : Edge → Edge → Edge
 splice e f = record { strong = e .strong && f .strong; path = cond (e .strong) (e .path ++ f .path) (e .path) }
@@ -160,7 +161,7 @@ unfolding wellFormed holds putName
 newName g n m =
     guard (wellFormed g) 9
     (guard (not (held g n)) 8
-    (guard (leb (suc (length (g .names))) 48) 23
+    (guard (leb (suc (length (g .names))) maxNames) 23
     (ok (record { names = putName (record { id = n; mutable = m }) (g .names); edges = g .edges }))))
 
 unfoldable pub borrowWeak : Graph → ℕ → List ℕ → ℕ → Ans Graph

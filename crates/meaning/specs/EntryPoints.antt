@@ -5,6 +5,7 @@ use mathlib.Core.List.{List, [], _∷_}
 use mathlib.Core.Option.{none, Option, some}
 use lib.Dec.{ltb, eqb}
 use lib.ListN.{set, getD}
+use Rattle.meaning.specs.Limits.{COPYLOC-EXISTS-BORROW, MOVELOC-EXISTS-BORROW, STLOC-UNSAFE-TO-DESTROY, FREEZEREF-EXISTS-MUTABLE-BORROW, READREF-EXISTS-MUTABLE-BORROW, WRITEREF-EXISTS-BORROW, BORROWLOC-EXISTS-BORROW, BORROWFIELD-EXISTS-MUTABLE-BORROW, GLOBAL-REFERENCE, VEC-UPDATE, VEC-BORROW-ELEMENT, CALL-BORROWED-MUTABLE-REFERENCE, UNSAFE-RET, RET-BORROWED-MUTABLE-REFERENCE, u16End}
 use Rattle.meaning.specs.Answers.{Outcome, done, needs, then, lift, Ans, refused, fails}
 use Rattle.meaning.specs.Lists.{any, keep}
 use Rattle.meaning.specs.Labels.{fieldLabel, localLabel, globalLabel}
@@ -51,7 +52,7 @@ needsName g n k = needs (wellFormed g && held g n) 9 k
 -- The fresh name is the old `next`. A name is a 16-bit number; document 01 leaves open what a larger one gives (never in a run): 9.
 unfoldable pub newRef : Bool → Running → Outcome Running
 newRef m r =
-    needs (ltb (r .next) 65536) 9
+    needs (ltb (r .next) u16End) 9
     (then (lift (newName (r .graph) (r .next) m)) (λ g.
     done (record { locals = r .locals; graph = g; next = suc (r .next); root = r .root })))
 
@@ -90,7 +91,7 @@ releaseValue (reference n) r = releaseName n r
 
 abbrev pub copyOf : Running → ℕ → Local → Outcome Answer
 copyOf r i absent = refused 12
-copyOf r i value = needsName (r .graph) (r .root) (fails (mutablyBorrowed (r .graph) (r .root) (some (localLabel i))) 101 (answer r nonRef))
+copyOf r i value = needsName (r .graph) (r .root) (fails (mutablyBorrowed (r .graph) (r .root) (some (localLabel i))) COPYLOC-EXISTS-BORROW (answer r nonRef))
 copyOf r i (ref n) =
     needsName (r .graph) n
     (then (newRef (isMutable (r .graph) n) r) (λ s.
@@ -102,7 +103,7 @@ copyLoc i r = copyOf r i (getD (r .locals) i absent)
 
 abbrev pub moveOf : Running → ℕ → Local → Outcome Answer
 moveOf r i absent = refused 12
-moveOf r i value = needsName (r .graph) (r .root) (fails (borrowed (r .graph) (r .root) (some (localLabel i))) 102 (answer (withLocal r i absent) nonRef))
+moveOf r i value = needsName (r .graph) (r .root) (fails (borrowed (r .graph) (r .root) (some (localLabel i))) MOVELOC-EXISTS-BORROW (answer (withLocal r i absent) nonRef))
 moveOf r i (ref n) = answer (withLocal r i absent) (reference n)
 
 unfoldable pub moveLoc : ℕ → Running → Outcome Answer
@@ -115,7 +116,7 @@ localOf (reference n) = ref n
 -- what becomes of the old content, once the new one is stored
 abbrev pub overwrite : ℕ → Running → Local → Outcome Running
 overwrite i r absent = done r
-overwrite i r value = needsName (r .graph) (r .root) (fails (borrowed (r .graph) (r .root) (some (localLabel i))) 103 (done r))
+overwrite i r value = needsName (r .graph) (r .root) (fails (borrowed (r .graph) (r .root) (some (localLabel i))) STLOC-UNSAFE-TO-DESTROY (done r))
 overwrite i r (ref n) = releaseName n r
 
 unfoldable pub stLoc : ℕ → Operand → Running → Outcome Running
@@ -125,7 +126,7 @@ unfoldable pub freezeRef : ℕ → Running → Outcome Answer
 freezeRef n r =
     needsName (r .graph) n
     (needs (isMutable (r .graph) n) 13
-    (fails (not (freezable (r .graph) n none)) 104
+    (fails (not (freezable (r .graph) n none)) FREEZEREF-EXISTS-MUTABLE-BORROW
     (then (newRef false r) (λ s.
     then (addCopy n (r .next) s) (λ t.
     then (releaseName n t) (λ u.
@@ -137,9 +138,9 @@ comparison nonRef (reference n) r = refused 11
 comparison (reference m) nonRef r = refused 11
 comparison (reference m) (reference n) r =
     needsName (r .graph) m
-    (fails (not (readable (r .graph) m none)) 105
+    (fails (not (readable (r .graph) m none)) READREF-EXISTS-MUTABLE-BORROW
     (needsName (r .graph) n
-    (fails (not (readable (r .graph) n none)) 105
+    (fails (not (readable (r .graph) n none)) READREF-EXISTS-MUTABLE-BORROW
     (then (releaseName m r) (λ s.
     then (releaseName n s) (λ t.
     answer t nonRef))))))
@@ -147,7 +148,7 @@ comparison (reference m) (reference n) r =
 unfoldable pub readRef : ℕ → Running → Outcome Answer
 readRef n r =
     needsName (r .graph) n
-    (fails (not (readable (r .graph) n none)) 105
+    (fails (not (readable (r .graph) n none)) READREF-EXISTS-MUTABLE-BORROW
     (then (releaseName n r) (λ s.
     answer s nonRef)))
 
@@ -155,13 +156,13 @@ unfoldable pub writeRef : ℕ → Running → Outcome Running
 writeRef n r =
     needsName (r .graph) n
     (needs (isMutable (r .graph) n) 13
-    (fails (not (writable (r .graph) n)) 106
+    (fails (not (writable (r .graph) n)) WRITEREF-EXISTS-BORROW
     (releaseName n r)))
 
 unfoldable pub borrowLoc : Bool → ℕ → Running → Outcome Answer
 borrowLoc m i r =
     needsName (r .graph) (r .root)
-    (fails (not m && mutablyBorrowed (r .graph) (r .root) (some (localLabel i))) 107
+    (fails (not m && mutablyBorrowed (r .graph) (r .root) (some (localLabel i))) BORROWLOC-EXISTS-BORROW
     (then (newRef m r) (λ s.
     then (addLocalBorrow i (r .next) s) (λ t.
     answer t (reference (r .next))))))
@@ -169,7 +170,7 @@ borrowLoc m i r =
 unfoldable pub borrowField : Bool → ℕ → ℕ → Running → Outcome Answer
 borrowField m n f r =
     needsName (r .graph) n
-    (fails (cond m (fullyBorrowed (r .graph) n) (not (readable (r .graph) n (some (fieldLabel f))))) 108
+    (fails (cond m (fullyBorrowed (r .graph) n) (not (readable (r .graph) n (some (fieldLabel f))))) BORROWFIELD-EXISTS-MUTABLE-BORROW
     (then (newRef m r) (λ s.
     then (addFieldBorrow n f (r .next) s) (λ t.
     then (releaseName n t) (λ u.
@@ -178,13 +179,13 @@ borrowField m n f r =
 unfoldable pub borrowGlobal : Bool → ℕ → Running → Outcome Answer
 borrowGlobal m i r =
     needsName (r .graph) (r .root)
-    (fails ((m && borrowed (r .graph) (r .root) (some (globalLabel i))) || mutablyBorrowed (r .graph) (r .root) (some (globalLabel i))) 109
+    (fails ((m && borrowed (r .graph) (r .root) (some (globalLabel i))) || mutablyBorrowed (r .graph) (r .root) (some (globalLabel i))) GLOBAL-REFERENCE
     (then (newRef m r) (λ s.
     then (addResourceBorrow i (r .next) s) (λ t.
     answer t (reference (r .next))))))
 
 unfoldable pub moveFrom : ℕ → Running → Outcome Answer
-moveFrom i r = needsName (r .graph) (r .root) (fails (borrowed (r .graph) (r .root) (some (globalLabel i))) 109 (answer r nonRef))
+moveFrom i r = needsName (r .graph) (r .root) (fails (borrowed (r .graph) (r .root) (some (globalLabel i))) GLOBAL-REFERENCE (answer r nonRef))
 
 -- a value where a reference is needed, or the reverse: 11
 abbrev pub needRef : {A : Type 0} → Operand → (ℕ → Outcome A) → Outcome A
@@ -201,13 +202,13 @@ vectorTest true g n c k = needs (isMutable g n) 13 (fails (not (writable g n)) c
 vectorTest false g n c k = k
 
 unfoldable pub vectorOp : Operand → Bool → Running → Outcome Running
-vectorOp v m r = needRef v (λ n. needsName (r .graph) n (vectorTest m (r .graph) n 110 (releaseName n r)))
+vectorOp v m r = needRef v (λ n. needsName (r .graph) n (vectorTest m (r .graph) n VEC-UPDATE (releaseName n r)))
 
 unfoldable pub vectorElementBorrow : Operand → Bool → Running → Outcome Answer
 vectorElementBorrow v m r =
     needRef v (λ n.
     needsName (r .graph) n
-    (vectorTest m (r .graph) n 111
+    (vectorTest m (r .graph) n VEC-BORROW-ELEMENT
     (then (newRef m r) (λ s.
     then (addBorrow n (r .next) s) (λ t.
     then (releaseName n t) (λ u.
@@ -253,7 +254,7 @@ handOver [] c r k = k
 handOver (n ∷ ns) c r k = needsName (r .graph) n (fails (isMutable (r .graph) n && not (writable (r .graph) n)) c (handOver ns c r k))
 
 unfoldable pub notAcquired : {A : Type 0} → List ℕ → Running → Outcome A → Outcome A
-notAcquired is r k = needsName (r .graph) (r .root) (fails (any (λ i. borrowed (r .graph) (r .root) (some (globalLabel i))) is) 109 k)
+notAcquired is r k = needsName (r .graph) (r .root) (fails (any (λ i. borrowed (r .graph) (r .root) (some (globalLabel i))) is) GLOBAL-REFERENCE k)
 
 pub record Answers : Type 0 where
   pub state : Running
@@ -278,7 +279,7 @@ returnValues (ofRef m ∷ ts) muts alls r =
 unfoldable pub call : List Operand → List ℕ → List Token → Running → Outcome Answers
 call args acquired tokens r =
     notAcquired acquired r
-    (handOver (operandNames args) 112 r
+    (handOver (operandNames args) CALL-BORROWED-MUTABLE-REFERENCE r
     (then (returnValues tokens (keep (isMutable (r .graph)) (ascend (operandNames args))) (ascend (operandNames args)) r) (λ a.
     then (releaseAll (ascend (operandNames args)) (a .state)) (λ s.
     done (record { state = s; operands = a .operands })))))
@@ -287,6 +288,6 @@ unfoldable pub ret : List Operand → Running → Outcome Running
 ret values r =
     then (releaseAll (ascend (localNames (r .locals))) r) (λ s.
     needsName (s .graph) (s .root)
-    (fails (borrowed (s .graph) (s .root) none) 113
-    (handOver (operandNames values) 114 s
+    (fails (borrowed (s .graph) (s .root) none) UNSAFE-RET
+    (handOver (operandNames values) RET-BORROWED-MUTABLE-REFERENCE s
     (done s))))

@@ -4,6 +4,7 @@ use mathlib.Core.Bool.{Bool, false, true, _&&_, _||_, Bool·beq, not, cond}
 use mathlib.Core.List.{List, [], _∷_}
 use lib.Dec.{eqb, ltb, leb}
 use lib.ListN.{length}
+use Rattle.meaning.specs.Limits.{maxSetSize, maxLabels}
 use Rattle.meaning.specs.Answers.{Ans, ok, refuse, guard}
 use Rattle.meaning.specs.Lists.{any, keep, all}
 
@@ -91,20 +92,20 @@ unfoldable pub insert : EdgeSet → Edge → Ans EdgeSet
 unfolding has put
 insert s e =
     cond (s .blurred) (ok s)
-    (cond (leb 10 (length (s .edges))) (ok blur)
-    (cond (leb (length (e .path)) 8)
+    (cond (leb maxSetSize (length (s .edges))) (ok blur)
+    (cond (leb (length (e .path)) maxLabels)
     (cond (has e (s .edges)) (ok s) (ok (record { edges = put e (s .edges); blurred = false })))
     (refuse 22)))
 
 -- a path of at most 8 labels, or the refusal 22
 unfoldable pub shortPath : List ℕ → Ans (List ℕ)
-shortPath p = guard (leb (length p) 8) 22 (ok p)
+shortPath p = guard (leb (length p) maxLabels) 22 (ok p)
 
 -- an insert of what may be too long: only where the edge would be put in is its refusal given
 unfoldable pub offer : EdgeSet → Ans Edge → Ans EdgeSet
 unfolding insert
 offer s (ok e) = insert s e
-offer s (refuse n) = cond (s .blurred) (ok s) (cond (leb 10 (length (s .edges))) (ok blur) (refuse n))
+offer s (refuse n) = cond (s .blurred) (ok s) (cond (leb maxSetSize (length (s .edges))) (ok blur) (refuse n))
 
 unfoldable pub remove : Edge → EdgeSet → EdgeSet
 unfolding eqEdge
@@ -119,7 +120,7 @@ ordered [] = true
 ordered (x ∷ xs) = all (ltEdge x) xs && ordered xs
 
 unfoldable pub short : Edge → Bool
-short e = leb (length (e .path)) 8
+short e = leb (length (e .path)) maxLabels
 
 unfoldable pub isBlur : List Edge → Bool
 unfolding eqEdge
@@ -129,4 +130,4 @@ isBlur (x ∷ y ∷ ys) = false
 
 unfoldable pub setOk : EdgeSet → Bool
 unfolding ordered short isBlur
-setOk s = cond (s .blurred) (isBlur (s .edges)) (leb (length (s .edges)) 10 && (all short (s .edges) && ordered (s .edges)))
+setOk s = cond (s .blurred) (isBlur (s .edges)) (leb (length (s .edges)) maxSetSize && (all short (s .edges) && ordered (s .edges)))

@@ -4,6 +4,7 @@ use mathlib.Core.Bool.{Bool, true, false}
 use mathlib.Core.List.{List, [], _∷_}
 use lib.Dec.{ltb}
 use lib.ListN.{length}
+use Rattle.meaning.specs.Limits.{maxOperands}
 use Rattle.meaning.specs.Answers.{Outcome, refused, done, needs, then}
 use Rattle.meaning.specs.AbstractState.{Token, Operand}
 use Rattle.meaning.specs.EntryPoints.{Running, needRef, needValue, Answer, valueFor, releaseValue, copyLoc, moveLoc, stLoc, freezeRef, comparison, readRef, writeRef, borrowLoc, borrowField, borrowGlobal, moveFrom, vectorOp, vectorElementBorrow, call, ret}
@@ -51,7 +52,7 @@ popMany zero taken vs k = k taken vs
 popMany (suc n) taken vs k = pop vs (λ v ws. popMany n (v ∷ taken) ws k)
 
 unfoldable pub push : List Operand → Operand → Running → Outcome Machine
-push vs v r = needs (ltb (length vs) 16) 20 (done (record { state = r; stack = v ∷ vs }))
+push vs v r = needs (ltb (length vs) maxOperands) 20 (done (record { state = r; stack = v ∷ vs }))
 
 abbrev pub pushed : List Operand → Outcome Answer → Outcome Machine
 pushed vs a = then a (λ x. push vs (x .operand) (x .state))
