@@ -13,7 +13,6 @@ ghost use Prim.Native.Nat.{_<_};
 ghost use Rattle.meaning.specs.Lists.{any};
 ghost use Rattle.meaning.specs.AbstractState as S;
 ghost use Rattle.meaning.specs.AbstractState.{eqLocal, ownNames};
-ghost use Rattle.meaning.specs.AbstractState as R;
 ghost use Rattle.meaning.specs.Answers.{then};
 ghost use Rattle.borrow_graph.specs.Models.{mapOf};
 ghost use Rattle.abstract_state.specs.Models.{localOf, localsIn, outcomeOf};
@@ -45,7 +44,7 @@ fn is_named(locals: [Local; 16], n: u8, id: RefID) -> bool
 // The local at the index holds a name below the index, and some local holds the index as its name.
 fn crossed(locals: [Local; 16], n: u8, x: Local, i: usize) -> bool
     requires { ⌜ i < 16 ⌝ }
-    ensures { λ r. ⌜ r ≡ R.crossed (localsIn locals n) i (localOf x) ⌝ }
+    ensures { λ r. ⌜ r ≡ S.crossed (localsIn locals n) i (localOf x) ⌝ }
 {
     let v = value_of(x);
     match v {
@@ -62,7 +61,7 @@ fn crossed(locals: [Local; 16], n: u8, x: Local, i: usize) -> bool
 
 // The test for 16.
 fn crosses(locals: [Local; 16], n: u8) -> bool
-    ensures { λ r. ⌜ r ≡ R.crosses (localsIn locals n) 0 (localsIn locals n) ⌝ }
+    ensures { λ r. ⌜ r ≡ S.crosses (localsIn locals n) 0 (localsIn locals n) ⌝ }
 {
     let k = count(n);
     let mut i: usize = 0;

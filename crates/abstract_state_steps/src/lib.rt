@@ -16,7 +16,7 @@ ghost use Rattle.borrow_graph.specs.Models.{filterOf};
 ghost use Rattle.meaning.specs.EntryPoints as R;
 ghost use Rattle.meaning.specs.AbstractState as S;
 ghost use Rattle.meaning.specs.BorrowGraph as G;
-ghost use Rattle.meaning.specs.Answers as A;
+ghost use Rattle.meaning.specs.Answers as Out;
 ghost use Rattle.meaning.specs.Answers.{then};
 ghost use Rattle.file_format.specs.Models.{tokenOf};
 ghost use Rattle.abstract_state.specs.Models.{operandOf, outcomeOf, answerOf};
@@ -173,7 +173,7 @@ fn compare_refs(state: AbstractState, id1: RefID, id2: RefID) -> AbstractState
 // The violation, where the reference is not readable.
 fn fail_unreadable(state: AbstractState, id: RefID, at: LabelFilter, code: u8) -> AbstractState
     requires { ⌜ (code ≡ 0 → ⊥) ⌝ }
-    ensures { λ r. ⌜ outcomeOf r ≡ then (outcomeOf state) (λ s. R.needsName (s .graph) (id .0) (A.fails (not (R.readable (s .graph) (id .0) (filterOf at))) code (A.Outcome.done s))) ⌝ }
+    ensures { λ r. ⌜ outcomeOf r ≡ then (outcomeOf state) (λ s. R.needsName (s .graph) (id .0) (Out.fails (not (R.readable (s .graph) (id .0) (filterOf at))) code (Out.Outcome.done s))) ⌝ }
 {
     let b = state.is_readable(id, at);
     state.fail(
@@ -233,7 +233,7 @@ pub fn borrow_field(state: AbstractState, mutable: bool, id: RefID, field: u16) 
 
 // A mutable borrow fails on an empty-path borrow; another one, where the field is not readable.
 fn fail_field(state: AbstractState, mutable: bool, id: RefID, field: u16) -> AbstractState
-    ensures { λ r. ⌜ outcomeOf r ≡ then (outcomeOf state) (λ s. R.needsName (s .graph) (id .0) (A.fails (cond mutable (G.fullyBorrowed (s .graph) (id .0)) (not (R.readable (s .graph) (id .0) (some (fieldLabel field))))) 108 (A.Outcome.done s))) ⌝ }
+    ensures { λ r. ⌜ outcomeOf r ≡ then (outcomeOf state) (λ s. R.needsName (s .graph) (id .0) (Out.fails (cond mutable (G.fullyBorrowed (s .graph) (id .0)) (not (R.readable (s .graph) (id .0) (some (fieldLabel field))))) 108 (Out.Outcome.done s))) ⌝ }
 {
     if mutable {
         let b = state.has_full_borrows(id);
@@ -271,7 +271,7 @@ pub fn move_from(state: AbstractState, resource: u16) -> AbstractState
 // A mutable vector step wants a mutable reference with no borrow.
 fn vector_test(state: AbstractState, mutable: bool, id: RefID, code: u8) -> AbstractState
     requires { ⌜ (code ≡ 0 → ⊥) ⌝ }
-    ensures { λ r. ⌜ outcomeOf r ≡ then (outcomeOf state) (λ s. R.needsName (s .graph) (id .0) (R.vectorTest mutable (s .graph) (id .0) code (A.Outcome.done s))) ⌝ }
+    ensures { λ r. ⌜ outcomeOf r ≡ then (outcomeOf state) (λ s. R.needsName (s .graph) (id .0) (R.vectorTest mutable (s .graph) (id .0) code (Out.Outcome.done s))) ⌝ }
 {
     let m = state.is_mutable(id);
     if mutable {

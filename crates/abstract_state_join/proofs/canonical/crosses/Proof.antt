@@ -5,7 +5,6 @@ use Prim.Native.Nat.{_+_, _-_}
 use lib.ListN.{length, drop, getD}
 use Rattle.meaning.specs.Laws.Array.{length-of-map}
 use Rattle.meaning.specs.AbstractState as S
-use Rattle.meaning.specs.AbstractState as R
 use Rattle.abstract_state.specs.Models.{localsIn, localOf}
 use Rattle.abstract_state.specs.ModelLaws.{no-local}
 use Rattle.abstract_state_join.specs.LocalLaws.{local-next, locals-end}
@@ -16,18 +15,18 @@ use Rattle.abstract_state_join.proofs.canonical.crosses.Statement.{stat
 use Rattle.abstract_state_join.proofs.canonical.crosses.Tie as tie
 
 abbrev Inv-loop : tie.InvT-loop
-Inv-loop n locals k i₀ i = R.crosses (localsIn locals n) i (drop i (localsIn locals n)) ≡ R.crosses (localsIn locals n) 0 (localsIn locals n)
+Inv-loop n locals k i₀ i = S.crosses (localsIn locals n) i (drop i (localsIn locals n)) ≡ S.crosses (localsIn locals n) 0 (localsIn locals n)
 
 abbrev μ-loop : tie.MeasureT-loop
 μ-loop n locals k i₀ i = k - i
 
-turn : (c : tie.In-loop Inv-loop μ-loop) (b : Bool) → R.crossed (localsIn ((c .before .before .before .args) .t1) ((c .before .before .before .args) .n)) ((c .before .loop) .i) (localOf (getD ((c .before .before .before .args) .t1) ((c .before .loop) .i) no-local)) ≡ b → b || R.crosses (localsIn ((c .before .before .before .args) .t1) ((c .before .before .before .args) .n)) ((c .before .loop) .i + 1) (drop ((c .before .loop) .i + 1) (localsIn ((c .before .before .before .args) .t1) ((c .before .before .before .args) .n))) ≡ R.crosses (localsIn ((c .before .before .before .args) .t1) ((c .before .before .before .args) .n)) 0 (localsIn ((c .before .before .before .args) .t1) ((c .before .before .before .args) .n))
+turn : (c : tie.In-loop Inv-loop μ-loop) (b : Bool) → S.crossed (localsIn ((c .before .before .before .args) .t1) ((c .before .before .before .args) .n)) ((c .before .loop) .i) (localOf (getD ((c .before .before .before .args) .t1) ((c .before .loop) .i) no-local)) ≡ b → b || S.crosses (localsIn ((c .before .before .before .args) .t1) ((c .before .before .before .args) .n)) ((c .before .loop) .i + 1) (drop ((c .before .loop) .i + 1) (localsIn ((c .before .before .before .args) .t1) ((c .before .before .before .args) .n))) ≡ S.crosses (localsIn ((c .before .before .before .args) .t1) ((c .before .before .before .args) .n)) 0 (localsIn ((c .before .before .before .args) .t1) ((c .before .before .before .args) .n))
 turn c b e =
     let l = (c .before .loop) in
     let h : length ((c .before .before .before .args) .t1) ≡ 16 = search length-of-map in
     let xs = localsIn ((c .before .before .before .args) .t1) ((c .before .before .before .args) .n) in
-    ap (λ (x : Bool). x || R.crosses xs (l .i + 1) (drop (l .i + 1) xs)) (sym e)
-    ∙ sym (ap (λ (ys : List S.Local). R.crosses xs (l .i) ys) (local-next ((c .before .before .before .args) .t1) ((c .before .before .before .args) .n) ((c .before .before .count) .result) h ((c .before .before .count) .ensures) (l .i) (omega arith)) ∙ crosses-step xs (l .i) (localOf (getD ((c .before .before .before .args) .t1) (l .i) no-local)) (drop (l .i + 1) xs)) ∙ l .inv
+    ap (λ (x : Bool). x || S.crosses xs (l .i + 1) (drop (l .i + 1) xs)) (sym e)
+    ∙ sym (ap (λ (ys : List S.Local). S.crosses xs (l .i) ys) (local-next ((c .before .before .before .args) .t1) ((c .before .before .before .args) .n) ((c .before .before .count) .result) h ((c .before .before .count) .ensures) (l .i) (omega arith)) ∙ crosses-step xs (l .i) (localOf (getD ((c .before .before .before .args) .t1) (l .i) no-local)) (drop (l .i + 1) xs)) ∙ l .inv
 
 count-requires : tie.Need-count-requires Inv-loop μ-loop
 count-requires c κs = search needs
@@ -61,7 +60,7 @@ returns-2 c =
     let l = (c .before .loop) in
     let h : length ((c .before .before .before .args) .t1) ≡ 16 = search length-of-map in
     let xs = localsIn ((c .before .before .before .args) .t1) ((c .before .before .before .args) .n) in
-    sym (ap (λ (ys : List S.Local). R.crosses xs (l .i) ys) (locals-end ((c .before .before .before .args) .t1) ((c .before .before .before .args) .n) ((c .before .before .count) .result) h ((c .before .before .count) .ensures) (l .i) (omega arith)) ∙ crosses-end xs (l .i)) ∙ l .inv
+    sym (ap (λ (ys : List S.Local). S.crosses xs (l .i) ys) (locals-end ((c .before .before .before .args) .t1) ((c .before .before .before .args) .n) ((c .before .before .count) .result) h ((c .before .before .count) .ensures) (l .i) (omega arith)) ∙ crosses-end xs (l .i)) ∙ l .inv
 
 pub crosses-spec : {M : Type 1} → statement M
 crosses-spec =
