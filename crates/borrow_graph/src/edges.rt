@@ -8,14 +8,14 @@ use references::references::RefID;
 ghost use mathlib.Core.Path.{_≡_};
 ghost use Prim.Native.Nat.{_≤_};
 ghost use lib.ListN.{length};
-ghost use Rattle.meaning.specs.Laws.Cut as Cut;
+ghost use Rattle.meaning.specs.BorrowGraph as G;
 ghost use Rattle.references.specs.Models.{orderingOf};
 ghost use Rattle.borrow_graph.specs.Models.{gedgeOf, edgesOf, heldOf};
 
 impl GraphEdge {
     // How the edge's pair stands to a pair.
     pub fn side(self, parent: RefID, child: RefID) -> Ordering
-        ensures { λ r. ⌜ orderingOf r ≡ Cut.side (parent .0) (child .0) (gedgeOf self) ⌝ }
+        ensures { λ r. ⌜ orderingOf r ≡ G.side (parent .0) (child .0) (gedgeOf self) ⌝ }
     {
         let p = self.parent.0;
         let c = self.child.0;

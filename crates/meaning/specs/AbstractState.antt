@@ -1,5 +1,5 @@
--- Abstract states and their join (abstract_state.rs).
--- Names changed together, and the end of a block: each local's reference takes the local's index for its name.
+-- Abstract states (abstract_state.rs): their join, what a join changes, the form of the kept states, the first state, and the end of a block,
+-- where each local's reference takes the local's index for its name.
 use Prim.Native.Nat.{ℕ, _+_, zero, suc}
 use mathlib.Core.Bool.{Bool, true, false, _&&_, Bool·beq, not, cond, _||_}
 use mathlib.Core.List.{List, [], _∷_, _++_}
@@ -14,16 +14,17 @@ use Rattle.meaning.specs.BorrowGraph.{Graph, release, joinGraphs, setAt,
 
 -- ---- values
 
--- the Rust's AbstractValue
+-- a value or a reference, by its name (the Rust's AbstractValue)
 pub data Operand : Type 0 where
   nonRef : Operand
   reference : ℕ → Operand
 
--- 0 a value, 1 a reference, 2 a mutable reference
+-- "Token: 0 value, 1 reference, 2 mutable reference."
 pub data Token : Type 0 where
   ofValue : Token
   ofRef : Bool → Token
 
+-- "each local is absent, a value, or a reference"
 pub data Local : Type 0 where
   absent value : Local
   ref : ℕ → Local
@@ -32,11 +33,14 @@ pub record State : Type 0 where
   pub locals : List Local
   pub graph : Graph
 
+-- a local joined, with the two graphs as this leaves them
 pub record Step : Type 0 where
   pub local : Local
   pub ours : Graph
   pub theirs : Graph
 
+-- "15: a local is value in one joined state, reference in the other." "Names that one side lacks: those of locals that hold a reference in one
+-- state and are absent in the other. Each is released from the state that holds it."
 unfoldable pub joinLocal : Local → Local → Graph → Graph → Ans Step
 unfolding release
 joinLocal absent absent g h = ok (record { local = absent; ours = g; theirs = h })
@@ -54,7 +58,7 @@ pub record Parts : Type 0 where
   pub ours : Graph
   pub theirs : Graph
 
--- local by local, ascending; a name that one side lacks is released from the other
+-- "in the Rust's order, before the graphs are joined": local by local, ascending
 unfoldable pub joinLocals : List Local → List Local → Graph → Graph → Ans Parts
 unfolding joinLocal
 joinLocals [] [] g h = ok (record { locals = []; ours = g; theirs = h })
@@ -65,6 +69,7 @@ joinLocals (a ∷ as′) (b ∷ bs) g h =
     andThen (joinLocals as′ bs (s .ours) (s .theirs)) (λ r.
     ok (record { locals = s .local ∷ r .locals; ours = r .ours; theirs = r .theirs })))
 
+-- "A join here is the abstract state's."
 unfoldable pub join : State → State → Ans State
 unfolding joinLocals joinGraphs
 join s o =
@@ -74,6 +79,7 @@ join s o =
 
 -- ---- what a join changed
 
+-- two locals are the same
 abbrev pub eqLocal : Local → Local → Bool
 eqLocal absent absent = true
 eqLocal absent value = false
@@ -91,6 +97,7 @@ eqLocals [] (b ∷ bs) = false
 eqLocals (a ∷ as′) [] = false
 eqLocals (a ∷ as′) (b ∷ bs) = eqLocal a b && eqLocals as′ bs
 
+-- the same edges, in the same order
 unfoldable pub eqEdges : List Edge → List Edge → Bool
 unfolding eqEdge
 eqEdges [] [] = true
@@ -107,12 +114,15 @@ unfoldable pub eqSets : Graph → Graph → Bool
 unfolding eqSet setAt
 eqSets g h = onPairs (λ p c. eqSet (setAt p c (g .edges)) (setAt p c (h .edges))) (g .edges ++ h .edges)
 
+-- "its answer differs from the state it got, in a local or in a set of edges"
 unfoldable pub changed : State → State → Bool
 unfolding eqLocals eqSets
 changed s t = not (eqLocals (s .locals) (t .locals) && eqSets (s .graph) (t .graph))
 
 -- ---- the form of the kept states
 
+-- "Form: all states have the same L, within its limit; each local is absent, a value, or a reference named by the local's own index; the graph
+-- is well formed as for 9, and each name it holds is L or that of such a reference; no edge ends at L."
 pub record Form (l : ℕ) (s : State) : Type 0 where
   pub count : length (s .locals) ≡ l
   pub own : (i n : ℕ) → getD (s .locals) i absent ≡ ref n → n ≡ i
@@ -122,6 +132,7 @@ pub record Form (l : ℕ) (s : State) : Type 0 where
 
 -- ---- lists of joins
 
+-- one, if the test holds
 abbrev pub count1 : Bool → ℕ
 count1 true = 1
 count1 false = 0
@@ -143,7 +154,7 @@ changes s (o ∷ os) = did s (join s o) + changes (kept s (join s o)) os
 
 -- ---- the first state: the parameters present, no edges (AbstractState::new)
 
--- n locals from index i on; a parameter's reference is named by its index
+-- "only parameters are present at first": n locals from index i on; a parameter's reference is named by its index
 unfoldable pub firstLocals : ℕ → ℕ → List Token → List Local
 firstLocals i zero ts = []
 firstLocals i (suc n) [] = absent ∷ firstLocals (suc i) n []
@@ -157,6 +168,7 @@ firstNames i (suc n) [] = firstNames (suc i) n []
 firstNames i (suc n) (ofValue ∷ ts) = firstNames (suc i) n ts
 firstNames i (suc n) (ofRef m ∷ ts) = record { id = i; mutable = m } ∷ firstNames (suc i) n ts
 
+-- "with the parameters present and no edges"
 unfoldable pub firstState : ℕ → List Token → State
 unfolding firstLocals firstNames
 firstState l ts = record { locals = firstLocals 0 l ts; graph = record { names = firstNames 0 l ts; edges = [] } }
@@ -171,13 +183,14 @@ unfoldable pub newNameOf : ℕ → List Local → ℕ → ℕ
 unfolding localHolding
 newNameOf l xs n = cond (eqb n l) l (localHolding n n 0 xs)
 
+-- each local's reference by the local's index
 unfoldable pub ownNames : ℕ → List Local → List Local
 ownNames i [] = []
 ownNames i (absent ∷ xs) = absent ∷ ownNames (suc i) xs
 ownNames i (value ∷ xs) = value ∷ ownNames (suc i) xs
 ownNames i (ref n ∷ xs) = ref i ∷ ownNames (suc i) xs
 
--- local a holds a name below a, and some local holds name a
+-- "local a holds a name below a and some local holds name a"
 abbrev pub crossed : List Local → ℕ → Local → Bool
 crossed ys a absent = false
 crossed ys a value = false
@@ -187,7 +200,7 @@ unfoldable pub crosses : List Local → ℕ → List Local → Bool
 crosses ys a [] = false
 crosses ys a (x ∷ xs) = crossed ys a x || crosses ys (suc a) xs
 
--- the end of a block with successors
+-- "16: at the end of a block with successors, local a holds a name below a and some local holds name a." Else all names are changed together.
 unfoldable pub canonical : ℕ → State → Ans State
 unfolding renamed newNameOf ownNames crosses
 canonical l s =

@@ -1,13 +1,17 @@
+-- What a call answers: a value, a violation or a refusal. Document 01: "a violation (code, offset) or a refusal (number, place)"; the place is
+-- added where a block or the reader knows it.
 use Prim.Native.Nat.{ℕ}
 use mathlib.Core.Bool.{Bool, true, false, not, _&&_}
 use lib.Dec.{eqb}
 
 -- ---- an answer: a value, or the number of a refusal
 
+-- what a graph call answers: a value, or the number of a refusal
 pub data Ans (A : Type 0) : Type 0 where
   ok : A → Ans A
   refuse : ℕ → Ans A
 
+-- "first one ends the run": a refusal is handed on
 abbrev pub andThen : {A B : Type 0} → Ans A → (A → Ans B) → Ans B
 andThen (ok a) f = f a
 andThen (refuse n) f = refuse n
@@ -17,14 +21,14 @@ abbrev pub guard : {A : Type 0} → Bool → ℕ → Ans A → Ans A
 guard true n k = k
 guard false n k = refuse n
 
--- what a call leaves where it stood: its answer, or, refused, what it got
+-- "A refused graph call leaves the graph unchanged": what stands after a call is its answer or, refused, what it got
 abbrev pub leaves : {A : Type 0} → A → Ans A → A
 leaves a (ok b) = b
 leaves a (refuse n) = a
 
 -- ---- outcomes
 
--- done; a violation's code; a refusal's number
+-- what an instruction answers: done, a violation's code, or a refusal's number
 pub data Outcome (A : Type 0) : Type 0 where
   done : A → Outcome A
   violated : ℕ → Outcome A
@@ -34,11 +38,13 @@ pub data Outcome (A : Type 0) : Type 0 where
 abbrev pub ordinary : ℕ → Bool
 ordinary n = not (eqb n 8) && (not (eqb n 9) && not (eqb n 23))
 
+-- "Later ones follow the Rust's step order, first one ends the run"
 abbrev pub then : {A B : Type 0} → Outcome A → (A → Outcome B) → Outcome B
 then (done a) f = f a
 then (violated c) f = violated c
 then (refused n) f = refused n
 
+-- a graph call's answer within an instruction
 abbrev pub lift : {A : Type 0} → Ans A → Outcome A
 lift (ok a) = done a
 lift (refuse n) = refused n

@@ -11,32 +11,48 @@ use mathlib.Core.Option.{Option, none, some}
 use mathlib.Core.Path.{_≡_}
 use lib.Dec.{eqb, leb, ltb}
 use lib.ListN.{getD, length, drop, replicate}
+use Rattle.meaning.specs.Limits.{maxLabels, maxLocals, maxNames, maxEdges, maxBlocks, u16End, areaWords, blockWords}
 use Rattle.meaning.specs.Lists.{upTo}
 use Rattle.meaning.specs.BorrowGraph.{Name, GEdge}
 use Rattle.meaning.specs.AbstractState.{Local, absent, value, ref, State}
 
--- in units of 65,536 the kind, and below that the name of a reference
+-- where in a block's words the names and the edges start, and how many words an edge has
+abbrev pub namesStart : ℕ
+namesStart = 16
+
+abbrev pub edgesStart : ℕ
+edgesStart = 64
+
+abbrev pub edgeWords : ℕ
+edgeWords = 10
+
+-- a label's number, and a local's part of a word, are below this
+abbrev pub labelEnd : ℕ
+labelEnd = 262144
+
+-- 0 absent, 1 a value, else a reference by its name
 abbrev pub localAs : ℕ → ℕ → Local
 localAs kind n = cond (eqb kind 0) absent (cond (eqb kind 1) value (ref n))
 
+-- a local: its kind in units of 65,536 (two bits), and below that the name of a reference
 abbrev pub localIn : ℕ → Local
-localIn w = localAs (w / 65536 % 4) (w % 65536)
+localIn w = localAs (w / u16End % 4) (w % u16End)
 
--- in units of 65,536 whether it is mutable
+-- a name: its number, and in units of 65,536 whether it is mutable
 abbrev pub nameIn : ℕ → Name
-nameIn w = record { id = w % 65536; mutable = eqb (w / 65536) 1 }
+nameIn w = record { id = w % u16End; mutable = eqb (w / u16End) 1 }
 
 -- a label's number has 18 bits, and what stands above them is free
 abbrev pub labelIn : ℕ → ℕ
-labelIn w = w % 262144
+labelIn w = w % labelEnd
 
 -- marks: in units of 32 blurred, of 16 strong, and below that the number of labels
 abbrev pub edgeOf : ℕ → ℕ → (ℕ → ℕ) → GEdge
 edgeOf ends marks label = record {
-  parent = ends / 65536;
-  child = ends % 65536;
+  parent = ends / u16End;
+  child = ends % u16End;
   blurred = eqb (marks / 32) 1;
-  edge = record { strong = eqb (marks / 16 % 2) 1; path = upTo (min (marks % 16) 8) label };
+  edge = record { strong = eqb (marks / 16 % 2) 1; path = upTo (min (marks % 16) maxLabels) label };
 }
 
 -- the edge whose words stand from `at` on
@@ -44,29 +60,31 @@ unfoldable pub edgeIn : (ℕ → ℕ) → ℕ → GEdge
 unfolding upTo
 edgeIn w at = edgeOf (w at) (w (at + 1)) (λ i. labelIn (w (at + 2 + i)))
 
+-- the state that a block's words hold, in a routine of l locals
 abbrev pub stateIn : ℕ → (ℕ → ℕ) → State
 stateIn l w = record {
-  locals = upTo (min l 16) (λ i. localIn (w i));
+  locals = upTo (min l maxLocals) (λ i. localIn (w i));
   graph = record {
-    names = upTo (min (w 1 / 262144) 48) (λ i. nameIn (w (16 + i)));
-    edges = upTo (min (w 2 / 262144) 96) (λ i. edgeIn w (64 + 10 * i));
+    names = upTo (min (w 1 / labelEnd) maxNames) (λ i. nameIn (w (namesStart + i)));
+    edges = upTo (min (w 2 / labelEnd) maxEdges) (λ i. edgeIn w (edgesStart + edgeWords * i));
   };
 }
 
 -- what a block's words say, in a routine of l locals
 unfoldable pub decode : ℕ → (ℕ → ℕ) → Option State
 unfolding upTo edgeIn
-decode l w = cond (eqb (w 0 / 262144) 0) none (some (stateIn l w))
+decode l w = cond (eqb (w 0 / labelEnd) 0) none (some (stateIn l w))
 
+-- there is a kept state
 abbrev pub isKept : Option State → Bool
 isKept none = false
 isKept (some s) = true
 
 -- an area of n words has block b
 abbrev pub hasBlock : ℕ → ℕ → Bool
-hasBlock n b = leb 16384 n && ltb b 16
+hasBlock n b = leb areaWords n && ltb b maxBlocks
 
--- the words, and those from a place on
+-- the word at a place, and the k-th one from a place on
 abbrev pub wordAt : List ℕ → ℕ → ℕ
 wordAt ws k = getD ws k 0
 
@@ -76,25 +94,26 @@ wordsFrom ws at k = getD ws (at + k) 0
 -- the kept state of the block at position b of the list
 unfoldable pub keptOf : ℕ → List ℕ → ℕ → Option State
 unfolding decode
-keptOf l ws b = cond (hasBlock (length ws) b) (decode l (wordsFrom ws (1024 * b))) none
+keptOf l ws b = cond (hasBlock (length ws) b) (decode l (wordsFrom ws (blockWords * b))) none
 
 -- the state s stored for block b: an area without that block stays as it is
 pub record Stored (l : ℕ) (s : State) (b : ℕ) (ws ws′ : List ℕ) : Type 0 where
   pub kept : keptOf l ws′ b ≡ cond (hasBlock (length ws) b) (some s) none
   pub others : (m c : ℕ) → c ≢ b → keptOf m ws′ c ≡ keptOf m ws c
-  pub beyond : drop 16384 ws′ ≡ drop 16384 ws
+  pub beyond : drop areaWords ws′ ≡ drop areaWords ws
   pub short : hasBlock (length ws) b ≡ false → ws′ ≡ ws
 
 -- no block has a kept state; of the blocks' words nothing else is said, and later ones are as they were
 pub record Forgotten (ws ws′ : List ℕ) : Type 0 where
   pub size : length ws′ ≡ length ws
   pub kept : (l b : ℕ) → keptOf l ws′ b ≡ none
-  pub beyond : drop 16384 ws′ ≡ drop 16384 ws
+  pub beyond : drop areaWords ws′ ≡ drop areaWords ws
 
+-- n words that are zero
 unfoldable pub zeros : ℕ → List ℕ
 zeros n = replicate n 0
 
--- the first 16,384 words zero, later ones as they were; a shorter area stays as it is
+-- "after an answer the first 16,384 words are zero, later ones untouched"; "7: work area under 16,384 32-bit words (.. area untouched)"
 unfoldable pub cleared : List ℕ → List ℕ
 unfolding zeros
-cleared ws = cond (leb 16384 (length ws)) (zeros 16384 ++ drop 16384 ws) ws
+cleared ws = cond (leb areaWords (length ws)) (zeros areaWords ++ drop areaWords ws) ws

@@ -1,4 +1,5 @@
--- The running state of a block, its predicates, and the entry points of the instructions (abstract_state.rs).
+-- The running state of a block, and what each instruction does to it (abstract_state.rs). Document 01: "Copy: strong empty path. Element
+-- borrow and call: weak empty path. Field: strong. Local: strong from the root. Resource: weak from the root."
 use Prim.Native.Nat.{ℕ, suc}
 use mathlib.Core.Bool.{Bool, not, _||_, _&&_, false, cond, true}
 use mathlib.Core.List.{List, [], _∷_}
@@ -12,7 +13,7 @@ use Rattle.meaning.specs.Labels.{fieldLabel, localLabel, globalLabel}
 use Rattle.meaning.specs.BorrowGraph.{Graph, borrowed, mutablyBorrowed, isMutable, held, wellFormed, newName, borrowStrong, borrowWeak, release, fullyBorrowed}
 use Rattle.meaning.specs.AbstractState.{Local, Operand, nonRef, reference, Token, ofValue, ofRef, absent, value, ref}
 
--- `root` is L, the frame root's name; `next` the next fresh name
+-- "Frame root is name L; fresh names start at L + 1 in each block." `root` is L, `next` the next fresh name.
 pub record Running : Type 0 where
   pub locals : List Local
   pub graph : Graph
@@ -24,16 +25,18 @@ pub record Answer : Type 0 where
   pub state : Running
   pub operand : Operand
 
+-- the state with another graph, or with another local
 abbrev pub withGraph : Running → Graph → Running
 withGraph r g = record { locals = r .locals; graph = g; next = r .next; root = r .root }
 
 abbrev pub withLocal : Running → ℕ → Local → Running
 withLocal r i v = record { locals = set (r .locals) i v; graph = r .graph; next = r .next; root = r .root }
 
+-- done, with an operand
 abbrev pub answer : Running → Operand → Outcome Answer
 answer r v = done (record { state = r; operand = v })
 
--- is_writable and is_freezable, of a mutable reference; is_readable
+-- the Rust's is_writable and is_freezable, of a mutable reference, and is_readable
 abbrev pub writable : Graph → ℕ → Bool
 writable g n = not (borrowed g n none)
 
@@ -56,39 +59,49 @@ newRef m r =
     (then (lift (newName (r .graph) (r .next) m)) (λ g.
     done (record { locals = r .locals; graph = g; next = suc (r .next); root = r .root })))
 
+-- the running state after a graph call
 abbrev pub onGraph : Running → Ans Graph → Outcome Running
 onGraph r a = then (lift a) (λ g. done (withGraph r g))
 
+-- "Copy: strong empty path."
 unfoldable pub addCopy : ℕ → ℕ → Running → Outcome Running
 addCopy p c r = onGraph r (borrowStrong (r .graph) p [] c)
 
+-- "Element borrow and call: weak empty path."
 unfoldable pub addBorrow : ℕ → ℕ → Running → Outcome Running
 addBorrow p c r = onGraph r (borrowWeak (r .graph) p [] c)
 
+-- "Field: strong."
 unfoldable pub addFieldBorrow : ℕ → ℕ → ℕ → Running → Outcome Running
 addFieldBorrow p f c r = onGraph r (borrowStrong (r .graph) p (fieldLabel f ∷ []) c)
 
+-- "Local: strong from the root."
 unfoldable pub addLocalBorrow : ℕ → ℕ → Running → Outcome Running
 addLocalBorrow i c r = onGraph r (borrowStrong (r .graph) (r .root) (localLabel i ∷ []) c)
 
+-- "Resource: weak from the root."
 unfoldable pub addResourceBorrow : ℕ → ℕ → Running → Outcome Running
 addResourceBorrow i c r = onGraph r (borrowWeak (r .graph) (r .root) (globalLabel i ∷ []) c)
 
+-- a reference is dropped
 unfoldable pub releaseName : ℕ → Running → Outcome Running
 releaseName n r = onGraph r (release (r .graph) n)
 
 -- ---- entry points
 
+-- an operand of this token: a value, or a new reference
 unfoldable pub valueFor : Token → Running → Outcome Answer
 unfolding newRef
 valueFor ofValue r = answer r nonRef
 valueFor (ofRef m) r = then (newRef m r) (λ s. answer s (reference (r .next)))
 
+-- an operand is dropped
 unfoldable pub releaseValue : Operand → Running → Outcome Running
 unfolding releaseName
 releaseValue nonRef r = done r
 releaseValue (reference n) r = releaseName n r
 
+-- "12: copy or move of an absent local." 101, if the value is mutably borrowed.
 abbrev pub copyOf : Running → ℕ → Local → Outcome Answer
 copyOf r i absent = refused 12
 copyOf r i value = needsName (r .graph) (r .root) (fails (mutablyBorrowed (r .graph) (r .root) (some (localLabel i))) COPYLOC-EXISTS-BORROW (answer r nonRef))
@@ -98,30 +111,36 @@ copyOf r i (ref n) =
     then (addCopy n (r .next) s) (λ t.
     answer t (reference (r .next)))))
 
+-- CopyLoc
 unfoldable pub copyLoc : ℕ → Running → Outcome Answer
 copyLoc i r = copyOf r i (getD (r .locals) i absent)
 
+-- "12: copy or move of an absent local." 102, if the value is borrowed.
 abbrev pub moveOf : Running → ℕ → Local → Outcome Answer
 moveOf r i absent = refused 12
 moveOf r i value = needsName (r .graph) (r .root) (fails (borrowed (r .graph) (r .root) (some (localLabel i))) MOVELOC-EXISTS-BORROW (answer (withLocal r i absent) nonRef))
 moveOf r i (ref n) = answer (withLocal r i absent) (reference n)
 
+-- MoveLoc
 unfoldable pub moveLoc : ℕ → Running → Outcome Answer
 moveLoc i r = moveOf r i (getD (r .locals) i absent)
 
+-- a local that holds this operand
 abbrev pub localOf : Operand → Local
 localOf nonRef = value
 localOf (reference n) = ref n
 
--- what becomes of the old content, once the new one is stored
+-- what becomes of the old content, once the new one is stored: 103, if a value is borrowed; a reference is released
 abbrev pub overwrite : ℕ → Running → Local → Outcome Running
 overwrite i r absent = done r
 overwrite i r value = needsName (r .graph) (r .root) (fails (borrowed (r .graph) (r .root) (some (localLabel i))) STLOC-UNSAFE-TO-DESTROY (done r))
 overwrite i r (ref n) = releaseName n r
 
+-- StLoc
 unfoldable pub stLoc : ℕ → Operand → Running → Outcome Running
 stLoc i v r = overwrite i (withLocal r i (localOf v)) (getD (r .locals) i absent)
 
+-- FreezeRef: "13: write, freeze or mutable vector step on an immutable reference"; 104, if it is mutably borrowed
 unfoldable pub freezeRef : ℕ → Running → Outcome Answer
 freezeRef n r =
     needsName (r .graph) n
@@ -132,6 +151,7 @@ freezeRef n r =
     then (releaseName n t) (λ u.
     answer u (reference (r .next))))))))
 
+-- Eq, Neq: 11 for a value and a reference; 105, if one of the two is not readable, the top first
 unfoldable pub comparison : Operand → Operand → Running → Outcome Answer
 comparison nonRef nonRef r = answer r nonRef
 comparison nonRef (reference n) r = refused 11
@@ -145,6 +165,7 @@ comparison (reference m) (reference n) r =
     then (releaseName n s) (λ t.
     answer t nonRef))))))
 
+-- ReadRef: 105, if it is not readable
 unfoldable pub readRef : ℕ → Running → Outcome Answer
 readRef n r =
     needsName (r .graph) n
@@ -152,6 +173,7 @@ readRef n r =
     (then (releaseName n r) (λ s.
     answer s nonRef)))
 
+-- WriteRef: "13: write .. on an immutable reference"; 106, if it is borrowed
 unfoldable pub writeRef : ℕ → Running → Outcome Running
 writeRef n r =
     needsName (r .graph) n
@@ -159,6 +181,7 @@ writeRef n r =
     (fails (not (writable (r .graph) n)) WRITEREF-EXISTS-BORROW
     (releaseName n r)))
 
+-- "A mutable local borrow is never a violation." 107, if an immutable one meets a mutable borrow
 unfoldable pub borrowLoc : Bool → ℕ → Running → Outcome Answer
 borrowLoc m i r =
     needsName (r .graph) (r .root)
@@ -167,6 +190,7 @@ borrowLoc m i r =
     then (addLocalBorrow i (r .next) s) (λ t.
     answer t (reference (r .next))))))
 
+-- "A mutable field borrow fails only on an empty-path borrow" (108; "a field borrow has no such test" as 13)
 unfoldable pub borrowField : Bool → ℕ → ℕ → Running → Outcome Answer
 borrowField m n f r =
     needsName (r .graph) n
@@ -176,6 +200,7 @@ borrowField m n f r =
     then (releaseName n t) (λ u.
     answer u (reference (r .next)))))))
 
+-- "Resource borrow fails if mutably borrowed, or mutable and borrowed" (109)
 unfoldable pub borrowGlobal : Bool → ℕ → Running → Outcome Answer
 borrowGlobal m i r =
     needsName (r .graph) (r .root)
@@ -184,10 +209,11 @@ borrowGlobal m i r =
     then (addResourceBorrow i (r .next) s) (λ t.
     answer t (reference (r .next))))))
 
+-- MoveFrom: 109, if the resource is borrowed
 unfoldable pub moveFrom : ℕ → Running → Outcome Answer
 moveFrom i r = needsName (r .graph) (r .root) (fails (borrowed (r .graph) (r .root) (some (globalLabel i))) GLOBAL-REFERENCE (answer r nonRef))
 
--- a value where a reference is needed, or the reverse: 11
+-- "11: a value where a reference is needed, or the reverse."
 abbrev pub needRef : {A : Type 0} → Operand → (ℕ → Outcome A) → Outcome A
 needRef nonRef k = refused 11
 needRef (reference n) k = k n
@@ -196,14 +222,16 @@ abbrev pub needValue : {A : Type 0} → Operand → Outcome A → Outcome A
 needValue nonRef k = k
 needValue (reference n) k = refused 11
 
--- a mutable vector step wants a mutable reference with no borrow
+-- "13: .. mutable vector step on an immutable reference"; the violation c, if it is borrowed. An immutable step tests nothing.
 abbrev pub vectorTest : {A : Type 0} → Bool → Graph → ℕ → ℕ → Outcome A → Outcome A
 vectorTest true g n c k = needs (isMutable g n) 13 (fails (not (writable g n)) c k)
 vectorTest false g n c k = k
 
+-- VecLen, PushBack, PopBack, Swap
 unfoldable pub vectorOp : Operand → Bool → Running → Outcome Running
 vectorOp v m r = needRef v (λ n. needsName (r .graph) n (vectorTest m (r .graph) n VEC-UPDATE (releaseName n r)))
 
+-- the borrow of a vector's element
 unfoldable pub vectorElementBorrow : Operand → Bool → Running → Outcome Answer
 vectorElementBorrow v m r =
     needRef v (λ n.
@@ -238,24 +266,28 @@ unfolding putNumber
 ascend [] = []
 ascend (n ∷ ns) = putNumber n (ascend ns)
 
+-- names released, one after the other
 unfoldable pub releaseAll : List ℕ → Running → Outcome Running
 unfolding releaseName
 releaseAll [] r = done r
 releaseAll (n ∷ ns) r = then (releaseName n r) (λ s. releaseAll ns s)
 
+-- c borrows from each of these names
 unfoldable pub borrowFrom : List ℕ → ℕ → Running → Outcome Running
 unfolding addBorrow
 borrowFrom [] c r = done r
 borrowFrom (p ∷ ps) c r = then (addBorrow p c r) (λ s. borrowFrom ps c s)
 
--- mutable references that are borrowed: they must not be handed over
+-- mutable references that are borrowed must not be handed over: the violation c
 unfoldable pub handOver : {A : Type 0} → List ℕ → ℕ → Running → Outcome A → Outcome A
 handOver [] c r k = k
 handOver (n ∷ ns) c r k = needsName (r .graph) n (fails (isMutable (r .graph) n && not (writable (r .graph) n)) c (handOver ns c r k))
 
+-- "Acquired numbers: any order, repeats allowed": 109, if one of the resources is borrowed
 unfoldable pub notAcquired : {A : Type 0} → List ℕ → Running → Outcome A → Outcome A
 notAcquired is r k = needsName (r .graph) (r .root) (fails (any (λ i. borrowed (r .graph) (r .root) (some (globalLabel i))) is) GLOBAL-REFERENCE k)
 
+-- a state, and the values returned
 pub record Answers : Type 0 where
   pub state : Running
   pub operands : List Operand
@@ -276,6 +308,7 @@ returnValues (ofRef m ∷ ts) muts alls r =
     then (returnValues ts muts alls t) (λ a.
     done (record { state = a .state; operands = reference (r .next) ∷ a .operands }))))
 
+-- Call: 109, then 112, then the values returned; the arguments are released last
 unfoldable pub call : List Operand → List ℕ → List Token → Running → Outcome Answers
 call args acquired tokens r =
     notAcquired acquired r
@@ -284,6 +317,8 @@ call args acquired tokens r =
     then (releaseAll (ascend (operandNames args)) (a .state)) (λ s.
     done (record { state = s; operands = a .operands })))))
 
+-- Ret: the locals' references are released; 113, if something of the frame is borrowed; 114, if a mutable reference that is returned is
+-- borrowed
 unfoldable pub ret : List Operand → Running → Outcome Running
 ret values r =
     then (releaseAll (ascend (localNames (r .locals))) r) (λ s.

@@ -1,12 +1,14 @@
--- Labels: Local, Global and Field, each with a 16-bit number. A label's own number is kind × 65,536 + index, so that labels
--- stand in the order of their numbers: Local < Global < Field, then the index.
+-- Labels (paths.rs). Document 01: "A label is Local, Global or Field with a 16-bit number". A label's own number is kind × 65,536 + index, so
+-- that labels stand in the order of their numbers.
 use Prim.Native.Nat.{ℕ, _+_, _%_}
 use mathlib.Core.Bool.{cond, Bool, true, false}
 use lib.Dec.{ltb}
 
+-- "A label is Local, Global or Field with a 16-bit number."
 pub data Label : Type 0 where
   local global field : ℕ → Label
 
+-- the number of each label
 abbrev pub localLabel : ℕ → ℕ
 localLabel i = i
 
@@ -16,6 +18,7 @@ globalLabel i = 65536 + i
 abbrev pub fieldLabel : ℕ → ℕ
 fieldLabel i = 131072 + i
 
+-- a label's number; `labelAt-number` (Laws/Label) says that the two tell each other
 abbrev pub numberOf : Label → ℕ
 numberOf (local i) = localLabel i
 numberOf (global i) = globalLabel i
@@ -36,6 +39,6 @@ kindOf (local i) = 0
 kindOf (global i) = 1
 kindOf (field i) = 2
 
--- Local < Global < Field, then the index
+-- "labels Local < Global < Field, then number"; `number-order` (Laws/Label) says that it is the order of the labels' numbers
 unfoldable pub ltLabel : Label → Label → Bool
 ltLabel a b = cond (ltb (kindOf a) (kindOf b)) true (cond (ltb (kindOf b) (kindOf a)) false (ltb (indexOf a) (indexOf b)))

@@ -1,13 +1,16 @@
+-- Tests and sums over lists, that the definitions share.
 use Prim.Native.Nat.{ℕ, zero, suc, _+_}
 use mathlib.Core.Bool.{Bool, true, false, _&&_, _||_, cond}
 use mathlib.Core.List.{List, [], _∷_, _++_}
 use mathlib.Core.Option.{Option, none, some}
 
 module _ {A : Type 0} where
+  -- every element passes the test
   abbrev pub all : (A → Bool) → List A → Bool
   all f [] = true
   all f (x ∷ xs) = f x && all f xs
 
+  -- some element does
   abbrev pub any : (A → Bool) → List A → Bool
   any f [] = false
   any f (x ∷ xs) = f x || any f xs
@@ -17,6 +20,7 @@ module _ {A : Type 0} where
   keep f [] = []
   keep f (x ∷ xs) = cond (f x) (x ∷ keep f xs) (keep f xs)
 
+  -- there is no element
   abbrev pub empty : List A → Bool
   empty [] = true
   empty (x ∷ xs) = false
@@ -34,6 +38,7 @@ each (x ∷ xs) f = f x ++ each xs f
 
 -- ---- sums over a range
 
+-- f 0 + f 1 + .. + f (n - 1)
 abbrev pub sum : ℕ → (ℕ → ℕ) → ℕ
 sum zero f = 0
 sum (suc n) f = sum n f + f n

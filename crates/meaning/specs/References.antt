@@ -1,4 +1,4 @@
--- Edges and sets of edges (references.rs, paths.rs).
+-- Edges and sets of edges (references.rs, paths.rs). A path is a list of labels, each by its number.
 use Prim.Native.Nat.{ℕ}
 use mathlib.Core.Bool.{Bool, false, true, _&&_, _||_, Bool·beq, not, cond}
 use mathlib.Core.List.{List, [], _∷_}
@@ -8,47 +8,53 @@ use Rattle.meaning.specs.Limits.{maxSetSize, maxLabels}
 use Rattle.meaning.specs.Answers.{Ans, ok, refuse, guard}
 use Rattle.meaning.specs.Lists.{any, keep, all}
 
--- A path is a list of labels. A label is a number, kind × 65,536 + index.
+-- "An edge is strong or weak and has a path (a list of labels)."
 pub record Edge : Type 0 where
   pub strong : Bool
   pub path : List ℕ
 
--- `blurred` is the Rust's `overflown`
+-- the edges of one pair of names; `blurred` is the Rust's `overflown`
 pub record EdgeSet : Type 0 where
   pub edges : List Edge
   pub blurred : Bool
 
+-- "one weak edge with empty path"
 abbrev pub weakest : Edge
 weakest = record { strong = false; path = [] }
 
 abbrev pub emptySet : EdgeSet
 emptySet = record { edges = []; blurred = false }
 
+-- "one weak edge with empty path, blurred"
 abbrev pub blur : EdgeSet
 blur = record { edges = weakest ∷ []; blurred = true }
 
+-- the first path is the start of the second
 unfoldable pub prefix : List ℕ → List ℕ → Bool
 prefix [] ys = true
 prefix (x ∷ xs) [] = false
 prefix (x ∷ xs) (y ∷ ys) = eqb x y && prefix xs ys
 
+-- label by label
 unfoldable pub eqPath : List ℕ → List ℕ → Bool
 eqPath [] [] = true
 eqPath [] (y ∷ ys) = false
 eqPath (x ∷ xs) [] = false
 eqPath (x ∷ xs) (y ∷ ys) = eqb x y && eqPath xs ys
 
+-- "label by label, a prefix first"
 unfoldable pub ltPath : List ℕ → List ℕ → Bool
 ltPath [] [] = false
 ltPath [] (y ∷ ys) = true
 ltPath (x ∷ xs) [] = false
 ltPath (x ∷ xs) (y ∷ ys) = ltb x y || (eqb x y && ltPath xs ys)
 
+-- the same strength and the same path
 unfoldable pub eqEdge : Edge → Edge → Bool
 unfolding eqPath
 eqEdge e f = Bool·beq (e .strong) (f .strong) && eqPath (e .path) (f .path)
 
--- weak before strong, then the path, label by label, a prefix first
+-- "Edge order: weak before strong, then path, label by label, a prefix first"
 unfoldable pub ltEdge : Edge → Edge → Bool
 unfolding ltPath
 ltEdge e f = (not (e .strong) && f .strong) || (Bool·beq (e .strong) (f .strong) && ltPath (e .path) (f .path))
@@ -62,6 +68,7 @@ orderBy true e = less
 orderBy false true = equal
 orderBy false false = greater
 
+-- the two orders, as one answer
 unfoldable pub comparePaths : List ℕ → List ℕ → Cmp
 unfolding ltPath eqPath
 comparePaths p q = orderBy (ltPath p q) (eqPath p q)
@@ -70,24 +77,28 @@ unfoldable pub compareEdges : Edge → Edge → Cmp
 unfolding ltEdge eqEdge
 compareEdges e f = orderBy (ltEdge e f) (eqEdge e f)
 
--- equal, or weak with a prefix path (the Rust's `leq`)
+-- "`leq`: equal, or weak with a prefix path": the first edge covers the second
 unfoldable pub covers : Edge → Edge → Bool
 unfolding eqEdge prefix
 covers e f = eqEdge e f || (not (e .strong) && prefix (e .path) (f .path))
 
+-- one of these edges covers e
 abbrev pub covered : List Edge → Edge → Bool
 covered ds e = any (λ d. covers d e) ds
 
+-- e is among these edges
 unfoldable pub has : Edge → List Edge → Bool
 unfolding eqEdge
 has e xs = any (eqEdge e) xs
 
--- put in, in order
+-- put in where it belongs in the order
 unfoldable pub put : Edge → List Edge → List Edge
 unfolding ltEdge
 put e [] = e ∷ []
 put e (x ∷ xs) = cond (ltEdge e x) (e ∷ x ∷ xs) (x ∷ put e xs)
 
+-- "Nine edges and a new one: ten, not blurred. Ten edges and any insert, even a duplicate: one weak edge with empty path, blurred. A blurred
+-- set ignores inserts." "22: an edge of over 8 labels is put into an unblurred set of fewer than ten."
 unfoldable pub insert : EdgeSet → Edge → Ans EdgeSet
 unfolding has put
 insert s e =
@@ -107,6 +118,7 @@ unfolding insert
 offer s (ok e) = insert s e
 offer s (refuse n) = cond (s .blurred) (ok s) (cond (leb maxSetSize (length (s .edges))) (ok blur) (refuse n))
 
+-- without this edge
 unfoldable pub remove : Edge → EdgeSet → EdgeSet
 unfolding eqEdge
 remove e s = record { edges = keep (λ x. not (eqEdge e x)) (s .edges); blurred = s .blurred }
@@ -119,15 +131,19 @@ unfolding ltEdge
 ordered [] = true
 ordered (x ∷ xs) = all (ltEdge x) xs && ordered xs
 
+-- "paths of at most 8 labels"
 unfoldable pub short : Edge → Bool
 short e = leb (length (e .path)) maxLabels
 
+-- "a blurred set is one weak edge with empty path"
 unfoldable pub isBlur : List Edge → Bool
 unfolding eqEdge
 isBlur [] = false
 isBlur (x ∷ []) = eqEdge x weakest
 isBlur (x ∷ y ∷ ys) = false
 
+-- "a set has 1 to 10 different edges with paths of at most 8 labels; a blurred set is one weak edge with empty path" (or it is the empty set
+-- of a pair without edges)
 unfoldable pub setOk : EdgeSet → Bool
 unfolding ordered short isBlur
 setOk s = cond (s .blurred) (isBlur (s .edges)) (leb (length (s .edges)) maxSetSize && (all short (s .edges) && ordered (s .edges)))

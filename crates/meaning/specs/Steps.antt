@@ -30,11 +30,12 @@ pub record Machine : Type 0 where
 
 -- ---- the stack
 
+-- "10: taking from an empty stack."
 abbrev pub pop : {A : Type 0} → List Operand → (Operand → List Operand → Outcome A) → Outcome A
 pop [] k = refused 10
 pop (v ∷ vs) k = k v vs
 
--- a reference; a value
+-- "11: a value where a reference is needed, or the reverse": a reference; a value
 abbrev pub popRef : {A : Type 0} → List Operand → (ℕ → List Operand → Outcome A) → Outcome A
 popRef vs k = pop vs (λ v ws. needRef v (λ n. k n ws))
 
@@ -51,9 +52,11 @@ unfoldable pub popMany : {A : Type 0} → ℕ → List Operand → List Operand 
 popMany zero taken vs k = k taken vs
 popMany (suc n) taken vs k = pop vs (λ v ws. popMany n (v ∷ taken) ws k)
 
+-- "20: push onto 16 operands."
 unfoldable pub push : List Operand → Operand → Running → Outcome Machine
 push vs v r = needs (ltb (length vs) maxOperands) 20 (done (record { state = r; stack = v ∷ vs }))
 
+-- an entry point's operand is pushed
 abbrev pub pushed : List Operand → Outcome Answer → Outcome Machine
 pushed vs a = then a (λ x. push vs (x .operand) (x .state))
 
@@ -69,11 +72,13 @@ unfolding push
 pushNew zero t vs r = done (record { state = r; stack = vs })
 pushNew (suc n) t vs r = then (pushed vs (valueFor t r)) (λ m. pushNew n t (m .stack) (m .state))
 
+-- an entry point that gives no operand
 abbrev pub unchanged : List Operand → Outcome Running → Outcome Machine
 unchanged vs a = then a (λ r. done (record { state = r; stack = vs }))
 
 -- ---- one instruction, in a routine with this many returns
 
+-- one instruction, in a routine with this many returns: what it takes, its entry point, what it pushes
 abbrev pub stepOn : ℕ → Instr → List Operand → Running → Outcome Machine
 stepOn returns Pop vs r = pop vs (λ v ws. unchanged ws (releaseValue v r))
 stepOn returns (CopyLoc i) vs r = pushed vs (copyLoc i r)

@@ -8,15 +8,11 @@ use lib.ListN.{length, take, drop, length-append, length-map}
 use lib.Seq.{take-at, drop-at}
 use Rattle.meaning.specs.Lists.{keep}
 use Rattle.meaning.specs.References.{orderBy, Cmp, less, equal, greater, EdgeSet}
-use Rattle.meaning.specs.BorrowGraph.{GEdge, eqPair, isBefore, setAt, setTo, tagged, isAfter}
+use Rattle.meaning.specs.BorrowGraph.{GEdge, eqPair, isBefore, side, setAt, setTo, tagged, isAfter}
 use Rattle.meaning.specs.Laws.Base.{decide, both}
 use Rattle.meaning.specs.Laws.Graph.{not-before-self}
 use Rattle.meaning.specs.Laws.Pair.{Neat, setTo-idle}
 use Rattle.meaning.specs.Refinement.Pairs.{edgesAt}
-
--- how the pair of an edge stands to a pair
-unfoldable pub side : ℕ → ℕ → GEdge → Cmp
-side p c x = orderBy (isBefore p c x) (eqPair p c (x .parent) (x .child))
 
 -- an edge's turn in collecting a pair's set and counting what stands before it
 module _ (p c : ℕ) (x : GEdge) (xs : List GEdge) where

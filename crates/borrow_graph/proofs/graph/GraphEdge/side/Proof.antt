@@ -1,17 +1,17 @@
 use mathlib.Core.Path.{_≡_, refl}
 use borrow.Author.Tests.{lt-ltb, le-ltb, eq-eqb, ne-eqb}
-use Rattle.meaning.specs.Laws.Cut as Cut
+use Rattle.meaning.specs.BorrowGraph as G
 use native.Mathlib.Omega.{arith}
 use borrow.Author.Needs.{needs}
 use Rattle.borrow_graph.proofs.graph.GraphEdge.side.Statement.{statement}
 use Rattle.borrow_graph.proofs.graph.GraphEdge.side.Tie as tie
 
 returns : tie.Need-returns
-unfolding Cut.side
+unfolding G.side
 returns c = rw (lt-ltb _ _ (c .if1 .taken))
 
 returns-2 : tie.Need-returns-2
-unfolding Cut.side
+unfolding G.side
 returns-2 c =
     let p = (c .before .before .before .before .args) .self .parent .0 in
     let q = (c .before .before .before .before .args) .parent .0 in
@@ -20,7 +20,7 @@ returns-2 c =
     rw (le-ltb p q ((c .before .before .if1) .left), ne-eqb p q n, ne-eqb q p m)
 
 returns-3 : tie.Need-returns-3
-unfolding Cut.side
+unfolding G.side
 returns-3 c =
     let p = (c .before .before .before .before .before .before .args) .self .parent .0 in
     let q = (c .before .before .before .before .before .before .args) .parent .0 in
@@ -28,7 +28,7 @@ returns-3 c =
     rw (le-ltb p q ((c .before .before .before .before .if1) .left), eq-eqb p q e, lt-ltb _ _ (c .if3 .taken))
 
 returns-4 : tie.Need-returns-4
-unfolding Cut.side
+unfolding G.side
 returns-4 c =
     let p = (c .before .before .before .before .before .before .before .before .args) .self .parent .0 in
     let q = (c .before .before .before .before .before .before .before .before .args) .parent .0 in
@@ -40,7 +40,7 @@ returns-4 c =
     rw (le-ltb p q ((c .before .before .before .before .before .before .if1) .left), eq-eqb p q e, le-ltb d f ((c .before .before .if3) .left), eq-eqb q p g, ne-eqb f d n)
 
 returns-5 : tie.Need-returns-5
-unfolding Cut.side
+unfolding G.side
 returns-5 c =
     let p = (c .before .before .before .before .before .before .before .before .args) .self .parent .0 in
     let q = (c .before .before .before .before .before .before .before .before .args) .parent .0 in
