@@ -1,7 +1,7 @@
 -- Answers that may be refusals, tests over lists, sums over a range.
 use Prim.Native.Nat.{ℕ, _≤_, _<_, zero, suc, zero-le, _*_}
 use native.Mathlib.Omega.{arith}
-use mathlib.Core.Bool.{Bool, true, false, true≢false, _&&_, false≢true, _||_, not, cond}
+use mathlib.Core.Bool.{Bool, true, false, true≢false, _&&_, false≢true, _||_, not, cond, Bool·beq}
 use mathlib.Core.List.{List, [], _∷_, _++_}
 use mathlib.Core.Logic.{_⊎_, inl, inr, _≢_}
 use mathlib.Core.Path.{_≡_, sym, subst, ap, refl, _∙_}
@@ -75,6 +75,12 @@ pub or-none : (a b : Bool) → a || b ≡ false → (a ≡ false) × (b ≡ fals
 or-none true b e = absurd (false≢true (sym e))
 or-none false b e = (refl, e)
 
+pub or-no-l : (a b : Bool) → a || b ≡ false → a ≡ false
+or-no-l a b e = or-none a b e .0
+
+pub or-no-r : (a b : Bool) → a || b ≡ false → b ≡ false
+or-no-r a b e = or-none a b e .1
+
 pub or-false : (a : Bool) → a || false ≡ a
 or-false true = refl
 or-false false = refl
@@ -89,6 +95,12 @@ not-true {a = false} e = refl
 
 pub not-false : {a : Bool} → a ≡ false → not a ≡ true
 not-false e = ap not e
+
+pub beq-eq : (a b : Bool) → Bool·beq a b ≡ true → a ≡ b
+beq-eq true true e = refl
+beq-eq true false e = absurd (false≢true e)
+beq-eq false true e = absurd (false≢true e)
+beq-eq false false e = refl
 
 pub T→eq : (b : Bool) → T b → b ≡ true
 T→eq true t = refl

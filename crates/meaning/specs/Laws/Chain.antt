@@ -11,7 +11,7 @@ use lib.ListN.{length}
 use Rattle.meaning.specs.Lists.{all}
 use Rattle.meaning.specs.References.{Edge, EdgeSet, short, ordered, ltEdge, emptySet, weakest, isBlur, setOk, eqEdge}
 use Rattle.meaning.specs.BorrowGraph.{eqPair, GEdge, union, one, setAt, ltPair, onPairs, notBefore, inOrder, isBefore, Name, ascending, Graph, holds, pairOk, wellFormed}
-use Rattle.meaning.specs.Laws.Base.{not-true, both, and-i, all-imp, decide, and-l, and-r, le-leb, or-l, or-r, leb-le, eqb-self, or-cases}
+use Rattle.meaning.specs.Laws.Base.{not-true, both, and-i, all-imp, decide, and-l, and-r, le-leb, or-l, or-r, leb-le, eqb-self, or-cases, or-no-l, or-no-r}
 use Rattle.meaning.specs.Laws.Canon.{rest-plain, setOk-lone, setAt-hit, setAt-miss, setAt-head, none-before, same-pair}
 use Rattle.meaning.specs.Laws.Graph.{eqPair-l, eqPair-r, eqPair-self, not-before-self, ltPair-trans, empty-ok, all-any, at-or-empty}
 use Rattle.meaning.specs.Laws.Set.{ltEdge-trans, setOk-blurred, setOk-unblurred, eqEdge-eq}
@@ -39,14 +39,6 @@ mine-empty : (k : ℕ) (e : Edge) (b : Bool) → k ≤ 10 → Mine k e b emptySe
 unfolding ordered
 mine-empty k e b l = record { few = omega arith; shorts = refl; above = refl; asc = refl; plain = refl; alone = λ z. refl }
 
-or-no-l : (a b : Bool) → not (a || b) ≡ true → a ≡ false
-or-no-l true b e = absurd (false≢true e)
-or-no-l false b e = refl
-
-or-no-r : (a b : Bool) → not (a || b) ≡ true → b ≡ false
-or-no-r true b e = absurd (false≢true e)
-or-no-r false b e = not-true e
-
 or-no : (a b : Bool) → a ≡ false → b ≡ false → a || b ≡ false
 or-no a b p q = ap (λ (x : Bool). x || b) p ∙ q
 
@@ -58,17 +50,9 @@ mine-cons k e b x s sh nb lt m = record {
   shorts = and-i sh (m .shorts);
   above = and-i lt (all-imp (ltEdge (x .edge)) (ltEdge e) (λ f h. ltEdge-trans e (x .edge) f lt h) (s .edges) (m .above));
   asc = and-i (m .above) (m .asc);
-  plain = or-no (x .blurred) (s .blurred) (or-no-r b (x .blurred) nb) (m .plain);
-  alone = λ z. absurd (both z (or-no-l b (x .blurred) nb));
+  plain = or-no (x .blurred) (s .blurred) (or-no-r b (x .blurred) (not-true nb)) (m .plain);
+  alone = λ z. absurd (both z (or-no-l b (x .blurred) (not-true nb)));
 }
-
-no-or : (a b : Bool) → a || b ≡ false → a ≡ false
-no-or true b e = absurd (true≢false e)
-no-or false b e = refl
-
-no-or-r : (a b : Bool) → a || b ≡ false → b ≡ false
-no-or-r true b e = absurd (true≢false e)
-no-or-r false b e = e
 
 record Unconsed (k : ℕ) (e : Edge) (b : Bool) (x : GEdge) (s : EdgeSet) : Type 0 where
   room : ltb k 10 ≡ true
@@ -81,7 +65,7 @@ mine-uncons : (k : ℕ) (e : Edge) (b : Bool) (x : GEdge) (s : EdgeSet) → Mine
 unfolding ordered
 mine-uncons k e b x s m =
     let z : k + suc (length (s .edges)) ≤ 10 = m .few in
-    let xb : x .blurred ≡ false = no-or (x .blurred) (s .blurred) (m .plain) in
+    let xb : x .blurred ≡ false = or-no-l (x .blurred) (s .blurred) (m .plain) in
     let kl : k < 10 = omega arith in
     record {
       room = le-leb kl;
@@ -93,7 +77,7 @@ mine-uncons k e b x s m =
         shorts = and-r (short (x .edge)) (all short (s .edges)) (m .shorts);
         above = and-l (all (ltEdge (x .edge)) (s .edges)) (ordered (s .edges)) (m .asc);
         asc = and-r (all (ltEdge (x .edge)) (s .edges)) (ordered (s .edges)) (m .asc);
-        plain = no-or-r (x .blurred) (s .blurred) (m .plain);
+        plain = or-no-r (x .blurred) (s .blurred) (m .plain);
         alone = λ t. absurd (both t xb);
       };
     }
@@ -141,7 +125,7 @@ ok-first x xs h =
     let l : suc (length (s .edges)) ≤ 10 = leb-le (and-l (leb (suc (length (s .edges))) 10) (all short (x .edge ∷ s .edges) && ordered (x .edge ∷ s .edges)) z) in
     let sh : all short (x .edge ∷ s .edges) ≡ true = and-l (all short (x .edge ∷ s .edges)) (ordered (x .edge ∷ s .edges)) z1 in
     let or : ordered (x .edge ∷ s .edges) ≡ true = and-r (all short (x .edge ∷ s .edges)) (ordered (x .edge ∷ s .edges)) z1 in
-    let xb : x .blurred ≡ false = no-or (x .blurred) (s .blurred) t in
+    let xb : x .blurred ≡ false = or-no-l (x .blurred) (s .blurred) t in
     record {
       sh = and-l (short (x .edge)) (all short (s .edges)) sh;
       w = or-l (eqEdge (x .edge) weakest) (ap not xb);

@@ -10,10 +10,10 @@ use Rattle.meaning.specs.Lists.{all}
 use Rattle.meaning.specs.References.{Edge, eqEdge, EdgeSet, emptySet, covered, prefix, covers}
 use Rattle.meaning.specs.BorrowGraph.{GEdge, Graph, setAt, unmatched, union, one, eqPair}
 use Rattle.meaning.specs.AbstractState.{Local, absent, value, ref, eqLocal, eqLocals, eqEdges, eqSet, eqSets, State, changed, join}
-use Rattle.meaning.specs.Laws.Base.{eqb-eq, and-l, and-r, and-i, both, not-true, keep-passes, all-imp, or-r, or-cases, or-l, eqb-self, decide}
+use Rattle.meaning.specs.Laws.Base.{eqb-eq, and-l, and-r, and-i, both, not-true, keep-passes, all-imp, or-r, or-cases, or-l, eqb-self, decide, beq-eq}
 use Rattle.meaning.specs.Laws.Call.{setAt-all}
 use Rattle.meaning.specs.Laws.Graph.{at-or-empty, all-any}
-use Rattle.meaning.specs.Laws.Set.{eqEdge-eq, beq-eq, covers-self}
+use Rattle.meaning.specs.Laws.Set.{eqEdge-eq, covers-self}
 use Rattle.meaning.specs.Laws.State.{eqLocal-self, eqSet-self, Joined, join-law}
 
 -- ---- the test says what document 01 says

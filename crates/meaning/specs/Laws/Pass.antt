@@ -18,6 +18,7 @@ use Rattle.meaning.specs.Laws.PairCall.{firsts-take, firsts-skip, releas
 use Rattle.meaning.specs.Laws.Place.{offer-insert}
 use Rattle.meaning.specs.Refinement.Pairs.{edgesAt, fewEdges, replaceOne, Pair, replaceLim, across, or21, twoPass, firsts, pairOf, newSet, withEdges, exactly, releasePairs, joinPairs, loopAt}
 use Rattle.meaning.specs.Refinement.Passes.{fitting, uncovered, splices, spliceSet, joinSet, childrenFrom, parentsFrom, pairsFrom, splicePairs, apart}
+use Rattle.meaning.specs.Laws.Put.{setOk-few}
 
 -- ---- sets
 
@@ -68,20 +69,6 @@ module _ (ds : List Edge) (e : Edge) (es : List Edge) where
 
   pub uncovered-take : covered ds e ≡ false → uncovered ds (e ∷ es) ≡ e ∷ uncovered ds es
   uncovered-take h = ap (λ (b : Bool). cond (not b) (e ∷ uncovered ds es) (uncovered ds es)) h
-
--- a well-formed set is small
-pub setOk-few : (s : EdgeSet) → setOk s ≡ true → length (s .edges) ≤ 10
-unfolding setOk isBlur
-setOk-few s h = go (s .blurred) refl h
-  where
-    lone : (es : List Edge) → isBlur es ≡ true → length es ≤ 10
-    lone [] k = omega arith
-    lone (e ∷ []) k = omega arith
-    lone (e ∷ f ∷ es) k = absurd (both {b = false} k refl)
-
-    go : (b : Bool) → s .blurred ≡ b → cond b (isBlur (s .edges)) (leb (length (s .edges)) 10 && (all short (s .edges) && ordered (s .edges))) ≡ true → length (s .edges) ≤ 10
-    go true e k = lone (s .edges) k
-    go false e k = leb-le (and-l (leb (length (s .edges)) 10) (all short (s .edges) && ordered (s .edges)) k)
 
 -- no set of a neat list has more than ten edges
 pub neat-few : (es : List GEdge) (p c : ℕ) → Neat es → length (edgesAt p c es) ≤ 10

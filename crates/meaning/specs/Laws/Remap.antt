@@ -13,7 +13,7 @@ use Rattle.meaning.specs.Lists.{any, all}
 use Rattle.meaning.specs.BorrowGraph.{Graph, wellFormed, renamed, Change, nameAfter, clash, remap, isOld, alike, twice, Name, holds, collides, ascending, held, renameEdges, renameNames}
 use Rattle.meaning.specs.AbstractState.{count1}
 use Rattle.meaning.specs.EntryPoints.{ascend}
-use Rattle.meaning.specs.Laws.Base.{or-l, or-r, or-cases, both, and-i, eqb-self, and-r, eqb-eq, decide, and-l, not-false, le-leb, leb-le, guard-ok, ok-inj, not-true}
+use Rattle.meaning.specs.Laws.Base.{or-l, or-r, or-cases, both, and-i, eqb-self, and-r, eqb-eq, decide, and-l, not-false, le-leb, leb-le, guard-ok, ok-inj, not-true, or-no-l, or-no-r}
 use Rattle.meaning.specs.Laws.Call.{holds-all}
 use Rattle.meaning.specs.Laws.Graph.{wf→inv, inv→wf, room}
 use Rattle.meaning.specs.Laws.InTurn.{in-turn, to-apart, ascend-sorted}
@@ -45,14 +45,6 @@ some-one {A} p (x ∷ xs) h = go (or-cases (p x) (any p xs) h) (some-one p xs)
     go (inl e) r = (x, e, λ q z. or-l (any q xs) z)
     go (inr e) r = let w = r e in (w .0, w .1, λ q z. or-r (q x) (w .2 q z))
 
-no-l : (a b : Bool) → a || b ≡ false → a ≡ false
-no-l true b e = absurd (true≢false e)
-no-l false b e = refl
-
-no-r : (a b : Bool) → a || b ≡ false → b ≡ false
-no-r true b e = absurd (true≢false e)
-no-r false b e = e
-
 -- ---- old and new names
 
 hit : (m : Change) (ms : List Change) (n : ℕ) → eqb n (m .old) ≡ true → nameAfter (m ∷ ms) n ≡ m .new
@@ -67,7 +59,7 @@ stays : (ms : List Change) (n : ℕ) → isOld ms n ≡ false → nameAfter ms n
 unfolding isOld nameAfter
 stays [] n h = refl
 stays (m ∷ ms) n h =
-    miss m ms n (no-l (eqb n (m .old)) (any (λ k. eqb n (k .old)) ms) h) ∙ stays ms n (no-r (eqb n (m .old)) (any (λ k. eqb n (k .old)) ms) h)
+    miss m ms n (or-no-l (eqb n (m .old)) (any (λ k. eqb n (k .old)) ms) h) ∙ stays ms n (or-no-r (eqb n (m .old)) (any (λ k. eqb n (k .old)) ms) h)
 
 -- the pair that gives an old name its new one
 its-pair : (ms : List Change) (n : ℕ) → isOld ms n ≡ true → any (λ m. eqb n (m .old) && eqb (nameAfter ms n) (m .new)) ms ≡ true
@@ -90,14 +82,14 @@ its-pair (m ∷ ms) n h = go (eqb n (m .old)) refl (its-pair ms n)
 olds-apart : (ms : List Change) (m n : ℕ) → twice ms ≡ false → isOld ms m ≡ true → isOld ms n ≡ true → nameAfter ms m ≡ nameAfter ms n → m ≡ n
 unfolding twice isOld
 olds-apart [] m n t hm hn e = absurd (false≢true hm)
-olds-apart (k ∷ ks) m n t hm hn e = go (eqb m (k .old)) (eqb n (k .old)) refl refl (or-cases (eqb m (k .old)) (isOld ks m) hm) (or-cases (eqb n (k .old)) (isOld ks n) hn) (olds-apart ks m n (no-r (any (alike k) ks) (twice ks) t))
+olds-apart (k ∷ ks) m n t hm hn e = go (eqb m (k .old)) (eqb n (k .old)) refl refl (or-cases (eqb m (k .old)) (isOld ks m) hm) (or-cases (eqb n (k .old)) (isOld ks n) hn) (olds-apart ks m n (or-no-r (any (alike k) ks) (twice ks) t))
   where
     -- one of the two has the first pair, the other a later one with the same new name
     never : (i : ℕ) → isOld ks i ≡ true → k .new ≡ nameAfter ks i → ⊥
     never i h q =
         let w = some-one (λ j. eqb i (j .old) && eqb (nameAfter ks i) (j .new)) ks (its-pair ks i h) in
         let z : eqb (k .new) (w .0 .new) ≡ true = subst (λ (x : ℕ). eqb x (w .0 .new) ≡ true) (sym q) (and-r (eqb i (w .0 .old)) (eqb (nameAfter ks i) (w .0 .new)) (w .1)) in
-        both (w .2 (alike k) (or-r (eqb (k .old) (w .0 .old)) z)) (no-l (any (alike k) ks) (twice ks) t)
+        both (w .2 (alike k) (or-r (eqb (k .old) (w .0 .old)) z)) (or-no-l (any (alike k) ks) (twice ks) t)
 
     go : (a b : Bool) → eqb m (k .old) ≡ a → eqb n (k .old) ≡ b → (eqb m (k .old) ≡ true) ⊎ (isOld ks m ≡ true) → (eqb n (k .old) ≡ true) ⊎ (isOld ks n ≡ true)
         → (isOld ks m ≡ true → isOld ks n ≡ true → nameAfter ks m ≡ nameAfter ks n → m ≡ n) → m ≡ n
@@ -113,11 +105,11 @@ olds-apart (k ∷ ks) m n t hm hn e = go (eqb m (k .old)) (eqb n (k .old)) refl 
 module _ (ns : List Name) (ms : List Change) (c : clash ns ms ≡ false) where
   apart : twice ms ≡ false
   unfolding clash
-  apart = no-l (twice ms) (any (collides ns ms) ms) c
+  apart = or-no-l (twice ms) (any (collides ns ms) ms) c
 
   clear : any (collides ns ms) ms ≡ false
   unfolding clash
-  clear = no-r (twice ms) (any (collides ns ms) ms) c
+  clear = or-no-r (twice ms) (any (collides ns ms) ms) c
 
   -- the new name of an old one is no greater old name, and none that is held outside the old names
   free : (m : ℕ) → isOld ms m ≡ true → nameAfter ms m ≢ m → (isOld ms (nameAfter ms m) && ltb m (nameAfter ms m)) || (holds ns (nameAfter ms m) && not (isOld ms (nameAfter ms m))) ≡ true → ⊥
@@ -201,8 +193,8 @@ old-times : (ms : List Change) (n : ℕ) → isOld ms n ≡ false → times n (m
 unfolding isOld
 old-times [] n h = refl
 old-times (m ∷ ms) n h =
-    let a : count1 (eqb n (m .old)) ≡ 0 = count-no (no-l (eqb n (m .old)) (any (λ k. eqb n (k .old)) ms) h) in
-    let b : times n (map (λ k. k .old) ms) ≡ 0 = old-times ms n (no-r (eqb n (m .old)) (any (λ k. eqb n (k .old)) ms) h) in
+    let a : count1 (eqb n (m .old)) ≡ 0 = count-no (or-no-l (eqb n (m .old)) (any (λ k. eqb n (k .old)) ms) h) in
+    let b : times n (map (λ k. k .old) ms) ≡ 0 = old-times ms n (or-no-r (eqb n (m .old)) (any (λ k. eqb n (k .old)) ms) h) in
     omega arith
 
 no-times : (ms : List Change) (n : ℕ) → isOld ms n ≡ true → times n (map (λ m. m .old) ms) ≡ 0 → ⊥
@@ -226,13 +218,13 @@ old-once (m ∷ ms) t n = decide (eqb n (m .old))
     let b : times n (map (λ k. k .old) ms) ≡ 0 = old-times ms n (none n q) in
     omega arith)
     (λ e. let a : count1 (eqb n (m .old)) ≡ 0 = count-no e in
-    let b : times n (map (λ k. k .old) ms) ≤ 1 = old-once ms (no-r (any (alike m) ms) (twice ms) t) n in
+    let b : times n (map (λ k. k .old) ms) ≤ 1 = old-once ms (or-no-r (any (alike m) ms) (twice ms) t) n in
     omega arith)
   where
     none : (n : ℕ) → n ≡ m .old → isOld ms n ≡ false
     none n q = decide (isOld ms n)
         (λ h. let w = some-one (λ k. eqb n (k .old)) ms h in
-        absurd (both (w .2 (alike m) (or-l (eqb (m .new) (w .0 .new)) (subst (λ (j : ℕ). eqb j (w .0 .old) ≡ true) q (w .1)))) (no-l (any (alike m) ms) (twice ms) t)))
+        absurd (both (w .2 (alike m) (or-l (eqb (m .new) (w .0 .new)) (subst (λ (j : ℕ). eqb j (w .0 .old) ≡ true) q (w .1)))) (or-no-l (any (alike m) ms) (twice ms) t)))
         (λ h. h)
 
 -- the Rust's way: the names in ascending order of the old ones, the edges' ends together

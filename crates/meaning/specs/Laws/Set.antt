@@ -10,7 +10,7 @@ use lib.ListN.{length}
 use Rattle.meaning.specs.Answers.{ok, refuse}
 use Rattle.meaning.specs.Lists.{any, all}
 use Rattle.meaning.specs.References.{eqPath, Edge, eqEdge, prefix, covers, weakest, put, ltEdge, ltPath, has, ordered, EdgeSet, blur, short, insert, isBlur, setOk, covered}
-use Rattle.meaning.specs.Laws.Base.{and-l, and-r, eqb-eq, and-i, eqb-self, or-l, or-r, le-leb, leb-le, or-cases, decide, leb-gt, all-imp, refuse≢ok, ok-inj}
+use Rattle.meaning.specs.Laws.Base.{and-l, and-r, eqb-eq, and-i, eqb-self, or-l, or-r, le-leb, leb-le, or-cases, decide, leb-gt, all-imp, refuse≢ok, ok-inj, or-no-l, or-no-r, beq-eq}
 
 -- ---- equality of edges is its test
 
@@ -28,12 +28,6 @@ pub eqPath-self : (xs : List ℕ) → eqPath xs xs ≡ true
 unfolding eqPath
 eqPath-self [] = refl
 eqPath-self (x ∷ xs) = and-i (eqb-self x) (eqPath-self xs)
-
-pub beq-eq : (a b : Bool) → Bool·beq a b ≡ true → a ≡ b
-beq-eq true true e = refl
-beq-eq true false e = absurd (false≢true e)
-beq-eq false true e = absurd (false≢true e)
-beq-eq false false e = refl
 
 pub beq-self : (a : Bool) → Bool·beq a a ≡ true
 beq-self true = refl
@@ -101,14 +95,6 @@ unfolding put
 length-put e [] = refl
 length-put e (x ∷ xs) = length-cond (ltEdge e x) e x xs (put e xs) (length-put e xs)
 
-or-false-l : (a b : Bool) → a || b ≡ false → a ≡ false
-or-false-l true b e = absurd (true≢false e)
-or-false-l false b e = refl
-
-or-false-r : (a b : Bool) → a || b ≡ false → b ≡ false
-or-false-r true b e = absurd (true≢false e)
-or-false-r false b e = e
-
 or-false-i : {a b : Bool} → a ≡ false → b ≡ false → a || b ≡ false
 or-false-i {a} {b} p q = ap (λ (x : Bool). x || b) p ∙ q
 
@@ -149,12 +135,12 @@ ltPath-total [] (y ∷ ys) p q = absurd (true≢false p)
 ltPath-total (x ∷ xs) [] p q = refl
 ltPath-total (x ∷ xs) (y ∷ ys) p q =
     decide (ltb y x) (λ h. or-l (eqb y x && ltPath ys xs) h)
-    (λ h. let a : y ≤ x = le-of-no (ltb x y) (or-false-l (ltb x y) (eqb x y && ltPath xs ys) p) refl in
+    (λ h. let a : y ≤ x = le-of-no (ltb x y) (or-no-l (ltb x y) (eqb x y && ltPath xs ys) p) refl in
     let b : x ≤ y = le-of-no2 h in
     let e : y ≡ x = omega arith in
     let t : eqb x y ≡ true = subst (λ (n : ℕ). eqb x n ≡ true) (sym e) (eqb-self x) in
     or-r (ltb y x) (and-i (subst (λ (n : ℕ). eqb y n ≡ true) e (eqb-self y))
-    (ltPath-total xs ys (second (eqb x y) (ltPath xs ys) t (or-false-r (ltb x y) (eqb x y && ltPath xs ys) p)) (second (eqb x y) (eqPath xs ys) t q))))
+    (ltPath-total xs ys (second (eqb x y) (ltPath xs ys) t (or-no-r (ltb x y) (eqb x y && ltPath xs ys) p)) (second (eqb x y) (eqPath xs ys) t q))))
   where
     le-of-no : (b : Bool) → b ≡ false → ltb x y ≡ b → y ≤ x
     le-of-no b f g = let h : y < suc x = leb-gt {m = suc x} {n = y} (g ∙ f) in omega arith
@@ -199,14 +185,14 @@ unfolding ordered has
 ordered-cond true e x xs ys l n d h k =
     and-i (and-i l (all-imp (ltEdge x) (ltEdge e) (λ y m. ltEdge-trans e x y l m) xs (and-l (all (ltEdge x) xs) (ordered xs) d))) d
 ordered-cond false e x xs ys l n d h k =
-    and-i (h ∙ and-i (ltEdge-total e x l (or-false-l (eqEdge e x) (has e xs) n)) (and-l (all (ltEdge x) xs) (ordered xs) d)) k
+    and-i (h ∙ and-i (ltEdge-total e x l (or-no-l (eqEdge e x) (has e xs) n)) (and-l (all (ltEdge x) xs) (ordered xs) d)) k
 
 ordered-put : (e : Edge) (xs : List Edge) → has e xs ≡ false → ordered xs ≡ true → ordered (put e xs) ≡ true
 unfolding put ordered has
 ordered-put e [] n d = refl
 ordered-put e (x ∷ xs) n d =
     ordered-cond (ltEdge e x) e x xs (put e xs) refl n d (all-put (ltEdge x) e xs)
-    (ordered-put e xs (or-false-r (eqEdge e x) (has e xs) n) (and-r (all (ltEdge x) xs) (ordered xs) d))
+    (ordered-put e xs (or-no-r (eqEdge e x) (has e xs) n) (and-r (all (ltEdge x) xs) (ordered xs) d))
 
 -- ---- what an insert does
 

@@ -9,7 +9,7 @@ use lib.Dec.{eqb, ltb}
 use Rattle.meaning.specs.Lists.{all, each}
 use Rattle.meaning.specs.References.{Edge, EdgeSet, emptySet}
 use Rattle.meaning.specs.BorrowGraph.{Name, GEdge, holds, ascending, inOrder, notBefore, eqPair, ltPair, setAt, Graph, pairOk, between, splice, spliced}
-use Rattle.meaning.specs.Laws.Base.{and-l, and-r, decide, both, or-cases, eqb-eq, leb-le, le-leb, and-i, or-l, or-r, eqb-self, all-imp}
+use Rattle.meaning.specs.Laws.Base.{and-l, and-r, decide, both, or-cases, eqb-eq, leb-le, le-leb, and-i, or-l, or-r, eqb-self, all-imp, all-yes}
 use Rattle.meaning.specs.Laws.Call.{holds-all}
 use Rattle.meaning.specs.Laws.Canon.{setAt-hit, setAt-miss, none-before}
 use Rattle.meaning.specs.Laws.Graph.{Inv}
@@ -22,12 +22,8 @@ each-cong f g q h (x ∷ xs) p =
     let b = each-cong f g q h xs (and-r (q x) (all q xs) p) in
     λ i. a i ++ b i
 
-all-true : {A : Type 0} (xs : List A) → all (λ x. true) xs ≡ true
-all-true [] = refl
-all-true (x ∷ xs) = all-true xs
-
 each-same : {A B : Type 0} (f g : A → List B) → ((x : A) → f x ≡ g x) → (xs : List A) → each xs f ≡ each xs g
-each-same f g h xs = each-cong f g (λ x. true) (λ x t. h x) xs (all-true xs)
+each-same f g h xs = each-cong f g (λ x. true) (λ x t. h x) xs (all-yes xs)
 
 each-none : {A B : Type 0} (f : A → List B) → ((x : A) → f x ≡ []) → (xs : List A) → each xs f ≡ []
 each-none f h [] = refl
