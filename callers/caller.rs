@@ -7,7 +7,18 @@ const LISTING: [u8; 41] = [
     0x0C, 0x00, 0x00,
 ];
 
-const AREA: usize = 16_384;
+/// Those of include/buslatim.h that are used here. `callers/run` sees that they are the header's.
+mod buslatim {
+    pub const AREA_WORDS: usize = 16384;
+    pub const ANSWER_WORDS: usize = 4;
+    pub const VIOLATION: u32 = 1;
+    pub const REFUSED: u32 = 2;
+    pub const MOVELOC_EXISTS_BORROW: u32 = 102;
+    pub const REFUSED_AREA: u32 = 7;
+}
+use buslatim::*;
+
+/// What the words hold before a call.
 const USED: u32 = 7;
 
 mod library {
@@ -38,23 +49,23 @@ fn verify(listing: &[u8], area: &mut [u32], answer: &mut [u32]) -> bool {
 }
 
 fn main() {
-    let mut area = vec![USED; AREA + 1];
-    let mut answer = [USED; 5];
+    let mut area = vec![USED; AREA_WORDS + 1];
+    let mut answer = [USED; ANSWER_WORDS + 1];
     assert!(verify(&LISTING, &mut area, &mut answer));
-    assert_eq!(answer, [1, 102, 3, 1, USED]);
-    assert!(area[..AREA].iter().all(|w| *w == 0));
-    assert_eq!(area[AREA], USED);
+    assert_eq!(answer, [VIOLATION, MOVELOC_EXISTS_BORROW, 3, 1, USED]);
+    assert!(area[..AREA_WORDS].iter().all(|w| *w == 0));
+    assert_eq!(area[AREA_WORDS], USED);
 
-    let mut area = vec![USED; AREA - 1];
-    let mut answer = [USED; 4];
+    let mut area = vec![USED; AREA_WORDS - 1];
+    let mut answer = [USED; ANSWER_WORDS];
     assert!(verify(&LISTING, &mut area, &mut answer));
-    assert_eq!(answer, [2, 7, 0, 0]);
+    assert_eq!(answer, [REFUSED, REFUSED_AREA, 0, 0]);
     assert!(area.iter().all(|w| *w == USED));
 
-    let mut area = vec![USED; AREA];
-    let mut answer = [USED; 3];
+    let mut area = vec![USED; AREA_WORDS];
+    let mut answer = [USED; ANSWER_WORDS - 1];
     assert!(!verify(&LISTING, &mut area, &mut answer));
-    assert_eq!(answer, [USED; 3]);
+    assert_eq!(answer, [USED; ANSWER_WORDS - 1]);
     assert!(area.iter().all(|w| *w == USED));
     println!("called from Rust");
 }

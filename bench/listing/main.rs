@@ -1,4 +1,4 @@
-// Times the listing reader on the largest listing and on one of 926 bytes. See README.md.
+// Times the listing reader on the largest listing and on one of 926 bytes. See ../README.md.
 use std::hint::black_box;
 use std::time::Instant;
 
