@@ -256,6 +256,8 @@ def cases():
 
 
 def main():
+    if sys.argv[1:]:
+        sys.exit(__doc__)
     folder = Path(__file__).resolve().parent.parent / "crates/cases_listing"
     given, answers = b"", ""
     for n, (s, (number, place)) in enumerate(cases()):

@@ -206,6 +206,8 @@ def cases():
 
 
 def main():
+    if sys.argv[2:] or sys.argv[1:] and not Path(sys.argv[1]).is_file():
+        sys.exit(__doc__)
     folder = Path(__file__).resolve().parent.parent / "crates/cases_steps"
     given, answers = b"", ""
     for case in cases():

@@ -132,7 +132,11 @@ def main():
             print(f"{crate}/{module}: {sum(len(l) for l in names.values())} lines: {' '.join(sorted(names))}")
         print(f"{sum(len(n) for n in reached.values())} declarations, {sum(counts.values())} lines")
         return
+    if sys.argv[1:] or sys.stdin.isatty():
+        sys.exit(__doc__)
     seconds = dict(re.findall(r"^rt: (\w+) proved \((\d+) s\)", sys.stdin.read(), re.M))
+    if not seconds:
+        sys.exit("tools/sizes.py: standard input has no line 'rt: NAME proved (N s)'")
     rows = {}
     for crate in crates():
         home = ROOT / "crates" / crate

@@ -1,8 +1,8 @@
 #!/usr/bin/env python3
-"""The deepest stack of functions by their machine code: objdump -drw --no-show-raw-insn LIBRARY | bench/stack/frames.py FUNCTION...
+"""The deepest stack of functions by their machine code: objdump -drw --no-show-raw-insn LIBRARY | bench/stack/frames.py MOST FUNCTION...
 
 Each function's frame is what it pushes and takes from %rsp; large frames are taken in a loop, whose end %r11 tells. Nothing calls by pointer
-and nothing recurses, so the deepest path is the most that any input takes. What memcpy, memmove and memset take comes on top.
+and nothing recurses, so the deepest path is the most that any input takes. What memcpy, memmove and memset take comes on top. Status 1 where it is more than MOST.
 """
 import re
 import sys
@@ -32,10 +32,12 @@ def deepest(f, above=()):
     return 8 + frame.get(f, 0) + below[0], [f, *below[1]]
 
 
-if not sys.argv[1:] or not frame:
+if not sys.argv[2:] or not sys.argv[1].isdigit() or not frame:
     sys.exit(__doc__)
-for f in sys.argv[1:]:
+for f in sys.argv[2:]:
     if f not in frame:
         sys.exit(f"frames.py: there is no function {f}")
     size, way = deepest(f)
     print(f"{size:8} bytes of frames at most: {', '.join(way)}")
+    if size > int(sys.argv[1]):
+        sys.exit(f"frames.py: that is more than {sys.argv[1]}")

@@ -1,4 +1,4 @@
-/* How much stack a call of the library takes: bench/stack/main STORED LISTING...
+/* How much stack a call of the library takes: main STORED LISTING... Status 1 where it is more than the header says.
  *
  * Each call runs in a thread of its own, whose stack was painted with one byte before. Afterwards the lowest byte that changed tells how deep
  * the call went below the frame of its caller. STORED is the stored list (crates/replay/stdin; oracle/src/stored.rs has its format). */
@@ -52,16 +52,22 @@ static size_t used(struct call *c) {
 
 static size_t most, count;
 
-static void measure(const uint8_t *listing, size_t len, const char *name) {
+static void measure(const uint8_t *listing, size_t len) {
     struct call c = {.listing = listing, .len = len};
-    size_t worst = 0;
     for (c.keep = 0; c.keep < 2; c.keep++) {
         size_t n = used(&c);
-        if (n > worst) worst = n;
+        if (n > most) most = n;
     }
     count++;
-    if (worst > most) most = worst;
-    if (name) printf("%8zu bytes: %s (answer %u %u %u, %u visits)\n", worst, name, c.answer[0], c.answer[1], c.answer[2], c.answer[3]);
+}
+
+static size_t all_most, all_count;
+
+static void tell(const char *what) {
+    printf("%8zu bytes of stack at most: %zu listings, %s\n", most, count, what);
+    if (most > all_most) all_most = most;
+    all_count += count;
+    most = count = 0;
 }
 
 static uint8_t *read_all(const char *name, size_t *len) {
@@ -83,11 +89,11 @@ static void stored(const char *name) {
     for (uint32_t left = word(bytes); left > 0; left--) {
         if (at + 4 > len || at + 24 + word(bytes + at) > len) fail("the stored list is cut");
         uint32_t n = word(bytes + at);
-        measure(bytes + at + 4, n, NULL);
+        measure(bytes + at + 4, n);
         at += 24 + n;
     }
     free(bytes);
-    printf("%8zu bytes at most: the %zu listings of the stored list\n", most, count);
+    tell("those of the stored list");
 }
 
 static uint8_t large[LONGEST];
@@ -103,7 +109,6 @@ static void record(int kind, int n, const int *body) {
  * references, each to the local that is `step` further on, and reads the others. */
 static void loops(int pairs, int step) {
     int head[19] = {16, 16};
-    char name[64];
     for (int i = 0; i < 16; i++) head[2 + i] = 2;
     end = 0;
     record(1, 19, head);
@@ -119,22 +124,24 @@ static void loops(int pairs, int step) {
             else
                 record(10, 0, NULL);
         }
-    snprintf(name, sizeof name, "loops with %d copies, step %d", pairs, step);
-    measure(large, end, name);
+    measure(large, end);
 }
 
 int main(int n, char **names) {
-    if (n < 2) fail("usage: bench/stack/main STORED LISTING...");
+    if (n < 2) fail("usage: main STORED LISTING...");
     if (posix_memalign((void **)&stack, 4096, STACK)) fail("no memory");
     stored(names[1]);
     for (int i = 2; i < n; i++) {
         size_t len;
         uint8_t *bytes = read_all(names[i], &len);
-        measure(bytes, len, names[i]);
+        measure(bytes, len);
         free(bytes);
     }
+    tell("those named");
     for (int pairs = 1; pairs <= 4; pairs++)
         for (int step = 1; step <= 3; step++) loops(pairs, step);
-    printf("%8zu bytes of stack at most\n", most);
+    tell("the largest loops");
+    printf("%8zu bytes of stack at most: all %zu listings\n", all_most, all_count);
+    if (all_most > BUSLATIM_STACK_BYTES) fail("that is more than BUSLATIM_STACK_BYTES");
     return 0;
 }
