@@ -16,9 +16,9 @@ take_lock() {
 
 # Runs a command that may be silent for long, and says on standard error every so many seconds that it goes on. It has the command's status.
 with_clock() { # SECONDS WHAT COMMAND...
-    local every=$1 what=$2 status=0 clock
+    local every=$1 what=$2 status=0 clock began=$SECONDS
     shift 2
-    while sleep "$every" > /dev/null 2>&1 && kill -0 $$ 2> /dev/null; do echo "$what: $SECONDS s so far" >&2; done > /dev/null &
+    while sleep "$every" > /dev/null 2>&1 && kill -0 $$ 2> /dev/null; do echo "$what: $((SECONDS - began)) s so far" >&2; done > /dev/null &
     clock=$!
     "$@" || status=$?
     kill "$clock" 2> /dev/null || :
