@@ -1,4 +1,4 @@
-/* Times the calls of crates/graph_bench: nanoseconds for a call, the best of ten runs. */
+/* Times the calls of crates/bench_graph: nanoseconds for a call, the best of ten runs. */
 #include <stdint.h>
 #include <stdio.h>
 #include <time.h>

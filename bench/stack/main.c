@@ -1,7 +1,7 @@
 /* How much stack a call of the library takes: main STORED LISTING... Status 1 where it is more than the header says.
  *
  * Each call runs in a thread of its own, whose stack was painted with one byte before. Afterwards the lowest byte that changed tells how deep
- * the call went below the frame of its caller. STORED is the stored list (crates/replay/stdin; oracle/src/stored.rs has its format). */
+ * the call went below the frame of its caller. STORED is the stored list (crates/cases_replay/stdin; oracle/src/stored.rs has its format). */
 #include "buslatim.h"
 
 #include <pthread.h>
