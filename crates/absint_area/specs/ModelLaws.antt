@@ -15,9 +15,9 @@ use Rattle.meaning.specs.Laws.Area.{upTo-ext, upTo-more, upTo-front, Filled, fi
 use Rattle.meaning.specs.BorrowGraph.{Name, GEdge, Graph}
 use Rattle.meaning.specs.AbstractState as S
 use Rattle.meaning.specs.EntryPoints as R
-use Rattle.references.specs.Models.{firstNumber, kindsFrom, numbered, pathOf}
-use Rattle.references.specs.ModelLaws.{kinds-later, numbered-append}
-use Rattle.references.specs.declared.paths.Path.{Path}
+use Rattle.paths.specs.Models.{firstNumber, kindsFrom, numbered, pathOf}
+use Rattle.paths.specs.ModelLaws.{kinds-later, numbered-append}
+use Rattle.paths.specs.declared.Path.{Path}
 use Rattle.borrow_graph.specs.Models.{refOf, refsOf, gedgeOf, edgesOf}
 use Rattle.borrow_graph.specs.ModelLaws.{no-ref, no-gedge}
 use Rattle.borrow_graph.specs.declared.graph.Ref.{Ref}

@@ -17,7 +17,7 @@ use meaning::MAX_EDGES;
 use meaning::MAX_LABELS;
 use meaning::MAX_NAMES;
 use meaning::lesser;
-use references::paths::first_number;
+use paths::first_number;
 ghost use mathlib.Core.Path.{_≡_};
 ghost use mathlib.Core.Option.{some};
 ghost use Prim.Native.Nat.{ℕ, _+_, _*_, _≤_, _<_};

@@ -1,6 +1,6 @@
 // What a local or an operand is, and the state that the steps of a block go through.
 use borrow_graph::graph::BorrowGraph;
-use references::references::RefID;
+use references::RefID;
 
 pub enum AbstractValue {
     Reference(RefID),

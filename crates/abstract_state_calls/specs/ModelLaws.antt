@@ -4,7 +4,7 @@ use mathlib.Core.Path.{_≡_, refl, sym, _∙_}
 use mathlib.Core.List.{List, [], _∷_, _++_, map, append-nil}
 use lib.ListN.{length, take, drop, getD, set, drop-of-length-le, length-map, length-take}
 use Rattle.meaning.specs.Laws.Array.{front-map-step, push-map}
-use Rattle.references.specs.declared.references.RefID.{RefID}
+use Rattle.references.specs.declared.RefID.{RefID}
 use Rattle.abstract_state.specs.Models.{operandOf, operandsIn}
 use Rattle.abstract_state.specs.declared.state.AbstractValue.the-variants.{Reference}
 use Rattle.abstract_state.specs.declared.state.Operand as D

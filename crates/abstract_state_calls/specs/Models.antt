@@ -8,7 +8,7 @@ use Rattle.meaning.specs.BorrowGraph.{Graph, wellFormed, held, isMutable}
 use Rattle.meaning.specs.AbstractState.{Local, absent, value, ref, Operand, nonRef, reference}
 use Rattle.meaning.specs.Answers.{Outcome}
 use Rattle.meaning.specs.EntryPoints.{Answers, putNumber}
-use Rattle.references.specs.declared.references.RefID.{RefID}
+use Rattle.references.specs.declared.RefID.{RefID}
 use Rattle.abstract_state.specs.Models.{halted, runningOf, operandOf, operandsOf}
 use Rattle.abstract_state.specs.declared.state.AbstractState.{AbstractState}
 use Rattle.abstract_state_calls.specs.declared.Called.{Called}

@@ -21,7 +21,7 @@ use Rattle.meaning.specs.Laws.Change.{leq, rustChanged, changed-is-rust, eqLoca
 use Rattle.meaning.specs.EntryPoints as R
 use Rattle.borrow_graph.specs.Models.{told}
 use Rattle.borrow_graph.specs.ModelLaws.{told-no, told-on, told-off}
-use Rattle.references.specs.declared.references.RefID.{RefID}
+use Rattle.references.specs.declared.RefID.{RefID}
 use Rattle.abstract_state.specs.Models.{localOf, stateOf}
 use Rattle.abstract_state.specs.declared.state.Local.{Local}
 use Rattle.abstract_state.specs.declared.state.AbstractState.{AbstractState}

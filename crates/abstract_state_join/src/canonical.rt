@@ -6,7 +6,7 @@ use abstract_state::state::AbstractValue;
 use abstract_state::state::Local;
 use borrow_graph::remap::IdMap;
 use borrow_graph::remap::IdPair;
-use references::references::RefID;
+use references::RefID;
 ghost use mathlib.Core.Path.{_≡_};
 ghost use mathlib.Core.List.{_∷_};
 ghost use Prim.Native.Nat.{_<_};

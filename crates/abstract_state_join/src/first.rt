@@ -6,7 +6,7 @@ use abstract_state::state::AbstractValue;
 use abstract_state::state::Local;
 use borrow_graph::graph::BorrowGraph;
 use meaning::lesser;
-use references::references::RefID;
+use references::RefID;
 ghost use mathlib.Core.Path.{_≡_};
 ghost use mathlib.Core.List.{[], map};
 ghost use Prim.Native.Nat.{_<_, _≤_, min};

@@ -8,7 +8,7 @@ use abstract_state::state::Local;
 use borrow_graph::graph::BorrowGraph;
 use borrow_graph_edit::release::release;
 use meaning::lesser;
-use references::references::RefID;
+use references::RefID;
 ghost use mathlib.Core.Path.{_≡_};
 ghost use Rattle.meaning.specs.BorrowGraph.{Graph};
 ghost use Rattle.meaning.specs.AbstractState as S;

@@ -8,7 +8,8 @@ use lib.ListN.{take}
 use Rattle.meaning.specs.Answers.{Ans, ok, refuse}
 use Rattle.meaning.specs.Labels.{numberOf}
 use Rattle.meaning.specs.BorrowGraph.{Name, GEdge, Graph, eqPair, Borrows, Change}
-use Rattle.references.specs.Models.{labelOf, edgeOf}
+use Rattle.paths.specs.Models.{labelOf}
+use Rattle.references.specs.Models.{edgeOf}
 use Rattle.borrow_graph.specs.declared.graph.Ref.{Ref}
 use Rattle.borrow_graph.specs.declared.graph.Refs.{Refs}
 use Rattle.borrow_graph.specs.declared.graph.GraphEdge.{GraphEdge}

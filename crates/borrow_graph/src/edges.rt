@@ -3,13 +3,13 @@ use crate::graph::BorrowGraph;
 use crate::graph::GraphEdge;
 use crate::graph::GraphEdges;
 use meaning::MAX_EDGES;
-use references::paths::Ordering;
-use references::references::RefID;
+use paths::Ordering;
+use references::RefID;
 ghost use mathlib.Core.Path.{_≡_};
 ghost use Prim.Native.Nat.{_≤_};
 ghost use lib.ListN.{length};
 ghost use Rattle.meaning.specs.BorrowGraph as G;
-ghost use Rattle.references.specs.Models.{orderingOf};
+ghost use Rattle.paths.specs.Models.{orderingOf};
 ghost use Rattle.borrow_graph.specs.Models.{gedgeOf, edgesOf, heldOf};
 
 impl GraphEdge {

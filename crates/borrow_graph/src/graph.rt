@@ -3,9 +3,9 @@
 use meaning::MAX_EDGE_SET_SIZE;
 use meaning::MAX_EDGES;
 use meaning::MAX_NAMES;
-use references::paths::Ordering;
-use references::references::BorrowEdge;
-use references::references::RefID;
+use paths::Ordering;
+use references::BorrowEdge;
+use references::RefID;
 ghost use mathlib.Core.Path.{_≡_};
 ghost use mathlib.Core.Bool.{true};
 ghost use mathlib.Core.List.{[]};

@@ -4,7 +4,7 @@ use abstract_state::state::AbstractValue;
 use abstract_state::state::Operand;
 use abstract_state::state::Operands;
 use meaning::MAX_OPERANDS;
-use references::references::RefID;
+use references::RefID;
 ghost use mathlib.Core.Path.{_≡_};
 ghost use mathlib.Core.List.{[], _∷_};
 ghost use Prim.Native.Nat.{_≤_};

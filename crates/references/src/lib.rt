@@ -1,3 +1,321 @@
-// Labels, paths, edges and sets of edges: the leaf layer of the borrow graph.
-pub mod paths;
-pub mod references;
+// Names of references, edges and sets of edges. Where each stands in the Rust (references.rs):
+//
+//   here                       the Rust
+//   RefID                      21 `RefID`; its field stands for 25 `new` and 30 `number`
+//   BorrowEdge                 37 `BorrowEdge`, without the location
+//   BorrowEdge::leq            82 `leq`
+//   BorrowEdge::eq             202 `eq`
+//   BorrowEdge::cmp, lt        216 `cmp`
+//   BorrowEdgeSet              48 `BorrowEdgeSet`
+//   BorrowEdgeSet::new         92 `new`
+//   BorrowEdgeSet::insert      99 `insert`
+//   BorrowEdgeSet::remove      118 `remove`
+//   BorrowEdgeSet::len         124 `len`
+//   BorrowEdgeSet::is_empty    128 `is_empty`
+//   BorrowEdgeSet::get         132 `iter`
+//
+// `BorrowEdges` and `Ref` (57, 64) are the graph's flat list (`borrow_graph`).
+use meaning::MAX_EDGE_SET_SIZE;
+use paths::Ordering;
+use paths::Path;
+ghost use mathlib.Core.Path.{_≡_};
+ghost use mathlib.Core.Bool.{true, false};
+ghost use mathlib.Core.List.{_∷_, _++_};
+ghost use Prim.Native.Nat.{_+_, _≤_, _<_};
+ghost use lib.ListN.{length, take, drop};
+ghost use Rattle.meaning.specs.Lists.{empty, nth};
+ghost use Rattle.meaning.specs.Answers.{leaves};
+ghost use Rattle.meaning.specs.References as Sets;
+ghost use Rattle.meaning.specs.Laws.Place as PlaceLaws;
+ghost use Rattle.meaning.specs.References.{emptySet, blur, compareEdges, eqEdge, ltEdge, covers, covered, has, offer};
+ghost use Rattle.paths.specs.Models.{orderingOf};
+ghost use Rattle.references.specs.Models.{edgeOf, edgesOf, setOf, candidateOf, insertedOf, gotOf};
+
+// A reference's name.
+pub struct RefID(pub u16);
+
+pub struct BorrowEdge {
+    pub strong: bool,
+    pub path: Path,
+}
+
+// Up to ten edges, ascending. What lies from `len` on is free; a `len` beyond ten reads as ten.
+pub struct BorrowEdgeSet {
+    pub edges: [BorrowEdge; MAX_EDGE_SET_SIZE],
+    pub len: u8,
+    pub overflown: bool,
+}
+
+// An edge to put into a set, or (`fits` false) word that its path is longer than eight labels.
+pub struct Candidate {
+    pub fits: bool,
+    pub edge: BorrowEdge,
+}
+
+// A set after an insert, and the number of its refusal, 0 for none.
+pub struct Inserted {
+    pub refusal: u8,
+    pub set: BorrowEdgeSet,
+}
+
+// A set after a removal, and whether the edge was there.
+pub struct Removed {
+    pub found: bool,
+    pub set: BorrowEdgeSet,
+}
+
+// An edge of a set, or (`found` false) word that there is none at that index.
+pub struct Got {
+    pub found: bool,
+    pub edge: BorrowEdge,
+}
+
+impl BorrowEdge {
+    // The weak edge with an empty path, which covers every edge.
+    pub fn weakest() -> Self
+        ensures { λ r. ⌜ edgeOf r ≡ Sets.weakest ⌝ }
+    {
+        let path = Path::new();
+        Self {
+            strong: false,
+            path: path,
+        }
+    }
+
+    // Weak before strong, then by the path.
+    pub fn cmp(self, other: BorrowEdge) -> Ordering
+        ensures { λ r. ⌜ orderingOf r ≡ compareEdges (edgeOf self) (edgeOf other) ⌝ }
+    {
+        if self.strong {
+            if other.strong {
+                return paths::cmp(self.path, other.path);
+            }
+            return Ordering::Greater;
+        }
+        if other.strong {
+            return Ordering::Less;
+        }
+        paths::cmp(self.path, other.path)
+    }
+
+    pub fn eq(self, other: BorrowEdge) -> bool
+        ensures { λ r. ⌜ r ≡ eqEdge (edgeOf self) (edgeOf other) ⌝ }
+    {
+        let o = self.cmp(other);
+        match o {
+            Ordering::Less => false,
+            Ordering::Equal => true,
+            Ordering::Greater => false,
+        }
+    }
+
+    pub fn lt(self, other: BorrowEdge) -> bool
+        ensures { λ r. ⌜ r ≡ ltEdge (edgeOf self) (edgeOf other) ⌝ }
+    {
+        let o = self.cmp(other);
+        match o {
+            Ordering::Less => true,
+            Ordering::Equal => false,
+            Ordering::Greater => false,
+        }
+    }
+
+    // Whether this edge covers the other.
+    pub fn leq(self, other: BorrowEdge) -> bool
+        ensures { λ r. ⌜ r ≡ covers (edgeOf self) (edgeOf other) ⌝ }
+    {
+        let same = self.eq(other);
+        let starts = paths::leq(self.path, other.path);
+        same | (!self.strong & starts)
+    }
+}
+
+impl BorrowEdgeSet {
+    pub fn new() -> Self
+        ensures { λ r. ⌜ setOf r ≡ emptySet ⌝ }
+    {
+        let e = BorrowEdge::weakest();
+        Self {
+            edges: [e; MAX_EDGE_SET_SIZE],
+            len: 0,
+            overflown: false,
+        }
+    }
+
+    // What too many edges become.
+    fn blurred() -> Self
+        ensures { λ r. ⌜ setOf r ≡ blur ⌝ }
+    {
+        let e = BorrowEdge::weakest();
+        Self {
+            edges: [e; MAX_EDGE_SET_SIZE],
+            len: 1,
+            overflown: true,
+        }
+    }
+
+    pub fn len(self) -> usize
+        ensures { λ r. ⌜ (r ≡ length (edgesOf self)) × (r ≤ 10) ⌝ }
+    {
+        let n = self.len as usize;
+        if n < MAX_EDGE_SET_SIZE {
+            n
+        } else {
+            MAX_EDGE_SET_SIZE
+        }
+    }
+
+    pub fn is_empty(self) -> bool
+        ensures { λ r. ⌜ r ≡ empty (edgesOf self) ⌝ }
+    {
+        self.len() == 0
+    }
+
+    // The edge at an index: in place of the Rust's `iter`.
+    pub fn get(self, i: usize) -> Got
+        ensures { λ r. ⌜ gotOf r ≡ nth (edgesOf self) i ⌝ }
+    {
+        let n = self.len();
+        if i < n {
+            let e = self.edges[i];
+            return Got {
+                found: true,
+                edge: e,
+            };
+        }
+        let e = BorrowEdge::weakest();
+        Got {
+            found: false,
+            edge: e,
+        }
+    }
+
+    pub fn contains(self, edge: BorrowEdge) -> bool
+        ensures { λ r. ⌜ r ≡ has (edgeOf edge) (edgesOf self) ⌝ }
+    {
+        let n = self.len();
+        let mut i: usize = 0;
+        while i < n {
+            let x = self.edges[i];
+            if edge.eq(x) {
+                return true;
+            }
+            i += 1;
+        }
+        false
+    }
+
+    // Whether an edge of the set covers this one.
+    pub fn covers(self, edge: BorrowEdge) -> bool
+        ensures { λ r. ⌜ r ≡ covered (edgesOf self) (edgeOf edge) ⌝ }
+    {
+        let n = self.len();
+        let mut i: usize = 0;
+        while i < n {
+            let x = self.edges[i];
+            if x.leq(edge) {
+                return true;
+            }
+            i += 1;
+        }
+        false
+    }
+
+    // Where an edge belongs.
+    fn spot(self, edge: BorrowEdge) -> usize
+        ensures { λ r. ⌜ r ≡ PlaceLaws.spot (edgeOf edge) (edgesOf self) ⌝ }
+    {
+        let n = self.len();
+        let mut i: usize = 0;
+        while i < n {
+            let x = self.edges[i];
+            if edge.lt(x) {
+                return i;
+            }
+            i += 1;
+        }
+        i
+    }
+
+    // The edge at place k, what stood there and behind it one place on.
+    fn put_at(self, k: usize, edge: BorrowEdge) -> Self
+        requires { ⌜ (k ≤ length (edgesOf self)) × (length (edgesOf self) < 10) ⌝ }
+        ensures { λ r. ⌜ (edgesOf r ≡ take k (edgesOf self) ++ (edgeOf edge ∷ drop k (edgesOf self))) × (r .overflown ≡ self .overflown) ⌝ }
+    {
+        let n = self.len();
+        let mut out = self.edges;
+        out[k] = edge;
+        let mut i = k;
+        while i < n {
+            let x = self.edges[i];
+            out[i + 1] = x;
+            i += 1;
+        }
+        Self {
+            edges: out,
+            len: (n + 1) as u8,
+            overflown: self.overflown,
+        }
+    }
+
+    // Refused, the set stays as it was.
+    pub fn insert(self, c: Candidate) -> Inserted
+        ensures { λ r. ⌜ (insertedOf r ≡ offer (setOf self) (candidateOf c)) × (setOf (r .set) ≡ leaves (setOf self) (offer (setOf self) (candidateOf c))) ⌝ }
+    {
+        if self.overflown {
+            return Inserted {
+                refusal: 0,
+                set: self,
+            };
+        }
+        if MAX_EDGE_SET_SIZE <= self.len() {
+            let b = BorrowEdgeSet::blurred();
+            return Inserted { refusal: 0, set: b };
+        }
+        if c.fits {
+            let e = c.edge;
+            if self.contains(e) {
+                return Inserted {
+                    refusal: 0,
+                    set: self,
+                };
+            }
+            let k = self.spot(e);
+            let t = self.put_at(k, e);
+            return Inserted { refusal: 0, set: t };
+        }
+        Inserted {
+            refusal: 22,
+            set: self,
+        }
+    }
+
+    // The Rust takes an edge that is there for granted.
+    pub fn remove(self, edge: BorrowEdge) -> Removed
+        ensures { λ r. ⌜ (r .found ≡ has (edgeOf edge) (edgesOf self)) × (setOf (r .set) ≡ Sets.remove (edgeOf edge) (setOf self)) ⌝ }
+    {
+        let found = self.contains(edge);
+        let n = self.len();
+        let mut out = self.edges;
+        let mut j: usize = 0;
+        let mut i: usize = 0;
+        while i < n {
+            let x = self.edges[i];
+            if edge.eq(x) {
+                i += 1;
+            } else {
+                out[j] = x;
+                j += 1;
+                i += 1;
+            }
+        }
+        Removed {
+            found: found,
+            set: Self {
+                edges: out,
+                len: j as u8,
+                overflown: self.overflown,
+            },
+        }
+    }
+}

@@ -2,7 +2,7 @@ use Prim.Native.Nat.{_+_, _-_, _≤_}
 use mathlib.Core.Path.{refl}
 use lib.ListN.{getD}
 use Rattle.meaning.specs.Area.{labelIn, wordsFrom}
-use Rattle.references.specs.ModelLaws.{unit-le}
+use Rattle.paths.specs.ModelLaws.{unit-le}
 use Rattle.absint_area.specs.ModelLaws.{Labels, labels-none, labels-one, unit-room, path-filled}
 use native.Mathlib.Omega.{arith}
 use Rattle.absint_area.proofs.read.get_path.Statement.{statement}

@@ -2,8 +2,8 @@ use mathlib.Core.Path.{_≡_, sym, ap, _∙_}
 use Prim.Native.Nat.{ℕ, _-_, _/_, _≤_}
 use native.Mathlib.Nat.{div-one}
 use Rattle.meaning.specs.Laws.Area.{Written, IsLabel, written-none, written-one, written-all}
-use Rattle.references.specs.Models.{kindsFrom}
-use Rattle.references.specs.ModelLaws.{kinds-next}
+use Rattle.paths.specs.Models.{kindsFrom}
+use Rattle.paths.specs.ModelLaws.{kinds-next}
 use Rattle.absint_area.specs.ModelLaws.{labelAt, label-word}
 use native.Mathlib.Omega.{arith}
 use borrow.Author.Needs.{needs}

@@ -11,8 +11,9 @@ use Rattle.meaning.specs.References.{EdgeSet}
 use Rattle.meaning.specs.Refinement.Pairs.{edgesAt}
 use Rattle.meaning.specs.Laws.Cut.{less-set, less-low, equal-set, equal-low, greater-set, greater-low}
 use Rattle.meaning.specs.Laws.Array.{length-of-map}
-use Rattle.references.specs.Models.{orderingOf, edgeOf}
-use Rattle.references.specs.ModelLaws.{path-short}
+use Rattle.paths.specs.Models.{orderingOf}
+use Rattle.references.specs.Models.{edgeOf}
+use Rattle.paths.specs.ModelLaws.{path-short}
 use Rattle.borrow_graph.specs.Models.{gedgeOf, refsOf, heldOf, graphOf}
 use Rattle.borrow_graph.specs.ModelLaws.{no-gedge, held-step, held-end}
 use Rattle.borrow_graph_edit.specs.Places.{around, room-start, room-on, room-end, first-fits, first-over}

@@ -16,7 +16,7 @@ use Rattle.meaning.specs.Laws.Pair.{inv-neat, length-setTo}
 use Rattle.meaning.specs.Laws.Cut.{cut-le, setTo-cut}
 use Rattle.meaning.specs.Laws.Put.{pair-few, insert-short, add-fits, add-over}
 use Rattle.references.specs.Models.{edgeOf, setOf}
-use Rattle.references.specs.ModelLaws.{path-short}
+use Rattle.paths.specs.ModelLaws.{path-short}
 use Rattle.borrow_graph.specs.Models.{refsOf, edgesOf, heldOf, graphOf}
 use native.Mathlib.Omega.{arith}
 use borrow.Author.Needs.{needs}

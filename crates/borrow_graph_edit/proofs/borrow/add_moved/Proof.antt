@@ -9,8 +9,9 @@ use Rattle.meaning.specs.Laws.Base.{and-l, and-r}
 use Rattle.meaning.specs.References.{Edge}
 use Rattle.meaning.specs.BorrowGraph.{Name, GEdge, Graph, wellFormed, pairOk, between, addEdge, addAll, limit, shift}
 use Rattle.meaning.specs.Laws.Put.{Moved, shifted-kept, shifted-rest, shifted-length}
-use Rattle.references.specs.Models.{pathOf, edgeOf}
-use Rattle.references.specs.ModelLaws.{path-short}
+use Rattle.paths.specs.Models.{pathOf}
+use Rattle.references.specs.Models.{edgeOf}
+use Rattle.paths.specs.ModelLaws.{path-short}
 use Rattle.borrow_graph.specs.Models.{gedgeOf, refsOf, edgesOf, heldOf, graphOf}
 use Rattle.borrow_graph.specs.ModelLaws.{no-gedge, edges-step, edges-end}
 use native.Mathlib.Omega.{arith}

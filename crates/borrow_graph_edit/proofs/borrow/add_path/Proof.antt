@@ -4,7 +4,7 @@ use Rattle.meaning.specs.Answers.{leaves}
 use Rattle.meaning.specs.Laws.Base.{declined, and-l, and-r}
 use Rattle.meaning.specs.BorrowGraph.{wellFormed, pairOk}
 use Rattle.meaning.specs.Laws.CallCases.{weak-9, weak-ok}
-use Rattle.references.specs.Models.{pathOf}
+use Rattle.paths.specs.Models.{pathOf}
 use Rattle.borrow_graph.specs.Models.{refsOf, graphOf}
 use native.Mathlib.Omega.{arith}
 use borrow.Author.Needs.{needs}

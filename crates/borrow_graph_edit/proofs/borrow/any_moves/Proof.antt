@@ -7,7 +7,7 @@ use lib.ListN.{drop, getD}
 use Rattle.meaning.specs.Lists.{any}
 use Rattle.meaning.specs.References.{prefix}
 use Rattle.meaning.specs.BorrowGraph.{GEdge, moves}
-use Rattle.references.specs.Models.{pathOf}
+use Rattle.paths.specs.Models.{pathOf}
 use Rattle.borrow_graph.specs.Models.{gedgeOf, heldOf}
 use Rattle.borrow_graph.specs.ModelLaws.{no-gedge, held-step, held-end}
 use native.Mathlib.Omega.{arith}

@@ -7,7 +7,7 @@ use Rattle.meaning.specs.Laws.Base.{declined, and-l, and-r}
 use Rattle.meaning.specs.Lists.{all, keep}
 use Rattle.meaning.specs.BorrowGraph.{GEdge, wellFormed, pairOk, moves}
 use Rattle.meaning.specs.Laws.Put.{strong-9, strong-still}
-use Rattle.references.specs.Models.{pathOf}
+use Rattle.paths.specs.Models.{pathOf}
 use Rattle.borrow_graph.specs.Models.{refsOf, heldOf, graphOf}
 use borrow.Author.Needs.{needs}
 use Rattle.borrow_graph_edit.proofs.borrow.factor.Statement.{statement}

@@ -10,7 +10,7 @@ use Rattle.meaning.specs.Lists.{all, keep}
 use Rattle.meaning.specs.Laws.Base.{answered, declined, and-l, and-r, and-i}
 use Rattle.meaning.specs.BorrowGraph.{GEdge, wellFormed, pairOk, moves, borrowStrong}
 use Rattle.meaning.specs.Laws.Put.{Moved, strong-9, stay-formed, moved-pairs, strong-last}
-use Rattle.references.specs.Models.{pathOf}
+use Rattle.paths.specs.Models.{pathOf}
 use Rattle.borrow_graph.specs.ModelLaws.{told-yes, told-no, told-declined}
 use Rattle.borrow_graph.specs.Models.{refsOf, edgesOf, heldOf, graphOf, answerOf}
 use borrow.Author.Needs.{needs}

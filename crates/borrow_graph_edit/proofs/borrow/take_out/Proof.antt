@@ -8,7 +8,7 @@ use Rattle.meaning.specs.Lists.{keep}
 use Rattle.meaning.specs.References.{prefix}
 use Rattle.meaning.specs.BorrowGraph.{GEdge, moves}
 use Rattle.meaning.specs.Laws.Array.{push-map, length-of-map}
-use Rattle.references.specs.Models.{pathOf}
+use Rattle.paths.specs.Models.{pathOf}
 use Rattle.borrow_graph.specs.Models.{gedgeOf, edgesOf}
 use Rattle.borrow_graph.specs.ModelLaws.{no-gedge, edges-step, edges-end, edges-made, edges-count}
 use native.Mathlib.Omega.{arith}

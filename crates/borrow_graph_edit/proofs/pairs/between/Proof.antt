@@ -11,7 +11,8 @@ use Rattle.meaning.specs.BorrowGraph.{GEdge, isBefore, setAt}
 use Rattle.meaning.specs.Refinement.Pairs.{edgesAt}
 use Rattle.meaning.specs.Laws.Array.{push-map}
 use Rattle.meaning.specs.Laws.Cut.{less-set, less-low, equal-set, equal-low, greater-set, greater-low}
-use Rattle.references.specs.Models.{orderingOf, edgeOf}
+use Rattle.paths.specs.Models.{orderingOf}
+use Rattle.references.specs.Models.{edgeOf}
 use Rattle.references.specs.ModelLaws.{set-made}
 use Rattle.borrow_graph.specs.Models.{gedgeOf, edgesOf}
 use Rattle.borrow_graph.specs.ModelLaws.{no-gedge, edges-step, edges-end}

@@ -1,7 +1,7 @@
 use mathlib.Core.Path.{_≡_}
 use lib.ListN.{length}
 use Rattle.references.specs.Models.{edgeOf}
-use Rattle.references.specs.ModelLaws.{path-short}
+use Rattle.paths.specs.ModelLaws.{path-short}
 use Rattle.borrow_graph_edit.specs.Ways.{bridge}
 use borrow.Author.Needs.{needs}
 use Rattle.borrow_graph_edit.proofs.release.bridged.Statement.{statement}

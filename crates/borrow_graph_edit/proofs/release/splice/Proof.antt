@@ -3,8 +3,9 @@ use mathlib.Core.List.{_++_}
 use lib.ListN.{length}
 use Rattle.meaning.specs.Refinement.Passes.{fitting}
 use Rattle.meaning.specs.Laws.Pass.{fitting-within, fitting-short, splice-strong, splice-weak}
-use Rattle.references.specs.Models.{pathOf, edgeOf}
-use Rattle.references.specs.ModelLaws.{path-short}
+use Rattle.paths.specs.Models.{pathOf}
+use Rattle.references.specs.Models.{edgeOf}
+use Rattle.paths.specs.ModelLaws.{path-short}
 use borrow.Author.Needs.{needs}
 use Rattle.borrow_graph_edit.proofs.release.splice.Statement.{statement}
 use Rattle.borrow_graph_edit.proofs.release.splice.Tie as tie

@@ -9,8 +9,9 @@ use Rattle.meaning.specs.Laws.Base.{and-l, eq→T}
 use Rattle.meaning.specs.References.{short}
 use Rattle.meaning.specs.Laws.Place.{bare-edge}
 use Rattle.meaning.specs.Laws.Cut.{before, other, here, neither}
-use Rattle.references.specs.Models.{orderingOf, pathOf, edgeOf}
-use Rattle.references.specs.ModelLaws.{path-short}
+use Rattle.paths.specs.Models.{orderingOf, pathOf}
+use Rattle.references.specs.Models.{edgeOf}
+use Rattle.paths.specs.ModelLaws.{path-short}
 use Rattle.borrow_graph.specs.Models.{gedgeOf}
 use Rattle.borrow_graph.specs.Folds.{same-on, same-off, next-is, over-is}
 use lib.Dec.{ltb→lt}

@@ -1,6 +1,6 @@
 use mathlib.Core.Path.{refl}
 use mathlib.Core.Bool.{_&&_, _||_}
-use Rattle.references.specs.Models.{pathOf}
+use Rattle.paths.specs.Models.{pathOf}
 use Rattle.borrow_graph.specs.Folds.{addBorrow, bare-path}
 use native.Mathlib.Omega.{arith}
 use borrow.Author.Needs.{needs}

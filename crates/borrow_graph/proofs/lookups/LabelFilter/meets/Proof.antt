@@ -1,4 +1,4 @@
-use Rattle.references.specs.ModelLaws.{path-first, path-end}
+use Rattle.paths.specs.ModelLaws.{path-first, path-end}
 use native.Mathlib.Omega.{arith}
 use borrow.Author.Needs.{needs}
 use Rattle.borrow_graph.proofs.lookups.LabelFilter.meets.Statement.{statement}
