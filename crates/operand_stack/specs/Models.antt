@@ -1,5 +1,6 @@
 -- What the stack and its answers stand for in the definitions.
 use Prim.Native.Nat.{ℕ}
+use mathlib.Core.Path.{_≡_}
 use mathlib.Core.List.{List, [], _∷_, reverse}
 use lib.ListN.{length}
 use lib.Dec.{ltb}
@@ -61,3 +62,7 @@ popUnder n vs = T.popValues n vs popOne
 unfoldable pub pushEach : List Operand → List Operand → Outcome (List Operand)
 pushEach vs [] = done vs
 pushEach vs (v ∷ ws) = needs (ltb (length vs) 16) 20 (pushEach (v ∷ vs) ws)
+
+-- refused, the stack is as it was, the free part of its array too
+abbrev pub Keeps : ℕ → Operands → Operands → Type 0
+Keeps refusal before after = (refusal ≡ 0 → ⊥) → after ≡ before

@@ -1,5 +1,5 @@
-// The operand stack of a block (mod.rs): at most 16 operands, the last one the top. An answer's refusal is 0 where there is none; where
-// there is one, what stands beside it is free.
+// The operand stack of a block (mod.rs): at most 16 operands, the last one the top. An answer's refusal is 0 where there is none. Beside
+// one, `value`, `id` and `values` are free, and so is `stack`, except that `pop` and `push` leave it as it was.
 use abstract_state::state::AbstractValue;
 use abstract_state::state::Operand;
 use abstract_state::state::Operands;
@@ -11,7 +11,7 @@ ghost use Prim.Native.Nat.{_≤_};
 ghost use lib.ListN.{length, replicate};
 ghost use Rattle.meaning.specs.AbstractState.{nonRef};
 ghost use Rattle.abstract_state.specs.Models.{operandOf, operandsOf};
-ghost use Rattle.operand_stack.specs.Models.{stackIn, stackOf, poppedOf, poppedRefOf, poppedManyOf, restOf, popOne, popOneRef, popSome, popRest, popUnder, pushEach};
+ghost use Rattle.operand_stack.specs.Models.{stackIn, stackOf, poppedOf, poppedRefOf, poppedManyOf, restOf, popOne, popOneRef, popSome, popRest, popUnder, pushEach, Keeps};
 
 pub struct Popped {
     pub refusal: u8,
@@ -40,7 +40,7 @@ pub fn empty() -> Operands
     ensures { λ r. ⌜ stackOf r ≡ [] ⌝ }
 {
     Operands {
-        list: [Operand(AbstractValue::NonReference); 16],
+        list: [Operand(AbstractValue::NonReference); MAX_OPERANDS],
         len: 0,
     }
 }
@@ -57,7 +57,7 @@ pub fn depth(stack: Operands) -> usize
 }
 
 pub fn pop(stack: Operands) -> Popped
-    ensures { λ r. ⌜ poppedOf r ≡ popOne (stackOf stack) ⌝ }
+    ensures { λ r. ⌜ (poppedOf r ≡ popOne (stackOf stack)) × Keeps (r .refusal) stack (r .stack) ⌝ }
 {
     let n = depth(stack);
     if n == 0 {
@@ -179,7 +179,7 @@ pub fn pop_many(stack: Operands, n: u8) -> PoppedMany
 }
 
 pub fn push(stack: Operands, value: AbstractValue) -> Rest
-    ensures { λ r. ⌜ restOf r ≡ pushEach (stackOf stack) (operandOf value ∷ []) ⌝ }
+    ensures { λ r. ⌜ (restOf r ≡ pushEach (stackOf stack) (operandOf value ∷ [])) × Keeps (r .refusal) stack (r .stack) ⌝ }
 {
     let n = depth(stack);
     let mut out = stack;

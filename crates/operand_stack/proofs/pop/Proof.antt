@@ -1,6 +1,6 @@
 -- `operand_stack::pop` meets its contract. Assumes nothing.
 use Prim.Native.Nat.{suc, _-_}
-use mathlib.Core.Path.{_≡_, sym, ap, _∙_}
+use mathlib.Core.Path.{_≡_, refl, sym, ap, _∙_}
 use Rattle.abstract_state.specs.declared.state.AbstractValue.the-variants.{Reference}
 use Rattle.operand_stack.specs.Models.{stackIn, popOne}
 use Rattle.operand_stack.specs.StackLaws.{stack-at, stack-none}
@@ -13,7 +13,9 @@ depth-requires : tie.Need-depth-requires
 depth-requires c κs = search needs
 
 returns : tie.Need-returns
-returns c = sym (ap popOne ((c .before .depth) .ensures .3 ∙ ap (stackIn ((c .before .before .args) .t1 .list)) ((c .if1) .taken) ∙ stack-none ((c .before .before .args) .t1 .list)))
+returns c =
+    let xs = c .before .before .args .t1 .list in
+    (sym (ap popOne (c .before .depth .ensures .3 ∙ ap (stackIn xs) (c .if1 .taken) ∙ stack-none xs)), λ n. refl)
 
 sub-x : tie.Need-sub-x
 sub-x c = search needs
@@ -32,8 +34,10 @@ cast-rest c = search needs
 
 returns-2 : tie.Need-returns-2
 returns-2 c =
-    let n : (c .before .before .depth) .result ≡ suc ((c .before .before .depth) .result - 1) = omega arith in
-    sym (ap popOne ((c .before .before .depth) .ensures .3 ∙ ap (stackIn ((c .before .before .before .args) .t1 .list)) n ∙ stack-at ((c .before .before .before .args) .t1 .list) ((c .before .before .depth) .result - 1) (omega arith) (record { 0 = Reference (record { 0 = 0 }) })))
+    let d = c .before .before .depth in
+    let xs = c .before .before .before .args .t1 .list in
+    let n : d .result ≡ suc (d .result - 1) = omega arith in
+    (sym (ap popOne (d .ensures .3 ∙ ap (stackIn xs) n ∙ stack-at xs (d .result - 1) (omega arith) (record { 0 = Reference (record { 0 = 0 }) }))), λ r. absurd (r refl))
 
 pub pop-spec : {M : Type 1} → statement M
 pop-spec =

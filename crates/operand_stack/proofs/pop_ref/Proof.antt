@@ -20,7 +20,7 @@ pop-requires : tie.Need-pop-requires
 pop-requires c κs = search needs
 
 returns : tie.Need-returns
-returns c = stopped-then ((c .before .before .before .pop) .result .refusal) (record { what = operandOf ((c .before .before .before .pop) .result .value); rest = stackOf ((c .before .before .before .pop) .result .stack) }) (popOne (stackOf ((c .before .before .before .before .args) .stack))) (λ t. asRef (t .what) (t .rest)) ((c .before .before .before .pop) .ensures) (record { what = 0; rest = stackOf ((c .before .before .before .pop) .result .stack) }) ((c .if1) .taken) ∙ pop-then (stackOf ((c .before .before .before .before .args) .stack)) asRef
+returns c = stopped-then ((c .before .before .before .pop) .result .refusal) (record { what = operandOf ((c .before .before .before .pop) .result .value); rest = stackOf ((c .before .before .before .pop) .result .stack) }) (popOne (stackOf ((c .before .before .before .before .args) .stack))) (λ t. asRef (t .what) (t .rest)) ((c .before .before .before .pop) .ensures .0) (record { what = 0; rest = stackOf ((c .before .before .before .pop) .result .stack) }) ((c .if1) .taken) ∙ pop-then (stackOf ((c .before .before .before .before .args) .stack)) asRef
 
 enum-known-v : tie.Need-enum-known-v
 enum-known-v c = search needs
@@ -29,10 +29,10 @@ enum-told : tie.Need-enum-told
 enum-told c = search needs
 
 returns-2 : tie.Need-returns-2
-returns-2 c = ap (λ (v : AbstractValue). asRef (operandOf v) (stackOf ((c .before .before .before .before .before .before .pop) .result .stack))) (sym ((c .before .v) .given .1)) ∙ went-then ((c .before .before .before .before .before .before .pop) .result .refusal) (record { what = operandOf ((c .before .before .before .before .before .before .pop) .result .value); rest = stackOf ((c .before .before .before .before .before .before .pop) .result .stack) }) (popOne (stackOf ((c .before .before .before .before .before .before .before .args) .stack))) (λ t. asRef (t .what) (t .rest)) ((c .before .before .before .before .before .before .pop) .ensures) ((c .before .before .before .if1) .left) ∙ pop-then (stackOf ((c .before .before .before .before .before .before .before .args) .stack)) asRef
+returns-2 c = ap (λ (v : AbstractValue). asRef (operandOf v) (stackOf ((c .before .before .before .before .before .before .pop) .result .stack))) (sym ((c .before .v) .given .1)) ∙ went-then ((c .before .before .before .before .before .before .pop) .result .refusal) (record { what = operandOf ((c .before .before .before .before .before .before .pop) .result .value); rest = stackOf ((c .before .before .before .before .before .before .pop) .result .stack) }) (popOne (stackOf ((c .before .before .before .before .before .before .before .args) .stack))) (λ t. asRef (t .what) (t .rest)) ((c .before .before .before .before .before .before .pop) .ensures .0) ((c .before .before .before .if1) .left) ∙ pop-then (stackOf ((c .before .before .before .before .before .before .before .args) .stack)) asRef
 
 returns-3 : tie.Need-returns-3
-returns-3 c = ap (λ (v : AbstractValue). asRef (operandOf v) (stackOf ((c .before .before .before .before .before .pop) .result .stack))) (sym ((c .enum-told) .given .1)) ∙ went-then ((c .before .before .before .before .before .pop) .result .refusal) (record { what = operandOf ((c .before .before .before .before .before .pop) .result .value); rest = stackOf ((c .before .before .before .before .before .pop) .result .stack) }) (popOne (stackOf ((c .before .before .before .before .before .before .args) .stack))) (λ t. asRef (t .what) (t .rest)) ((c .before .before .before .before .before .pop) .ensures) ((c .before .before .if1) .left) ∙ pop-then (stackOf ((c .before .before .before .before .before .before .args) .stack)) asRef
+returns-3 c = ap (λ (v : AbstractValue). asRef (operandOf v) (stackOf ((c .before .before .before .before .before .pop) .result .stack))) (sym ((c .enum-told) .given .1)) ∙ went-then ((c .before .before .before .before .before .pop) .result .refusal) (record { what = operandOf ((c .before .before .before .before .before .pop) .result .value); rest = stackOf ((c .before .before .before .before .before .pop) .result .stack) }) (popOne (stackOf ((c .before .before .before .before .before .before .args) .stack))) (λ t. asRef (t .what) (t .rest)) ((c .before .before .before .before .before .pop) .ensures .0) ((c .before .before .if1) .left) ∙ pop-then (stackOf ((c .before .before .before .before .before .before .args) .stack)) asRef
 
 pub pop-ref-spec : {M : Type 1} → statement M
 pop-ref-spec = tie.close (tie.spec pop-requires returns enum-known-v enum-told returns-2 returns-3)

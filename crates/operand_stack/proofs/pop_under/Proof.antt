@@ -17,7 +17,7 @@ pop-requires : tie.Need-pop-requires
 pop-requires c κs = search needs
 
 returns-2 : tie.Need-returns-2
-returns-2 c = (c .pop) .ensures ∙ went-then ((c .before .before .before .before .pop-values) .result .refusal) (stackOf ((c .before .before .before .before .pop-values) .result .stack)) (popRest ((c .before .before .before .before .before .args) .n) (stackOf ((c .before .before .before .before .before .args) .stack))) popOne ((c .before .before .before .before .pop-values) .ensures) ((c .before .if1) .left) ∙ rest-then ((c .before .before .before .before .before .args) .n) (stackOf ((c .before .before .before .before .before .args) .stack)) popOne
+returns-2 c = (c .pop) .ensures .0 ∙ went-then ((c .before .before .before .before .pop-values) .result .refusal) (stackOf ((c .before .before .before .before .pop-values) .result .stack)) (popRest ((c .before .before .before .before .before .args) .n) (stackOf ((c .before .before .before .before .before .args) .stack))) popOne ((c .before .before .before .before .pop-values) .ensures) ((c .before .if1) .left) ∙ rest-then ((c .before .before .before .before .before .args) .n) (stackOf ((c .before .before .before .before .before .args) .stack)) popOne
 
 pub pop-under-spec : {M : Type 1} → statement M
 pop-under-spec = tie.close (tie.spec pop-values-requires returns pop-requires returns-2)

@@ -1,5 +1,5 @@
 -- `operand_stack::push` meets its contract. Assumes nothing.
-use mathlib.Core.Path.{sym, ap}
+use mathlib.Core.Path.{refl, sym, ap}
 use mathlib.Core.List.{[], _∷_}
 use Rattle.abstract_state.specs.Models.{operandOf}
 use Rattle.operand_stack.specs.Models.{stackOf, pushEach}
@@ -13,7 +13,11 @@ depth-requires : tie.Need-depth-requires
 depth-requires c κs = search needs
 
 returns : tie.Need-returns
-returns c = push-full ((c .before .before .args) .stack .list) ((c .before .depth) .result) [] (pushEach (stackOf ((c .before .before .args) .stack)) (operandOf ((c .before .before .args) .value) ∷ [])) (operandOf ((c .before .before .args) .value)) (omega arith) (omega arith) (ap (λ vs. pushEach vs (operandOf ((c .before .before .args) .value) ∷ [])) (sym ((c .before .depth) .ensures .3)))
+returns c =
+    let a = c .before .before .args in
+    let v = operandOf (a .value) in
+    let d = c .before .depth in
+    (push-full (a .stack .list) (d .result) [] (pushEach (stackOf (a .stack)) (v ∷ [])) v (omega arith) (omega arith) (ap (λ vs. pushEach vs (v ∷ [])) (sym (d .ensures .3))), λ n. refl)
 
 mul-t8 : tie.Need-mul-t8
 mul-t8 c = search needs
@@ -29,7 +33,11 @@ cast-out c = search needs
 
 returns-2 : tie.Need-returns-2
 unfolding pushEach
-returns-2 c = push-turn ((c .before .before .args) .stack .list) ((c .before .depth) .result) [] (pushEach (stackOf ((c .before .before .args) .stack)) (operandOf ((c .before .before .args) .value) ∷ [])) (record { 0 = (c .before .before .args) .value }) (omega arith) (omega arith) (ap (λ vs. pushEach vs (operandOf ((c .before .before .args) .value) ∷ [])) (sym ((c .before .depth) .ensures .3)))
+returns-2 c =
+    let a = c .before .before .args in
+    let v = operandOf (a .value) in
+    let d = c .before .depth in
+    (push-turn (a .stack .list) (d .result) [] (pushEach (stackOf (a .stack)) (v ∷ [])) (record { 0 = a .value }) (omega arith) (omega arith) (ap (λ vs. pushEach vs (v ∷ [])) (sym (d .ensures .3))), λ r. absurd (r refl))
 
 pub push-spec : {M : Type 1} → statement M
 push-spec =

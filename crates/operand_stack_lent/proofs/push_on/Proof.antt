@@ -46,7 +46,7 @@ use Rattle.abstract_state.proofs.state.AbstractValue as Value
 use Rattle.abstract_state.proofs.state.AbstractValue.Laws as Value′
 use Rattle.abstract_state.proofs.state.Operands as T
 use Rattle.abstract_state.proofs.state.Operands.Laws as T′
-use Rattle.operand_stack.specs.Models.{stackOf, restOf, pushEach}
+use Rattle.operand_stack.specs.Models.{stackOf, restOf, pushEach, Keeps}
 use Rattle.operand_stack.specs.declared.Rest.{Rest}
 use Rattle.operand_stack.proofs.Rest as R
 use Rattle.operand_stack.proofs.Rest.Laws as R′
@@ -86,7 +86,7 @@ module _ {M : Type 1} (𝓤 : URA M) (H : Heap 𝓤) (A : Atoms 𝓤) (W : Given
 
   -- what `push` says of its answer
   abbrev Said : Rest → Type 0
-  Said r = restOf r ≡ pushEach (stackOf h) (operandOf v ∷ [])
+  Said r = (restOf r ≡ pushEach (stackOf h) (operandOf v ∷ [])) × Keeps (r .refusal) h (r .stack)
 
   abbrev to-push : Push 𝓤 H A at-mem run .Ghost
   to-push = ((tt, tt, tt, (h, (v, tt)), (stack-val h ∷ [], (value-val v ∷ [], tt))), tt)

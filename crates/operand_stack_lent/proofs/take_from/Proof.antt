@@ -38,7 +38,7 @@ use denote.Triple.Walked.{says, Stays, stay-ref, walkOf, goes-ref, Walks, ends-a
 use Rattle.abstract_state.specs.declared.state.Operands.{Operands}
 use Rattle.abstract_state.proofs.state.Operands as T
 use Rattle.abstract_state.proofs.state.Operands.Laws as T′
-use Rattle.operand_stack.specs.Models.{stackOf, poppedOf, popOne}
+use Rattle.operand_stack.specs.Models.{stackOf, poppedOf, popOne, Keeps}
 use Rattle.operand_stack.specs.declared.Popped.{Popped}
 use Rattle.operand_stack.proofs.Popped as R
 use Rattle.operand_stack.proofs.Popped.Laws as R′
@@ -88,7 +88,7 @@ module _ {M : Type 1} (𝓤 : URA M) (H : Heap 𝓤) (A : Atoms 𝓤) (W : Given
 
   -- what `pop` says of its answer
   abbrev Said : Popped → Type 0
-  Said r = poppedOf r ≡ popOne (stackOf h)
+  Said r = (poppedOf r ≡ popOne (stackOf h)) × Keeps (r .refusal) h (r .stack)
 
   abbrev to-pop : Pop 𝓤 H A at-mem run .Ghost
   to-pop = ((tt, tt, tt, (h, tt), (stack-val h ∷ [], tt)), tt)

@@ -17,7 +17,7 @@ stop-requires : tie.Need-stop-requires
 stop-requires c κs = search needs
 
 returns : tie.Need-returns
-returns c = one-out (outcomeOf ((c .before .before .before .before .before .args) .state)) (machineOf ((c .stop) .result)) ((c .before .before .before .before .pop) .result .refusal) (stackOf ((c .before .before .before .before .before .args) .stack)) (record { what = operandOf ((c .before .before .before .before .pop) .result .value); rest = stackOf ((c .before .before .before .before .pop) .result .stack) }) (λ s v ws. pop ws (λ w us. pushed us (comparison v w s))) ((c .before .before .before .before .pop) .ensures) ((c .before .if1) .taken) (with (stackOf ((c .before .before .before .before .pop) .result .stack))) ((c .stop) .ensures)
+returns c = one-out (outcomeOf ((c .before .before .before .before .before .args) .state)) (machineOf ((c .stop) .result)) ((c .before .before .before .before .pop) .result .refusal) (stackOf ((c .before .before .before .before .before .args) .stack)) (record { what = operandOf ((c .before .before .before .before .pop) .result .value); rest = stackOf ((c .before .before .before .before .pop) .result .stack) }) (λ s v ws. pop ws (λ w us. pushed us (comparison v w s))) ((c .before .before .before .before .pop) .ensures .0) ((c .before .if1) .taken) (with (stackOf ((c .before .before .before .before .pop) .result .stack))) ((c .stop) .ensures)
 
 pop-requires-2 : tie.Need-pop-requires-2
 pop-requires-2 c κs = search needs
@@ -26,8 +26,8 @@ stop-requires-2 : tie.Need-stop-requires-2
 stop-requires-2 c κs = search needs
 
 returns-2 : tie.Need-returns-2
-returns-2 c = one-on (outcomeOf ((c .before .before .before .before .before .before .before .before .before .args) .state)) (machineOf ((c .stop2) .result)) ((c .before .before .before .before .before .before .before .before .pop) .result .refusal) (stackOf ((c .before .before .before .before .before .before .before .before .before .args) .stack)) (record { what = operandOf ((c .before .before .before .before .before .before .before .before .pop) .result .value); rest = stackOf ((c .before .before .before .before .before .before .before .before .pop) .result .stack) }) (λ s v ws. pop ws (λ w us. pushed us (comparison v w s))) ((c .before .before .before .before .before .before .before .before .pop) .ensures) ((c .before .before .before .before .before .if1) .left)
-    (one-out (outcomeOf ((c .before .before .before .before .before .before .before .before .before .args) .state)) (machineOf ((c .stop2) .result)) ((c .before .before .before .before .pop2) .result .refusal) (stackOf ((c .before .before .before .before .before .before .before .before .pop) .result .stack)) (record { what = operandOf ((c .before .before .before .before .pop2) .result .value); rest = stackOf ((c .before .before .before .before .pop2) .result .stack) }) (λ s w us. pushed us (comparison (operandOf ((c .before .before .before .before .before .before .before .before .pop) .result .value)) w s)) ((c .before .before .before .before .pop2) .ensures) ((c .before .if2) .taken) (with (stackOf ((c .before .before .before .before .pop2) .result .stack))) ((c .stop2) .ensures))
+returns-2 c = one-on (outcomeOf ((c .before .before .before .before .before .before .before .before .before .args) .state)) (machineOf ((c .stop2) .result)) ((c .before .before .before .before .before .before .before .before .pop) .result .refusal) (stackOf ((c .before .before .before .before .before .before .before .before .before .args) .stack)) (record { what = operandOf ((c .before .before .before .before .before .before .before .before .pop) .result .value); rest = stackOf ((c .before .before .before .before .before .before .before .before .pop) .result .stack) }) (λ s v ws. pop ws (λ w us. pushed us (comparison v w s))) ((c .before .before .before .before .before .before .before .before .pop) .ensures .0) ((c .before .before .before .before .before .if1) .left)
+    (one-out (outcomeOf ((c .before .before .before .before .before .before .before .before .before .args) .state)) (machineOf ((c .stop2) .result)) ((c .before .before .before .before .pop2) .result .refusal) (stackOf ((c .before .before .before .before .before .before .before .before .pop) .result .stack)) (record { what = operandOf ((c .before .before .before .before .pop2) .result .value); rest = stackOf ((c .before .before .before .before .pop2) .result .stack) }) (λ s w us. pushed us (comparison (operandOf ((c .before .before .before .before .before .before .before .before .pop) .result .value)) w s)) ((c .before .before .before .before .pop2) .ensures .0) ((c .before .if2) .taken) (with (stackOf ((c .before .before .before .before .pop2) .result .stack))) ((c .stop2) .ensures))
 
 comparison-requires : tie.Need-comparison-requires
 comparison-requires c κs = search needs
@@ -36,8 +36,8 @@ pushed-requires : tie.Need-pushed-requires
 pushed-requires c κs = search needs
 
 returns-3 : tie.Need-returns-3
-returns-3 c = one-on (outcomeOf ((c .before .before .before .before .before .before .before .before .before .before .args) .state)) (machineOf ((c .pushed) .result)) ((c .before .before .before .before .before .before .before .before .before .pop) .result .refusal) (stackOf ((c .before .before .before .before .before .before .before .before .before .before .args) .stack)) (record { what = operandOf ((c .before .before .before .before .before .before .before .before .before .pop) .result .value); rest = stackOf ((c .before .before .before .before .before .before .before .before .before .pop) .result .stack) }) (λ s v ws. pop ws (λ w us. pushed us (comparison v w s))) ((c .before .before .before .before .before .before .before .before .before .pop) .ensures) ((c .before .before .before .before .before .before .if1) .left)
-    (one-on (outcomeOf ((c .before .before .before .before .before .before .before .before .before .before .args) .state)) (machineOf ((c .pushed) .result)) ((c .before .before .before .before .before .pop2) .result .refusal) (stackOf ((c .before .before .before .before .before .before .before .before .before .pop) .result .stack)) (record { what = operandOf ((c .before .before .before .before .before .pop2) .result .value); rest = stackOf ((c .before .before .before .before .before .pop2) .result .stack) }) (λ s w us. pushed us (comparison (operandOf ((c .before .before .before .before .before .before .before .before .before .pop) .result .value)) w s)) ((c .before .before .before .before .before .pop2) .ensures) ((c .before .before .if2) .left)
+returns-3 c = one-on (outcomeOf ((c .before .before .before .before .before .before .before .before .before .before .args) .state)) (machineOf ((c .pushed) .result)) ((c .before .before .before .before .before .before .before .before .before .pop) .result .refusal) (stackOf ((c .before .before .before .before .before .before .before .before .before .before .args) .stack)) (record { what = operandOf ((c .before .before .before .before .before .before .before .before .before .pop) .result .value); rest = stackOf ((c .before .before .before .before .before .before .before .before .before .pop) .result .stack) }) (λ s v ws. pop ws (λ w us. pushed us (comparison v w s))) ((c .before .before .before .before .before .before .before .before .before .pop) .ensures .0) ((c .before .before .before .before .before .before .if1) .left)
+    (one-on (outcomeOf ((c .before .before .before .before .before .before .before .before .before .before .args) .state)) (machineOf ((c .pushed) .result)) ((c .before .before .before .before .before .pop2) .result .refusal) (stackOf ((c .before .before .before .before .before .before .before .before .before .pop) .result .stack)) (record { what = operandOf ((c .before .before .before .before .before .pop2) .result .value); rest = stackOf ((c .before .before .before .before .before .pop2) .result .stack) }) (λ s w us. pushed us (comparison (operandOf ((c .before .before .before .before .before .before .before .before .before .pop) .result .value)) w s)) ((c .before .before .before .before .before .pop2) .ensures .0) ((c .before .before .if2) .left)
     (link (outcomeOf ((c .before .before .before .before .before .before .before .before .before .before .args) .state)) (answerOf ((c .before .comparison) .result)) (machineOf ((c .pushed) .result)) (comparison (operandOf ((c .before .before .before .before .before .before .before .before .before .pop) .result .value)) (operandOf ((c .before .before .before .before .before .pop2) .result .value))) (λ x. push (stackOf ((c .before .before .before .before .before .pop2) .result .stack)) (x .operand) (x .state)) ((c .before .comparison) .ensures) ((c .pushed) .ensures)))
 
 pub compare-spec : {M : Type 1} → statement M

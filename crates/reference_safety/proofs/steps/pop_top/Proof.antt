@@ -16,13 +16,13 @@ stop-requires : tie.Need-stop-requires
 stop-requires c κs = search needs
 
 returns : tie.Need-returns
-returns c = one-out (outcomeOf ((c .before .before .before .before .before .args) .state)) (machineOf ((c .stop) .result)) ((c .before .before .before .before .pop) .result .refusal) (stackOf ((c .before .before .before .before .before .args) .stack)) (record { what = operandOf ((c .before .before .before .before .pop) .result .value); rest = stackOf ((c .before .before .before .before .pop) .result .stack) }) (λ s v ws. unchanged ws (releaseValue v s)) ((c .before .before .before .before .pop) .ensures) ((c .before .if1) .taken) (with (stackOf ((c .before .before .before .before .pop) .result .stack))) ((c .stop) .ensures)
+returns c = one-out (outcomeOf ((c .before .before .before .before .before .args) .state)) (machineOf ((c .stop) .result)) ((c .before .before .before .before .pop) .result .refusal) (stackOf ((c .before .before .before .before .before .args) .stack)) (record { what = operandOf ((c .before .before .before .before .pop) .result .value); rest = stackOf ((c .before .before .before .before .pop) .result .stack) }) (λ s v ws. unchanged ws (releaseValue v s)) ((c .before .before .before .before .pop) .ensures .0) ((c .before .if1) .taken) (with (stackOf ((c .before .before .before .before .pop) .result .stack))) ((c .stop) .ensures)
 
 release-value-requires : tie.Need-release-value-requires
 release-value-requires c κs = search needs
 
 returns-2 : tie.Need-returns-2
-returns-2 c = one-on (outcomeOf ((c .before .before .before .before .before .args) .state)) (halted ((c .release-value) .result .violation) ((c .release-value) .result .refusal) (with (stackOf ((c .before .before .before .before .pop) .result .stack)) (runningOf ((c .release-value) .result)))) ((c .before .before .before .before .pop) .result .refusal) (stackOf ((c .before .before .before .before .before .args) .stack)) (record { what = operandOf ((c .before .before .before .before .pop) .result .value); rest = stackOf ((c .before .before .before .before .pop) .result .stack) }) (λ s v ws. unchanged ws (releaseValue v s)) ((c .before .before .before .before .pop) .ensures) ((c .before .if1) .left)
+returns-2 c = one-on (outcomeOf ((c .before .before .before .before .before .args) .state)) (halted ((c .release-value) .result .violation) ((c .release-value) .result .refusal) (with (stackOf ((c .before .before .before .before .pop) .result .stack)) (runningOf ((c .release-value) .result)))) ((c .before .before .before .before .pop) .result .refusal) (stackOf ((c .before .before .before .before .before .args) .stack)) (record { what = operandOf ((c .before .before .before .before .pop) .result .value); rest = stackOf ((c .before .before .before .before .pop) .result .stack) }) (λ s v ws. unchanged ws (releaseValue v s)) ((c .before .before .before .before .pop) .ensures .0) ((c .before .if1) .left)
     (keeps (outcomeOf ((c .before .before .before .before .before .args) .state)) ((c .release-value) .result .violation) ((c .release-value) .result .refusal) (runningOf ((c .release-value) .result)) (stackOf ((c .before .before .before .before .pop) .result .stack)) (releaseValue (operandOf ((c .before .before .before .before .pop) .result .value))) ((c .release-value) .ensures))
 
 pub pop-top-spec : {M : Type 1} → statement M
