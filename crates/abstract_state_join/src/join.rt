@@ -32,7 +32,7 @@ pub(crate) struct Meeting {
     pub action: Action,
 }
 
-// A refusal's number, or 0 and what is left of the locals, with the graphs after the releases.
+// A refusal's number, or 0 and what is left of the locals, with the graphs after the releases. Beside a refusal these are free.
 pub(crate) struct Parts {
     pub refusal: u8,
     pub locals: [Local; 16],
@@ -40,7 +40,7 @@ pub(crate) struct Parts {
     pub theirs: BorrowGraph,
 }
 
-// A refusal's number, or 0 and the state; refused, the state that was handed over.
+// A refusal's number, or 0 and the state; refused, the state that was handed over. The state's `value` is free.
 pub(crate) struct Answer {
     pub refusal: u8,
     pub state: AbstractState,

@@ -56,13 +56,13 @@ pub struct Answer {
     pub refusal: u8,
 }
 
-// A refusal's number, or 0 and the answer to a question.
+// A refusal's number, or 0 and the answer to a question. Beside a refusal `yes` is free.
 pub struct Told {
     pub refusal: u8,
     pub yes: bool,
 }
 
-// A refusal's number, or 0 and names.
+// A refusal's number, or 0 and names. Beside a refusal `refs` is free.
 pub struct Names {
     pub refusal: u8,
     pub refs: Refs,

@@ -22,7 +22,7 @@ pub enum LabelFilter {
 }
 
 // A refusal's number, or 0 and whether there is an empty-path borrow, one that counts, and one that counts with a mutable
-// borrower.
+// borrower. Beside a refusal the three are free.
 pub struct BorrowedBy {
     pub refusal: u8,
     pub full: bool,
@@ -30,7 +30,7 @@ pub struct BorrowedBy {
     pub mutable: bool,
 }
 
-// A refusal's number, or 0 and edges with their ends.
+// A refusal's number, or 0 and edges with their ends. Beside a refusal `edges` is free.
 pub struct Edges {
     pub refusal: u8,
     pub edges: GraphEdges,

@@ -27,7 +27,7 @@ pub(crate) struct PairSet {
     pub set: BorrowEdgeSet,
 }
 
-// A refusal's number, or 0 and the edges.
+// A refusal's number, or 0 and the edges. Beside a refusal `edges` is free.
 pub(crate) struct Replaced {
     pub refusal: u8,
     pub edges: GraphEdges,

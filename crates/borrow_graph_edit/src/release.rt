@@ -267,7 +267,7 @@ fn release_through(graph: BorrowGraph, id: RefID) -> Answer
     }
 }
 
-// The edges on one side of a name: none, a single one, or several.
+// The edges on one side of a name: none, a single one, or several. `edge` is the single one, else free.
 pub(crate) struct Side {
     pub empty: bool,
     pub single: bool,
@@ -280,7 +280,8 @@ pub(crate) struct Touching {
     pub from: Side,
 }
 
-// What a release puts in, one edge or nothing, where it is `known` without the passes.
+// What a release puts in, one edge or nothing, where it is `known` without the passes; else `one` and the ends are free. Where it puts in
+// nothing, the edge and its ends are free. A path of the edge has at most eight labels in any case.
 pub(crate) struct Bridge {
     pub known: bool,
     pub one: bool,
