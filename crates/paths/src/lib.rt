@@ -12,7 +12,7 @@ ghost use mathlib.Core.Path.{_≡_};
 ghost use mathlib.Core.List.{[], _∷_, _++_};
 ghost use Prim.Native.Nat.{_*_, _^_, _≤_, _<_};
 ghost use lib.ListN.{length, drop};
-ghost use Rattle.meaning.specs.Labels.{numberOf, labelAt, kindOf, indexOf};
+ghost use Rattle.meaning.specs.Labels.{numberOf, kindOf, indexOf};
 ghost use Rattle.meaning.specs.References.{prefix, comparePaths, shortPath};
 ghost use Rattle.paths.specs.Models.{labelOf, orderingOf, firstNumber, kindsFrom, joinedKinds, pathOf, appendedOf};
 
@@ -30,14 +30,16 @@ pub enum Ordering {
 }
 
 // Up to eight labels: their indices, and their kinds (0 for Local, 1 for Global, 2 for Field) in two bits each, the first label's
-// lowest. What lies from `len` on is free; a `len` beyond eight reads as eight.
+// lowest. What lies from `len` on is free; a `len` beyond eight reads as eight. The kind 3, which no label has, counts as one more
+// kind above Field: its numbers start at 196,608. Every contract holds for it too, a graph with one is well formed, and no function
+// puts one into a path unless a path that it was given had it.
 pub struct Path {
     pub labels: [u16; MAX_LABELS],
     pub kinds: u16,
     pub len: u8,
 }
 
-// A path, or (`fits` false) word that it would be longer than eight labels.
+// A path, or (`fits` false) word that it would be longer than eight labels; then `path` is free.
 pub struct Appended {
     pub fits: bool,
     pub path: Path,
@@ -52,20 +54,6 @@ impl Label {
             Label::Global(i) => 65536 + i as u32,
             Label::Field(i) => 131072 + i as u32,
         }
-    }
-
-    // The label with this number; a number past the last Field's is read modulo 65,536.
-    pub fn of_number(n: u32) -> Label
-        ensures { λ r. ⌜ labelOf r ≡ labelAt n ⌝ }
-    {
-        let i = (n % 65536) as u16;
-        if n < 65536 {
-            return Label::Local(i);
-        }
-        if n < 131072 {
-            return Label::Global(i);
-        }
-        Label::Field(i)
     }
 
     fn kind(self) -> u16

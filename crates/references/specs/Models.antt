@@ -1,6 +1,5 @@
 -- What edges and sets of edges of the code stand for in the definitions. A count beyond an array's length reads as the length.
 use mathlib.Core.Bool.{cond}
-use mathlib.Core.Option.{Option, none, some}
 use mathlib.Core.List.{List, map}
 use lib.Dec.{eqb}
 use lib.ListN.{take}
@@ -11,7 +10,6 @@ use Rattle.references.specs.declared.BorrowEdge.{BorrowEdge}
 use Rattle.references.specs.declared.BorrowEdgeSet.{BorrowEdgeSet}
 use Rattle.references.specs.declared.Candidate.{Candidate}
 use Rattle.references.specs.declared.Inserted.{Inserted}
-use Rattle.references.specs.declared.Got.{Got}
 
 abbrev pub edgeOf : BorrowEdge → Edge
 edgeOf e = record { strong = e .strong; path = pathOf (e .path) }
@@ -28,6 +26,3 @@ candidateOf c = cond (c .fits) (ok (edgeOf (c .edge))) (refuse 22)
 -- a refusal has its number of document 01
 abbrev pub insertedOf : Inserted → Ans EdgeSet
 insertedOf r = cond (eqb (r .refusal) 0) (ok (setOf (r .set))) (refuse (r .refusal))
-
-abbrev pub gotOf : Got → Option Edge
-gotOf r = cond (r .found) (some (edgeOf (r .edge))) none

@@ -6,15 +6,13 @@
 //   BorrowEdge::leq            82 `leq`
 //   BorrowEdge::eq             202 `eq`
 //   BorrowEdge::cmp, lt        216 `cmp`
-//   BorrowEdgeSet              48 `BorrowEdgeSet`
-//   BorrowEdgeSet::new         92 `new`
+//   BorrowEdgeSet              48 `BorrowEdgeSet`; what the Rust walks by 132 `iter` is `edges` up to `len`
 //   BorrowEdgeSet::insert      99 `insert`
-//   BorrowEdgeSet::remove      118 `remove`
 //   BorrowEdgeSet::len         124 `len`
-//   BorrowEdgeSet::is_empty    128 `is_empty`
-//   BorrowEdgeSet::get         132 `iter`
 //
-// `BorrowEdges` and `Ref` (57, 64) are the graph's flat list (`borrow_graph`).
+// `Ref` and `BorrowEdges` (57 to 180) are the graph's names and its one list of edges (`borrow_graph`). A pair without edges is not in
+// that list, so 92 `new`, 118 `remove` and 128 `is_empty` have nothing to stand for: `borrow_graph_edit` makes a pair's set from the
+// list (`between`) and takes edges out of the list (`take_out`, `left_out`).
 use meaning::MAX_EDGE_SET_SIZE;
 use paths::Ordering;
 use paths::Path;
@@ -23,13 +21,12 @@ ghost use mathlib.Core.Bool.{true, false};
 ghost use mathlib.Core.List.{_∷_, _++_};
 ghost use Prim.Native.Nat.{_+_, _≤_, _<_};
 ghost use lib.ListN.{length, take, drop};
-ghost use Rattle.meaning.specs.Lists.{empty, nth};
 ghost use Rattle.meaning.specs.Answers.{leaves};
 ghost use Rattle.meaning.specs.References as Sets;
 ghost use Rattle.meaning.specs.Laws.Place as PlaceLaws;
-ghost use Rattle.meaning.specs.References.{emptySet, blur, compareEdges, eqEdge, ltEdge, covers, covered, has, offer};
+ghost use Rattle.meaning.specs.References.{blur, compareEdges, eqEdge, ltEdge, covers, covered, has, offer};
 ghost use Rattle.paths.specs.Models.{orderingOf};
-ghost use Rattle.references.specs.Models.{edgeOf, edgesOf, setOf, candidateOf, insertedOf, gotOf};
+ghost use Rattle.references.specs.Models.{edgeOf, edgesOf, setOf, candidateOf, insertedOf};
 
 // A reference's name.
 pub struct RefID(pub u16);
@@ -46,28 +43,17 @@ pub struct BorrowEdgeSet {
     pub overflown: bool,
 }
 
-// An edge to put into a set, or (`fits` false) word that its path is longer than eight labels.
+// An edge to put into a set, or (`fits` false) word that its path is longer than eight labels; then `edge` is free.
 pub struct Candidate {
     pub fits: bool,
     pub edge: BorrowEdge,
 }
 
-// A set after an insert, and the number of its refusal, 0 for none.
+// A set after inserts, and the number of a refusal, 0 for none. Refused, the set is what `insert` was given; after several inserts it
+// is free.
 pub struct Inserted {
     pub refusal: u8,
     pub set: BorrowEdgeSet,
-}
-
-// A set after a removal, and whether the edge was there.
-pub struct Removed {
-    pub found: bool,
-    pub set: BorrowEdgeSet,
-}
-
-// An edge of a set, or (`found` false) word that there is none at that index.
-pub struct Got {
-    pub found: bool,
-    pub edge: BorrowEdge,
 }
 
 impl BorrowEdge {
@@ -83,7 +69,7 @@ impl BorrowEdge {
     }
 
     // Weak before strong, then by the path.
-    pub fn cmp(self, other: BorrowEdge) -> Ordering
+    fn cmp(self, other: BorrowEdge) -> Ordering
         ensures { λ r. ⌜ orderingOf r ≡ compareEdges (edgeOf self) (edgeOf other) ⌝ }
     {
         if self.strong {
@@ -98,7 +84,7 @@ impl BorrowEdge {
         paths::cmp(self.path, other.path)
     }
 
-    pub fn eq(self, other: BorrowEdge) -> bool
+    fn eq(self, other: BorrowEdge) -> bool
         ensures { λ r. ⌜ r ≡ eqEdge (edgeOf self) (edgeOf other) ⌝ }
     {
         let o = self.cmp(other);
@@ -131,17 +117,6 @@ impl BorrowEdge {
 }
 
 impl BorrowEdgeSet {
-    pub fn new() -> Self
-        ensures { λ r. ⌜ setOf r ≡ emptySet ⌝ }
-    {
-        let e = BorrowEdge::weakest();
-        Self {
-            edges: [e; MAX_EDGE_SET_SIZE],
-            len: 0,
-            overflown: false,
-        }
-    }
-
     // What too many edges become.
     fn blurred() -> Self
         ensures { λ r. ⌜ setOf r ≡ blur ⌝ }
@@ -165,32 +140,7 @@ impl BorrowEdgeSet {
         }
     }
 
-    pub fn is_empty(self) -> bool
-        ensures { λ r. ⌜ r ≡ empty (edgesOf self) ⌝ }
-    {
-        self.len() == 0
-    }
-
-    // The edge at an index: in place of the Rust's `iter`.
-    pub fn get(self, i: usize) -> Got
-        ensures { λ r. ⌜ gotOf r ≡ nth (edgesOf self) i ⌝ }
-    {
-        let n = self.len();
-        if i < n {
-            let e = self.edges[i];
-            return Got {
-                found: true,
-                edge: e,
-            };
-        }
-        let e = BorrowEdge::weakest();
-        Got {
-            found: false,
-            edge: e,
-        }
-    }
-
-    pub fn contains(self, edge: BorrowEdge) -> bool
+    fn contains(self, edge: BorrowEdge) -> bool
         ensures { λ r. ⌜ r ≡ has (edgeOf edge) (edgesOf self) ⌝ }
     {
         let n = self.len();
@@ -258,7 +208,7 @@ impl BorrowEdgeSet {
         }
     }
 
-    // Refused, the set stays as it was.
+    // 22 where an edge that is too long would be put in.
     pub fn insert(self, c: Candidate) -> Inserted
         ensures { λ r. ⌜ (insertedOf r ≡ offer (setOf self) (candidateOf c)) × (setOf (r .set) ≡ leaves (setOf self) (offer (setOf self) (candidateOf c))) ⌝ }
     {
@@ -287,35 +237,6 @@ impl BorrowEdgeSet {
         Inserted {
             refusal: 22,
             set: self,
-        }
-    }
-
-    // The Rust takes an edge that is there for granted.
-    pub fn remove(self, edge: BorrowEdge) -> Removed
-        ensures { λ r. ⌜ (r .found ≡ has (edgeOf edge) (edgesOf self)) × (setOf (r .set) ≡ Sets.remove (edgeOf edge) (setOf self)) ⌝ }
-    {
-        let found = self.contains(edge);
-        let n = self.len();
-        let mut out = self.edges;
-        let mut j: usize = 0;
-        let mut i: usize = 0;
-        while i < n {
-            let x = self.edges[i];
-            if edge.eq(x) {
-                i += 1;
-            } else {
-                out[j] = x;
-                j += 1;
-                i += 1;
-            }
-        }
-        Removed {
-            found: found,
-            set: Self {
-                edges: out,
-                len: j as u8,
-                overflown: self.overflown,
-            },
         }
     }
 }
