@@ -1,12 +1,12 @@
 -- Paths read and written one label at a time.
 use mathlib.Core.Path.{_≡_, refl, sym, ap, _∙_}
-use mathlib.Core.List.{List, [], _∷_, _++_}
+use mathlib.Core.List.{List, [], _∷_, _++_, append-nil}
 use Prim.Native.Nat.{ℕ, zero, suc, _+_, _*_, _/_, _%_, _^_, _≤_, _<_, min}
 use native.Mathlib.Nat.{not-suc-le-zero, le-of-suc-le-suc, le-refl, mod-lt, div-one, one-mul, mul-left-comm}
 use native.Mathlib.Omega.{arith}
 use lib.Pow.{pow-pos, pow-mono, pow-add, shl-exact, shr-shr, field, mod-mod-pow}
-use lib.ListN.{length, take, drop, getD, length-take, length-append, drop-of-length-le}
-use Rattle.meaning.specs.Laws.Array.{front-step, front-all}
+use lib.ListN.{length, take, drop, getD, set, length-take, length-append, drop-of-length-le}
+use Rattle.meaning.specs.Laws.Array.{front-step, front-all, push}
 use Rattle.meaning.specs.Labels as L
 use Rattle.paths.specs.Models.{labelOf, firstNumber, kindsFrom, joinedKinds, numbered, indicesOf, pathOf}
 use Rattle.paths.specs.declared.Label.{Label}
@@ -118,21 +118,54 @@ pub indices-front : (p : Path) (n : ℕ) → n ≡ length (pathOf p) → take n 
 unfolding indicesOf
 indices-front p n e = rw (e, path-length p) (front-all (p .len) (p .labels))
 
-pub indices-step : (p : Path) (i : ℕ) → i < length (pathOf p) → drop i (indicesOf p) ≡ getD (p .labels) i 0 ∷ drop (i + 1) (indicesOf p)
+indices-step : (p : Path) (i : ℕ) → i < length (pathOf p) → drop i (indicesOf p) ≡ getD (p .labels) i 0 ∷ drop (i + 1) (indicesOf p)
 unfolding indicesOf
 indices-step p i h = front-step (p .len) (p .labels) 0 i (rw path-length at h)
 
-pub indices-end : (p : Path) (i : ℕ) → length (pathOf p) ≤ i → drop i (indicesOf p) ≡ []
+indices-end : (p : Path) (i : ℕ) → length (pathOf p) ≤ i → drop i (indicesOf p) ≡ []
 indices-end p i h = drop-of-length-le (indicesOf p) (rw path-length at h)
 
--- from the label at i on, with the kinds from there on
-pub rest-step : (p : Path) (i k : ℕ) → i < length (pathOf p) → numbered k (drop i (indicesOf p)) ≡ firstNumber k (getD (p .labels) i 0) ∷ numbered (k / 4) (drop (i + 1) (indicesOf p))
+-- ---- a loop over labels: those from i on, the kinds from there on being k
+
+abbrev pub restOf : Path → ℕ → ℕ → List ℕ
+restOf p i k = numbered k (drop i (indicesOf p))
+
+-- the number of the label at i
+abbrev pub labelIn : Path → ℕ → ℕ → ℕ
+labelIn p i k = firstNumber k (getD (p .labels) i 0)
+
+rest-step : (p : Path) (i k : ℕ) → i < length (pathOf p) → restOf p i k ≡ labelIn p i k ∷ restOf p (i + 1) (k / 4)
 unfolding numbered
 rest-step p i k h = ap (numbered k) (indices-step p i h)
 
-pub rest-end : (p : Path) (i k : ℕ) → length (pathOf p) ≤ i → numbered k (drop i (indicesOf p)) ≡ []
+rest-end : (p : Path) (i k : ℕ) → length (pathOf p) ≤ i → restOf p i k ≡ []
 unfolding numbered
 rest-end p i k h = ap (numbered k) (indices-end p i h)
+
+-- Two paths are walked together: what is left of them gives the answer a. At i both go on, one of them, or none.
+module _ {A : Type 0} (f : List ℕ → List ℕ → A) (p q : Path) (i j k : ℕ) (a : A) (inv : f (restOf p i j) (restOf q i k) ≡ a) where
+  pub both-on : i < length (pathOf p) → i < length (pathOf q) → f (labelIn p i j ∷ restOf p (i + 1) (j / 4)) (labelIn q i k ∷ restOf q (i + 1) (k / 4)) ≡ a
+  both-on h l = rw (rest-step p i j h, rest-step q i k l) at inv
+
+  pub first-on : i < length (pathOf p) → length (pathOf q) ≤ i → f (labelIn p i j ∷ restOf p (i + 1) (j / 4)) [] ≡ a
+  first-on h l = rw (rest-step p i j h, rest-end q i k l) at inv
+
+  pub second-on : length (pathOf p) ≤ i → i < length (pathOf q) → f [] (labelIn q i k ∷ restOf q (i + 1) (k / 4)) ≡ a
+  second-on h l = rw (rest-end p i j h, rest-step q i k l) at inv
+
+  pub first-over : length (pathOf p) ≤ i → f [] (restOf q i k) ≡ a
+  first-over h = rw (rest-end p i j h) at inv
+
+  pub both-over : length (pathOf p) ≤ i → length (pathOf q) ≤ i → f [] [] ≡ a
+  both-over h l = rw (rest-end p i j h, rest-end q i k l) at inv
+
+-- Indices are copied behind the first j of an array: those from i on are still to come.
+module _ (p : Path) (out : List ℕ) (i j : ℕ) (r : List ℕ) (inv : take j out ++ drop i (indicesOf p) ≡ r) where
+  pub copied : (j′ : ℕ) → j′ ≡ j + 1 → j < length out → i < length (pathOf p) → take j′ (set out j (getD (p .labels) i 0)) ++ drop (i + 1) (indicesOf p) ≡ r
+  copied j′ e h l = push out j j′ _ _ e h ∙ rw (indices-step p i l) at inv
+
+  pub copied-all : length (pathOf p) ≤ i → take j out ≡ r
+  copied-all h = sym (append-nil (take j out)) ∙ rw (indices-end p i h) at inv
 
 pub path-first : (p : Path) → 0 < length (pathOf p) → pathOf p ≡ firstNumber (p .kinds) (getD (p .labels) 0 0) ∷ numbered (p .kinds / 4) (drop 1 (indicesOf p))
 unfolding pathOf

@@ -1,14 +1,13 @@
 use mathlib.Core.Path.{_≡_, ap, _∙_}
-use mathlib.Core.List.{List, _++_, append-nil}
+use mathlib.Core.List.{List, _++_}
 use native.Mathlib.Nat.{add-zero}
 use borrow.Author.Tests.{lt-leb, le-leb}
 use Prim.Native.Nat.{ℕ, _+_, _-_, _<_, _≤_}
 use lib.ListN.{length, take, drop, length-set, length-append}
 use Rattle.meaning.specs.Answers.{Ans, ok}
 use Rattle.meaning.specs.References.{shortPath}
-use Rattle.meaning.specs.Laws.Array.{push}
 use Rattle.paths.specs.Models.{numbered, indicesOf, pathOf}
-use Rattle.paths.specs.ModelLaws.{path-made, path-joined, indices-front, indices-step, indices-end}
+use Rattle.paths.specs.ModelLaws.{path-made, path-joined, indices-front, copied, copied-all}
 use native.Mathlib.Omega.{arith}
 use borrow.Author.Needs.{needs}
 use Rattle.paths.proofs.append.Statement.{statement}
@@ -32,7 +31,8 @@ add-if1 c = omega arith
 returns : tie.Need-returns Inv-loop μ-loop
 unfolding shortPath
 returns c =
-    let h : 8 < length (pathOf ((c .before .before .before .args) .lhs) ++ pathOf ((c .before .before .before .args) .t2)) = simp length-append (omega arith) in
+    let a = c .before .before .before .args in
+    let h : 8 < length (pathOf (a .lhs) ++ pathOf (a .t2)) = simp length-append (omega arith) in
     rw (lt-leb _ _ h)
 
 loop-holds : tie.Need-loop-holds Inv-loop μ-loop
@@ -61,10 +61,10 @@ loop-less c = omega arith
 
 loop-again : tie.Need-loop-again Inv-loop μ-loop
 loop-again c =
-    let l = (c .before .before .loop) in
-    let n = (c .before .before .before .before .before .before .len) .result in
-    let h : n + l .i < length (l .out) = omega arith in
-    (omega arith, simp length-set (l .inv .1), push (l .out) (n + l .i) (n + (l .i + 1)) _ _ (omega arith) h ∙ rw (indices-step ((c .before .before .before .before .before .before .before .args) .t2) (l .i) (omega arith)) at (l .inv .2))
+    let l = c .before .before .loop in
+    let n = c .before .before .before .before .before .before .len .result in
+    let b = c .before .before .before .before .before .before .before .args .t2 in
+    (omega arith, simp length-set (l .inv .1), copied b (l .out) (l .i) (n + l .i) _ (l .inv .2) (n + (l .i + 1)) (omega arith) (omega arith) (omega arith))
 
 join-kinds-requires : tie.Need-join-kinds-requires Inv-loop μ-loop
 join-kinds-requires c κs = omega arith
@@ -78,15 +78,16 @@ cast-t23 c = omega arith
 returns-2 : tie.Need-returns-2 Inv-loop μ-loop
 unfolding shortPath
 returns-2 c =
-    let l = (c .before .before .loop) in
-    let a = (c .before .before .before .before .before .before .before .args) .lhs in
-    let b = (c .before .before .before .before .before .before .before .args) .t2 in
-    let n = (c .before .before .before .before .before .before .len) .result in
-    let m = (c .before .before .before .before .before .len2) .result in
+    let l = c .before .before .loop in
+    let s = c .before .before .before .before .before .before .before .args in
+    let n = c .before .before .before .before .before .before .len .result in
+    let m = c .before .before .before .before .before .len2 .result in
     let e : n + l .i ≡ n + m = omega arith in
-    let q = rw (indices-end b (l .i) (omega arith), append-nil, e, indices-front a n (omega arith)) at (l .inv .2) in
-    let h : length (pathOf a ++ pathOf b) ≤ 8 = simp length-append (omega arith) in
-    rw (le-leb _ _ h) (ap {B = Ans (List ℕ)} ok (path-made (l .out) ((c .join-kinds) .result) (n + m) ∙ (λ t. numbered ((c .join-kinds) .ensures t) (q t)) ∙ path-joined a b n (omega arith) h))
+    let q = rw (e, indices-front (s .lhs) n (omega arith)) at (copied-all (s .t2) (l .out) (l .i) (n + l .i) _ (l .inv .2) (omega arith)) in
+    let h : length (pathOf (s .lhs) ++ pathOf (s .t2)) ≤ 8 = simp length-append (omega arith) in
+    rw (le-leb _ _ h)
+    (ap {B = Ans (List ℕ)} ok
+    (path-made (l .out) (c .join-kinds .result) (n + m) ∙ (λ t. numbered (c .join-kinds .ensures t) (q t)) ∙ path-joined (s .lhs) (s .t2) n (omega arith) h))
 
 pub append-spec : {M : Type 1} → statement M
 append-spec =

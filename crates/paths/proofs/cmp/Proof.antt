@@ -1,18 +1,17 @@
 use mathlib.Core.Path.{_≡_, refl}
 use Prim.Native.Nat.{_+_, _-_, _/_}
 use mathlib.Core.List.{_∷_}
-use lib.ListN.{drop, getD}
 use Rattle.meaning.specs.References.{comparePaths}
 use Rattle.meaning.specs.Laws.Place.{paths-less, paths-greater, paths-equal, paths-end, paths-prefix, paths-longer}
-use Rattle.paths.specs.Models.{firstNumber, numbered, indicesOf, pathOf}
-use Rattle.paths.specs.ModelLaws.{rest-step, rest-end}
+use Rattle.paths.specs.Models.{pathOf}
+use Rattle.paths.specs.ModelLaws.{restOf, labelIn, both-on, first-on, second-on, both-over}
 use native.Mathlib.Omega.{arith}
 use borrow.Author.Needs.{needs}
 use Rattle.paths.proofs.cmp.Statement.{statement}
 use Rattle.paths.proofs.cmp.Tie as tie
 
 abbrev Inv-loop : tie.InvT-loop
-Inv-loop lhs rhs n m j₀ k₀ i₀ j k i = comparePaths (numbered j (drop i (indicesOf lhs))) (numbered k (drop i (indicesOf rhs))) ≡ comparePaths (pathOf lhs) (pathOf rhs)
+Inv-loop lhs rhs n m j₀ k₀ i₀ j k i = comparePaths (restOf lhs i j) (restOf rhs i k) ≡ comparePaths (pathOf lhs) (pathOf rhs)
 
 abbrev μ-loop : tie.MeasureT-loop
 μ-loop lhs rhs n m j₀ k₀ i₀ j k i = n - i
@@ -21,11 +20,12 @@ abbrev μ-loop : tie.MeasureT-loop
 turn : (c : tie.Else1 Inv-loop μ-loop) →
     let s = c .before .before .before .before .before .args in
     let l = c .before .before .loop in
-    comparePaths (firstNumber (l .j) (getD (s .t1 .labels) (l .i) 0) ∷ numbered (l .j / 4) (drop (l .i + 1) (indicesOf (s .t1)))) (firstNumber (l .k) (getD (s .t2 .labels) (l .i) 0) ∷ numbered (l .k / 4) (drop (l .i + 1) (indicesOf (s .t2)))) ≡ comparePaths (pathOf (s .t1)) (pathOf (s .t2))
+    let i = l .i in
+    comparePaths (labelIn (s .t1) i (l .j) ∷ restOf (s .t1) (i + 1) (l .j / 4)) (labelIn (s .t2) i (l .k) ∷ restOf (s .t2) (i + 1) (l .k / 4)) ≡ comparePaths (pathOf (s .t1)) (pathOf (s .t2))
 turn c =
     let s = c .before .before .before .before .before .args in
     let l = c .before .before .loop in
-    rw (rest-step (s .t1) (l .i) (l .j) (omega arith), rest-step (s .t2) (l .i) (l .k) (omega arith)) at (l .inv)
+    both-on comparePaths (s .t1) (s .t2) (l .i) (l .j) (l .k) _ (l .inv) (omega arith) (omega arith)
 
 len-requires : tie.Need-len-requires Inv-loop μ-loop
 len-requires c κs = search needs
@@ -38,7 +38,10 @@ unfolding pathOf
 loop-holds c = refl
 
 returns : tie.Need-returns Inv-loop μ-loop
-returns c = rw (rest-step ((c .before .before .before .before .before .args) .t1) ((c .before .before .loop) .i) ((c .before .before .loop) .j) (omega arith), rest-end ((c .before .before .before .before .before .args) .t2) ((c .before .before .loop) .i) ((c .before .before .loop) .k) (omega arith), paths-longer) at ((c .before .before .loop) .inv)
+returns c =
+    let s = c .before .before .before .before .before .args in
+    let l = c .before .before .loop in
+    rw paths-longer at (first-on comparePaths (s .t1) (s .t2) (l .i) (l .j) (l .k) _ (l .inv) (omega arith) (omega arith))
 
 mul-first-number : tie.Need-mul-first-number Inv-loop μ-loop
 mul-first-number c = omega arith
@@ -59,10 +62,16 @@ first-number-requires-2 : tie.Need-first-number-requires-2 Inv-loop μ-loop
 first-number-requires-2 c κs = search needs
 
 returns-2 : tie.Need-returns-2 Inv-loop μ-loop
-returns-2 c = rw (paths-less _ _ _ _ (rw ((c .before .before .before .first-number) .ensures .0, (c .before .first-number2) .ensures .0) at ((c .if2) .taken))) at (turn (c .before .before .before .before .before))
+returns-2 c =
+    let x = c .before .before .before .first-number .ensures .0 in
+    let y = c .before .first-number2 .ensures .0 in
+    rw (paths-less _ _ _ _ (rw (x, y) at (c .if2 .taken))) at (turn (c .before .before .before .before .before))
 
 returns-3 : tie.Need-returns-3 Inv-loop μ-loop
-returns-3 c = rw (paths-greater _ _ _ _ (rw ((c .before .before .before .before .first-number) .ensures .0, (c .before .before .first-number2) .ensures .0) at ((c .if3) .taken))) at (turn (c .before .before .before .before .before .before))
+returns-3 c =
+    let x = c .before .before .before .before .first-number .ensures .0 in
+    let y = c .before .before .first-number2 .ensures .0 in
+    rw (paths-greater _ _ _ _ (rw (x, y) at (c .if3 .taken))) at (turn (c .before .before .before .before .before .before))
 
 add-i : tie.Need-add-i Inv-loop μ-loop
 add-i c = omega arith
@@ -71,13 +80,22 @@ loop-less : tie.Need-loop-less Inv-loop μ-loop
 loop-less c = omega arith
 
 loop-again : tie.Need-loop-again Inv-loop μ-loop
-loop-again c = rw (paths-equal _ _ _ _ (rw ((c .before .before .before .before .first-number) .ensures .0, (c .before .before .first-number2) .ensures .0) at ((c .before .if2) .left)) (rw ((c .before .before .before .before .first-number) .ensures .0, (c .before .before .first-number2) .ensures .0) at ((c .if3) .left))) at (turn (c .before .before .before .before .before .before))
+loop-again c =
+    let x = c .before .before .before .before .first-number .ensures .0 in
+    let y = c .before .before .first-number2 .ensures .0 in
+    rw (paths-equal _ _ _ _ (rw (x, y) at (c .before .if2 .left)) (rw (x, y) at (c .if3 .left))) at (turn (c .before .before .before .before .before .before))
 
 returns-4 : tie.Need-returns-4 Inv-loop μ-loop
-returns-4 c = rw (rest-end ((c .before .before .before .before .before .args) .t1) ((c .before .before .loop) .i) ((c .before .before .loop) .j) (omega arith), rest-step ((c .before .before .before .before .before .args) .t2) ((c .before .before .loop) .i) ((c .before .before .loop) .k) (omega arith), paths-prefix) at ((c .before .before .loop) .inv)
+returns-4 c =
+    let s = c .before .before .before .before .before .args in
+    let l = c .before .before .loop in
+    rw paths-prefix at (second-on comparePaths (s .t1) (s .t2) (l .i) (l .j) (l .k) _ (l .inv) (omega arith) (omega arith))
 
 returns-5 : tie.Need-returns-5 Inv-loop μ-loop
-returns-5 c = rw (rest-end ((c .before .before .before .before .before .args) .t1) ((c .before .before .loop) .i) ((c .before .before .loop) .j) (omega arith), rest-end ((c .before .before .before .before .before .args) .t2) ((c .before .before .loop) .i) ((c .before .before .loop) .k) (omega arith), paths-end) at ((c .before .before .loop) .inv)
+returns-5 c =
+    let s = c .before .before .before .before .before .args in
+    let l = c .before .before .loop in
+    rw paths-end at (both-over comparePaths (s .t1) (s .t2) (l .i) (l .j) (l .k) _ (l .inv) (omega arith) (omega arith))
 
 pub cmp-spec : {M : Type 1} → statement M
 cmp-spec =

@@ -1,10 +1,9 @@
-use Rattle.paths.specs.ModelLaws.{path-made, path-dropped, indices-step, indices-end}
 use mathlib.Core.Path.{_≡_, refl, sym, _∙_}
-use mathlib.Core.List.{_++_, append-nil}
-use Prim.Native.Nat.{_+_, _-_, _<_, _≤_}
+use mathlib.Core.List.{_++_}
+use Prim.Native.Nat.{_+_, _-_, _≤_}
 use lib.ListN.{length, take, drop, length-set}
-use Rattle.meaning.specs.Laws.Array.{push}
 use Rattle.paths.specs.Models.{numbered, indicesOf}
+use Rattle.paths.specs.ModelLaws.{path-made, path-dropped, copied, copied-all}
 use native.Mathlib.Omega.{arith}
 use borrow.Author.Needs.{needs}
 use Rattle.paths.proofs.factor.Statement.{statement}
@@ -48,9 +47,9 @@ loop-less c = omega arith
 
 loop-again : tie.Need-loop-again Inv-loop μ-loop
 loop-again c =
-    let l = (c .before .before .loop) in
-    let h : l .j < length (l .out) = omega arith in
-    (omega arith, omega arith, simp length-set (l .inv .2), push (l .out) (l .j) _ _ _ refl h ∙ rw (indices-step ((c .before .before .before .before .before .args) .t2) (l .i) (omega arith)) at (l .inv .3))
+    let l = c .before .before .loop in
+    let b = c .before .before .before .before .before .args .t2 in
+    (omega arith, omega arith, simp length-set (l .inv .2), copied b (l .out) (l .i) (l .j) _ (l .inv .3) _ refl (omega arith) (omega arith))
 
 kinds-from-requires : tie.Need-kinds-from-requires Inv-loop μ-loop
 kinds-from-requires c κs = omega arith
@@ -60,12 +59,13 @@ cast-t21 c = omega arith
 
 returns : tie.Need-returns Inv-loop μ-loop
 returns c =
-    let l = (c .before .before .loop) in
-    let b = (c .before .before .before .before .before .args) .t2 in
-    let e : take (l .j) (l .out) ≡ drop ((c .before .before .before .before .len) .result) (indicesOf b) = sym (append-nil (take (l .j) (l .out))) ∙ rw (indices-end b (l .i) (omega arith)) at (l .inv .3) in
-    path-made (l .out) ((c .kinds-from) .result) (l .j)
-    ∙ (λ t. numbered ((c .kinds-from) .ensures t) (e t))
-    ∙ sym (path-dropped b ((c .before .before .before .before .len) .result)) ∙ rw ((c .before .before .before .before .len) .ensures .0) refl
+    let l = c .before .before .loop in
+    let b = c .before .before .before .before .before .args .t2 in
+    let k = c .before .before .before .before .len in
+    let e = copied-all b (l .out) (l .i) (l .j) _ (l .inv .3) (omega arith) in
+    path-made (l .out) (c .kinds-from .result) (l .j)
+    ∙ (λ t. numbered (c .kinds-from .ensures t) (e t))
+    ∙ sym (path-dropped b (k .result)) ∙ rw (k .ensures .0) refl
 
 pub factor-spec : {M : Type 1} → statement M
 factor-spec =

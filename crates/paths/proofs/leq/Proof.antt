@@ -1,19 +1,18 @@
 use mathlib.Core.Path.{_≡_, refl}
 use mathlib.Core.Bool.{_&&_}
 use Prim.Native.Nat.{_+_, _-_, _/_}
-use lib.ListN.{drop, getD}
 use lib.Dec.{eqb}
 use borrow.Author.Tests.{eq-eqb, ne-eqb}
 use Rattle.meaning.specs.References.{prefix}
-use Rattle.paths.specs.Models.{firstNumber, numbered, indicesOf, pathOf}
-use Rattle.paths.specs.ModelLaws.{rest-step, rest-end}
+use Rattle.paths.specs.Models.{pathOf}
+use Rattle.paths.specs.ModelLaws.{restOf, labelIn, both-on, first-on, first-over}
 use native.Mathlib.Omega.{arith}
 use borrow.Author.Needs.{needs}
 use Rattle.paths.proofs.leq.Statement.{statement}
 use Rattle.paths.proofs.leq.Tie as tie
 
 abbrev Inv-loop : tie.InvT-loop
-Inv-loop lhs rhs n m j₀ k₀ i₀ j k i = prefix (numbered j (drop i (indicesOf lhs))) (numbered k (drop i (indicesOf rhs))) ≡ prefix (pathOf lhs) (pathOf rhs)
+Inv-loop lhs rhs n m j₀ k₀ i₀ j k i = prefix (restOf lhs i j) (restOf rhs i k) ≡ prefix (pathOf lhs) (pathOf rhs)
 
 abbrev μ-loop : tie.MeasureT-loop
 μ-loop lhs rhs n m j₀ k₀ i₀ j k i = n - i
@@ -22,12 +21,13 @@ abbrev μ-loop : tie.MeasureT-loop
 turn : (c : tie.Else1 Inv-loop μ-loop) →
     let s = c .before .before .before .before .before .args in
     let l = c .before .before .loop in
-    (eqb (firstNumber (l .j) (getD (s .t1 .labels) (l .i) 0)) (firstNumber (l .k) (getD (s .t2 .labels) (l .i) 0)) && prefix (numbered (l .j / 4) (drop (l .i + 1) (indicesOf (s .t1)))) (numbered (l .k / 4) (drop (l .i + 1) (indicesOf (s .t2))))) ≡ prefix (pathOf (s .t1)) (pathOf (s .t2))
+    let i = l .i in
+    (eqb (labelIn (s .t1) i (l .j)) (labelIn (s .t2) i (l .k)) && prefix (restOf (s .t1) (i + 1) (l .j / 4)) (restOf (s .t2) (i + 1) (l .k / 4))) ≡ prefix (pathOf (s .t1)) (pathOf (s .t2))
 unfolding prefix
 turn c =
     let s = c .before .before .before .before .before .args in
     let l = c .before .before .loop in
-    rw (rest-step (s .t1) (l .i) (l .j) (omega arith), rest-step (s .t2) (l .i) (l .k) (omega arith)) at (l .inv)
+    both-on prefix (s .t1) (s .t2) (l .i) (l .j) (l .k) _ (l .inv) (omega arith) (omega arith)
 
 len-requires : tie.Need-len-requires Inv-loop μ-loop
 len-requires c κs = search needs
@@ -41,7 +41,10 @@ loop-holds c = refl
 
 returns : tie.Need-returns Inv-loop μ-loop
 unfolding prefix
-returns c = rw (rest-step ((c .before .before .before .before .before .args) .t1) ((c .before .before .loop) .i) ((c .before .before .loop) .j) (omega arith), rest-end ((c .before .before .before .before .before .args) .t2) ((c .before .before .loop) .i) ((c .before .before .loop) .k) (omega arith)) at ((c .before .before .loop) .inv)
+returns c =
+    let s = c .before .before .before .before .before .args in
+    let l = c .before .before .loop in
+    first-on prefix (s .t1) (s .t2) (l .i) (l .j) (l .k) _ (l .inv) (omega arith) (omega arith)
 
 mul-first-number : tie.Need-mul-first-number Inv-loop μ-loop
 mul-first-number c = omega arith
@@ -62,7 +65,10 @@ first-number-requires-2 : tie.Need-first-number-requires-2 Inv-loop μ-loop
 first-number-requires-2 c κs = search needs
 
 returns-2 : tie.Need-returns-2 Inv-loop μ-loop
-returns-2 c = rw (ne-eqb _ _ (rw ((c .before .before .before .first-number) .ensures .0, (c .before .first-number2) .ensures .0) at ((c .if2) .taken))) at (turn (c .before .before .before .before .before))
+returns-2 c =
+    let x = c .before .before .before .first-number .ensures .0 in
+    let y = c .before .first-number2 .ensures .0 in
+    rw (ne-eqb _ _ (rw (x, y) at (c .if2 .taken))) at (turn (c .before .before .before .before .before))
 
 add-i : tie.Need-add-i Inv-loop μ-loop
 add-i c = omega arith
@@ -71,11 +77,17 @@ loop-less : tie.Need-loop-less Inv-loop μ-loop
 loop-less c = omega arith
 
 loop-again : tie.Need-loop-again Inv-loop μ-loop
-loop-again c = rw (eq-eqb _ _ (rw ((c .before .before .before .first-number) .ensures .0, (c .before .first-number2) .ensures .0) at ((c .if2) .left))) at (turn (c .before .before .before .before .before))
+loop-again c =
+    let x = c .before .before .before .first-number .ensures .0 in
+    let y = c .before .first-number2 .ensures .0 in
+    rw (eq-eqb _ _ (rw (x, y) at (c .if2 .left))) at (turn (c .before .before .before .before .before))
 
 returns-3 : tie.Need-returns-3 Inv-loop μ-loop
 unfolding prefix
-returns-3 c = rw (rest-end ((c .before .before .before .before .args) .t1) ((c .before .loop) .i) ((c .before .loop) .j) (omega arith)) at ((c .before .loop) .inv)
+returns-3 c =
+    let s = c .before .before .before .before .args in
+    let l = c .before .loop in
+    first-over prefix (s .t1) (s .t2) (l .i) (l .j) (l .k) _ (l .inv) (omega arith)
 
 pub leq-spec : {M : Type 1} → statement M
 leq-spec =

@@ -11,13 +11,15 @@ cast-n c = search needs
 
 returns : tie.Need-returns
 returns c =
-    let h : length (c .before .before .args .self .labels) ≡ 8 = search needs in
-    omega (arith, path-count (c .before .before .args .self) h)
+    let p = c .before .before .args .self in
+    let h : length (p .labels) ≡ 8 = search needs in
+    omega (arith, path-count p h)
 
 returns-2 : tie.Need-returns-2
 returns-2 c =
-    let h : length (c .before .before .args .self .labels) ≡ 8 = search needs in
-    omega (arith, path-count (c .before .before .args .self) h)
+    let p = c .before .before .args .self in
+    let h : length (p .labels) ≡ 8 = search needs in
+    omega (arith, path-count p h)
 
 pub len-spec : {M : Type 1} → statement M
 len-spec = tie.close (tie.spec cast-n returns returns-2)
