@@ -12,6 +12,7 @@ ghost use mathlib.Core.Path.{_≡_};
 ghost use mathlib.Core.List.{[], _∷_, _++_};
 ghost use Prim.Native.Nat.{_*_, _^_, _≤_, _<_};
 ghost use lib.ListN.{length, drop};
+ghost use Rattle.meaning.specs.Limits.{maxLabels};
 ghost use Rattle.meaning.specs.Labels.{numberOf, kindOf, indexOf};
 ghost use Rattle.meaning.specs.References.{prefix, comparePaths, shortPath};
 ghost use Rattle.paths.specs.Models.{labelOf, orderingOf, firstNumber, kindsFrom, joinedKinds, pathOf, appendedOf};
@@ -31,8 +32,8 @@ pub enum Ordering {
 
 // Up to eight labels: their indices, and their kinds (0 for Local, 1 for Global, 2 for Field) in two bits each, the first label's
 // lowest. What lies from `len` on is free; a `len` beyond eight reads as eight. The kind 3, which no label has, counts as one more
-// kind above Field: its numbers start at 196,608. Every contract holds for it too, a graph with one is well formed, and no function
-// puts one into a path unless a path that it was given had it.
+// kind above Field: its numbers start at 196,608. Every contract holds for it too, a graph with one is well formed, and no function here
+// puts one into a path unless a path that it was given has it.
 pub struct Path {
     pub labels: [u16; MAX_LABELS],
     pub kinds: u16,
@@ -86,7 +87,7 @@ pub fn first_number(kinds: u16, index: u16) -> u32
 
 // The kinds without the first i.
 fn kinds_from(kinds: u16, i: usize) -> u16
-    requires { ⌜ i ≤ 8 ⌝ }
+    requires { ⌜ i ≤ maxLabels ⌝ }
     ensures { λ r. ⌜ r ≡ kindsFrom i kinds ⌝ }
 {
     (kinds as u64 >> (2 * i)) as u16
@@ -94,7 +95,7 @@ fn kinds_from(kinds: u16, i: usize) -> u16
 
 // What the kind of label n is counted in.
 fn kinds_unit(n: usize) -> u64
-    requires { ⌜ n ≤ 8 ⌝ }
+    requires { ⌜ n ≤ maxLabels ⌝ }
     ensures { λ r. ⌜ (r ≡ 2 ^ (2 * n)) × (0 < r) × (r ≤ 65536) ⌝ }
 {
     1 << (2 * n)
@@ -102,7 +103,7 @@ fn kinds_unit(n: usize) -> u64
 
 // The first n of some kinds and then others, as many as there is room for.
 fn join_kinds(first: u16, n: usize, then: u16) -> u16
-    requires { ⌜ n ≤ 8 ⌝ }
+    requires { ⌜ n ≤ maxLabels ⌝ }
     ensures { λ r. ⌜ r ≡ joinedKinds n first then ⌝ }
 {
     let unit = kinds_unit(n);
@@ -134,7 +135,7 @@ impl Path {
     }
 
     pub fn len(self) -> usize
-        ensures { λ r. ⌜ (r ≡ length (pathOf self)) × (r ≤ 8) ⌝ }
+        ensures { λ r. ⌜ (r ≡ length (pathOf self)) × (r ≤ maxLabels) ⌝ }
     {
         let n = self.len as usize;
         if n < MAX_LABELS { n } else { MAX_LABELS }

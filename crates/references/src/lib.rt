@@ -21,6 +21,7 @@ ghost use mathlib.Core.Bool.{true, false};
 ghost use mathlib.Core.List.{_∷_, _++_};
 ghost use Prim.Native.Nat.{_+_, _≤_, _<_};
 ghost use lib.ListN.{length, take, drop};
+ghost use Rattle.meaning.specs.Limits.{maxSetSize};
 ghost use Rattle.meaning.specs.Answers.{leaves};
 ghost use Rattle.meaning.specs.References as Sets;
 ghost use Rattle.meaning.specs.Laws.Place as PlaceLaws;
@@ -130,7 +131,7 @@ impl BorrowEdgeSet {
     }
 
     pub fn len(self) -> usize
-        ensures { λ r. ⌜ (r ≡ length (edgesOf self)) × (r ≤ 10) ⌝ }
+        ensures { λ r. ⌜ (r ≡ length (edgesOf self)) × (r ≤ maxSetSize) ⌝ }
     {
         let n = self.len as usize;
         if n < MAX_EDGE_SET_SIZE {
@@ -189,7 +190,7 @@ impl BorrowEdgeSet {
 
     // The edge at place k, what stood there and behind it one place on.
     fn put_at(self, k: usize, edge: BorrowEdge) -> Self
-        requires { ⌜ (k ≤ length (edgesOf self)) × (length (edgesOf self) < 10) ⌝ }
+        requires { ⌜ (k ≤ length (edgesOf self)) × (length (edgesOf self) < maxSetSize) ⌝ }
         ensures { λ r. ⌜ (edgesOf r ≡ take k (edgesOf self) ++ (edgeOf edge ∷ drop k (edgesOf self))) × (r .overflown ≡ self .overflown) ⌝ }
     {
         let n = self.len();

@@ -133,7 +133,8 @@ module _ {M : Type 1} (𝓤 : URA M) (H : Heap 𝓤) (A : Atoms 𝓤) (W : Given
 
 module _ {M : Type 1} (𝓤 : URA M) (H : Heap 𝓤) (A : Atoms 𝓤) (W : Given 𝓤 H A) (at-mem : Memory → SProp 𝓤) (run : Routine → Fun 𝓤) where
   push-on-walks : (C : Calls 𝓤 H) (Λ : Loops 𝓤 H) → FmC 𝓤 H (W .laws) C → Triple 𝓤 (C #push) (Push 𝓤 H A at-mem run) → Walks 𝓤 H A push-on.ended stayed (WpFn 𝓤 H C Λ code.function) (push-on.clauses 𝓤 H A at-mem run)
-  push-on-walks C Λ fm known = walked 𝓤 H A push-on.ended stayed (push-on.clauses 𝓤 H A at-mem run) (WpFn 𝓤 H C Λ code.function) (λ κs. (ptr-vals, (EL.vals Value.the-type Value′.the-laws, tt))) (λ κs. (mut-tells (named 0) (κs .0) T.the-row, (EL.tells Value.the-type Value′.the-laws, tt)))
+  push-on-walks C Λ fm known = walked 𝓤 H A push-on.ended stayed (push-on.clauses 𝓤 H A at-mem run) (WpFn 𝓤 H C Λ code.function) (λ κs. (ptr-vals, (EL.vals Value.the-type Value′.the-laws, tt)))
+      (λ κs. (mut-tells (named 0) (κs .0) T.the-row, (EL.tells Value.the-type Value′.the-laws, tt)))
       (λ κs qs bounds a _ are. via 𝓤 _ (fst∗ 𝓤 _ (emp 𝓤)) (walk 𝓤 H A W at-mem run (κs .0) (qs .0) (a .0 .ptr .0) (a .0 .ptr .1) (a .0 .name) (a .0 .now) (a .1 .0) (are .1 .0) C Λ fm known))
 
   goes : AllGo 𝓤 H A W 1 (push-on.signature .params) (push-on.ended .kept) stayed

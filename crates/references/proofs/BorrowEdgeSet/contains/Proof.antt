@@ -1,27 +1,20 @@
-use mathlib.Core.Path.{_≡_, refl, sym, _∙_}
-use mathlib.Core.Bool.{_||_}
-use Prim.Native.Nat.{_+_, _-_}
-use lib.ListN.{drop, getD}
+use mathlib.Core.Path.{_≡_, refl}
+use Prim.Native.Nat.{_-_}
+use lib.ListN.{drop}
+use Rattle.meaning.specs.Lists.{any}
 use Rattle.meaning.specs.References.{eqEdge, has}
 use Rattle.references.specs.Models.{edgeOf, edgesOf}
-use Rattle.references.specs.ModelLaws.{no-edge, set-step, set-end}
+use Rattle.references.specs.ModelLaws.{search-hit, search-on, search-over}
 use native.Mathlib.Omega.{arith}
 use borrow.Author.Needs.{needs}
 use Rattle.references.proofs.BorrowEdgeSet.contains.Statement.{statement}
 use Rattle.references.proofs.BorrowEdgeSet.contains.Tie as tie
 
 abbrev Inv-loop : tie.InvT-loop
-Inv-loop edge self n i₀ i = has (edgeOf edge) (drop i (edgesOf self)) ≡ has (edgeOf edge) (edgesOf self)
+Inv-loop edge self n i₀ i = any (eqEdge (edgeOf edge)) (drop i (edgesOf self)) ≡ any (eqEdge (edgeOf edge)) (edgesOf self)
 
 abbrev μ-loop : tie.MeasureT-loop
 μ-loop edge self n i₀ i = n - i
-
-turn : (c : tie.In-loop Inv-loop μ-loop) →
-    let s = c .before .before .before .args .t1 in
-    let e = edgeOf (c .before .before .before .args .edge) in
-    (eqEdge e (edgeOf (getD (s .edges) (c .before .loop .i) no-edge)) || has e (drop (c .before .loop .i + 1) (edgesOf s))) ≡ has e (edgesOf s)
-unfolding has
-turn c = rw (set-step (c .before .before .before .args .t1) (c .before .loop .i) (omega arith)) at (c .before .loop .inv)
 
 len-requires : tie.Need-len-requires Inv-loop μ-loop
 len-requires c κs = search needs
@@ -39,7 +32,11 @@ eq-requires : tie.Need-eq-requires Inv-loop μ-loop
 eq-requires c κs = search needs
 
 returns : tie.Need-returns Inv-loop μ-loop
-returns c = rw (sym (c .before .eq .ensures) ∙ c .if1 .taken) at (turn (c .before .before .before))
+unfolding has
+returns c =
+    let a = c .before .before .before .before .before .before .args in
+    let l = c .before .before .before .before .loop in
+    search-hit (eqEdge (edgeOf (a .edge))) (a .t1) (l .i) (l .inv) (omega arith) _ (c .before .eq .ensures) (c .if1 .taken)
 
 add-i : tie.Need-add-i Inv-loop μ-loop
 add-i c = omega arith
@@ -48,11 +45,17 @@ loop-less : tie.Need-loop-less Inv-loop μ-loop
 loop-less c = omega arith
 
 loop-again : tie.Need-loop-again Inv-loop μ-loop
-loop-again c = rw (sym (c .before .eq .ensures) ∙ c .if1 .left) at (turn (c .before .before .before))
+loop-again c =
+    let a = c .before .before .before .before .before .before .args in
+    let l = c .before .before .before .before .loop in
+    search-on (eqEdge (edgeOf (a .edge))) (a .t1) (l .i) (l .inv) (omega arith) _ (c .before .eq .ensures) (c .if1 .left)
 
 returns-2 : tie.Need-returns-2 Inv-loop μ-loop
 unfolding has
-returns-2 c = rw (set-end (c .before .before .before .args .t1) (c .before .loop .i) (omega arith)) at (c .before .loop .inv)
+returns-2 c =
+    let a = c .before .before .before .args in
+    let l = c .before .loop in
+    search-over (eqEdge (edgeOf (a .edge))) (a .t1) (l .i) (l .inv) (omega arith)
 
 pub contains-spec : {M : Type 1} → statement M
 contains-spec =

@@ -9,6 +9,7 @@ use Rattle.meaning.specs.Laws.Place.{spot-le, offer-blurred, offer-full, offer-
 use Rattle.paths.specs.Models.{pathOf}
 use Rattle.references.specs.Models.{edgeOf, edgesOf, setOf, candidateOf}
 use Rattle.paths.specs.ModelLaws.{path-short}
+use Rattle.references.specs.ModelLaws.{plain-set}
 use native.Mathlib.Omega.{arith}
 use borrow.Author.Needs.{needs}
 use Rattle.references.proofs.BorrowEdgeSet.insert.Statement.{statement}
@@ -28,7 +29,9 @@ blurred-requires c κs = search needs
 returns-2 : tie.Need-returns-2
 returns-2 c =
     let a = c .before .before .before .before .args in
-    answered (setOf (a .self)) (setOf (c .blurred .result)) _ (offer-full (setOf (a .self)) (c .before .before .before .if1 .left) (candidateOf (a .c)) (omega arith) ∙ ap {B = Ans EdgeSet} ok (sym (c .blurred .ensures)))
+    let s = setOf (a .self) in
+    let b = c .before .before .before .if1 .left in
+    answered s (setOf (c .blurred .result)) _ (offer-full s b (candidateOf (a .c)) (omega arith) ∙ ap {B = Ans EdgeSet} ok (sym (c .blurred .ensures)))
 
 contains-requires : tie.Need-contains-requires
 contains-requires c κs = search needs
@@ -36,10 +39,13 @@ contains-requires c κs = search needs
 returns-3 : tie.Need-returns-3
 returns-3 c =
     let a = c .before .before .before .before .before .before .before .args in
+    let e = a .c .edge in
+    let b = c .before .before .before .before .before .before .if1 .left in
     let h : length (edgesOf (a .self)) < 10 = omega arith in
-    let z : length (a .c .edge .path .labels) ≡ 8 = search needs in
-    let f : has (edgeOf (a .c .edge)) (edgesOf (a .self)) ≡ true = sym (c .before .contains .ensures) ∙ c .if4 .taken in
-    rw (c .before .before .before .if3 .taken) (answered (setOf (a .self)) (setOf (a .self)) _ (offer-present (setOf (a .self)) (c .before .before .before .before .before .before .if1 .left) h (edgeOf (a .c .edge)) (path-short (a .c .edge .path) z) f))
+    let z : length (e .path .labels) ≡ 8 = search needs in
+    let f : has (edgeOf e) (edgesOf (a .self)) ≡ true = sym (c .before .contains .ensures) ∙ c .if4 .taken in
+    rw (c .before .before .before .if3 .taken)
+    (answered (setOf (a .self)) (setOf (a .self)) _ (offer-present (setOf (a .self)) b h (edgeOf e) (path-short (e .path) z) f))
 
 spot-requires : tie.Need-spot-requires
 spot-requires c κs = search needs
@@ -52,13 +58,15 @@ put-at-requires c κs =
 returns-4 : tie.Need-returns-4
 returns-4 c =
     let a = c .before .before .before .before .before .before .before .before .before .args in
+    let e = a .c .edge in
     let b = c .before .before .before .before .before .before .before .before .if1 .left in
     let h : length (edgesOf (a .self)) < 10 = omega arith in
-    let z : length (a .c .edge .path .labels) ≡ 8 = search needs in
-    let f : has (edgeOf (a .c .edge)) (edgesOf (a .self)) ≡ false = sym (c .before .before .before .contains .ensures) ∙ c .before .before .if4 .left in
+    let z : length (e .path .labels) ≡ 8 = search needs in
+    let f : has (edgeOf e) (edgesOf (a .self)) ≡ false = sym (c .before .before .before .contains .ensures) ∙ c .before .before .if4 .left in
     let q = rw (c .before .spot .ensures) at (c .put-at .ensures .0) in
     rw (c .before .before .before .before .before .if3 .taken)
-    (answered (setOf (a .self)) (setOf (c .put-at .result)) _ (offer-new (setOf (a .self)) b h (edgeOf (a .c .edge)) (path-short (a .c .edge .path) z) f ∙ (λ i. ok (record { edges = sym q i; blurred = sym (c .put-at .ensures .1 ∙ b) i }))))
+    (answered (setOf (a .self)) (setOf (c .put-at .result)) _
+    (offer-new (setOf (a .self)) b h (edgeOf e) (path-short (e .path) z) f ∙ plain-set (c .put-at .result) _ q (c .put-at .ensures .1 ∙ b)))
 
 returns-5 : tie.Need-returns-5
 returns-5 c =

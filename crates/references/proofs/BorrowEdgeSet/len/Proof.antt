@@ -1,7 +1,7 @@
 use mathlib.Core.Path.{_≡_}
-use lib.ListN.{length, length-take, length-map}
+use lib.ListN.{length}
 use Rattle.meaning.specs.Laws.Array.{length-of-map}
-use Rattle.references.specs.Models.{edgesOf}
+use Rattle.references.specs.ModelLaws.{set-count}
 use native.Mathlib.Omega.{arith}
 use borrow.Author.Needs.{needs}
 use Rattle.references.proofs.BorrowEdgeSet.len.Statement.{statement}
@@ -11,16 +11,16 @@ cast-n : tie.Need-cast-n
 cast-n c = search needs
 
 returns : tie.Need-returns
-unfolding edgesOf
 returns c =
-    let h : length (c .before .before .args .self .edges) ≡ 10 = search length-of-map in
-    simp (length-map, length-take) (omega arith)
+    let s = c .before .before .args .self in
+    let h : length (s .edges) ≡ 10 = search length-of-map in
+    omega (arith, set-count s h)
 
 returns-2 : tie.Need-returns-2
-unfolding edgesOf
 returns-2 c =
-    let h : length (c .before .before .args .self .edges) ≡ 10 = search length-of-map in
-    simp (length-map, length-take) (omega arith)
+    let s = c .before .before .args .self in
+    let h : length (s .edges) ≡ 10 = search length-of-map in
+    omega (arith, set-count s h)
 
 pub len-spec : {M : Type 1} → statement M
 len-spec = tie.close (tie.spec cast-n returns returns-2)

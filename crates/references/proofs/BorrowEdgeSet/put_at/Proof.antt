@@ -54,8 +54,9 @@ loop-less c = omega arith
 loop-again : tie.Need-loop-again Inv-loop μ-loop
 loop-again c =
     let l = c .before .before .loop in
+    let s = c .before .before .before .before .before .args .t1 in
     let h : l .i + 1 < length (l .out) = omega arith in
-    (omega arith, simp length-set (l .inv .1), push-map edgeOf (l .out) (l .i + 1) (l .i + 1 + 1) _ _ refl h ∙ rw (set-step (c .before .before .before .before .before .args .t1) (l .i) (omega arith)) at (l .inv .2))
+    (omega arith, simp length-set (l .inv .1), push-map edgeOf (l .out) (l .i + 1) (l .i + 1 + 1) _ _ refl h ∙ rw (set-step s (l .i) (omega arith)) at (l .inv .2))
 
 add-t11 : tie.Need-add-t11 Inv-loop μ-loop
 add-t11 c = omega arith
@@ -72,7 +73,8 @@ returns c =
     let h : a .k < length (a .t1 .edges) = omega arith in
     let e : l .i + 1 ≡ n + 1 = omega arith in
     let q = rw (set-end (a .t1) (l .i) (omega arith), append-nil, e) at (l .inv .2) in
-    (set-made (l .out) (n + 1) (a .t1 .overflown) ∙ q ∙ push-map edgeOf (a .t1 .edges) (a .k) (a .k + 1) (a .edge) (drop (a .k) (edgesOf (a .t1))) refl h ∙ rw (set-front (a .t1) (a .k) (omega arith)) refl, refl)
+    let p = push-map edgeOf (a .t1 .edges) (a .k) (a .k + 1) (a .edge) (drop (a .k) (edgesOf (a .t1))) refl h in
+    (set-made (l .out) (n + 1) (a .t1 .overflown) ∙ q ∙ p ∙ rw (set-front (a .t1) (a .k) (omega arith)) refl, refl)
 
 pub put-at-spec : {M : Type 1} → statement M
 put-at-spec =

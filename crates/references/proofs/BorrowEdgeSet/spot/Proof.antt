@@ -20,11 +20,13 @@ abbrev μ-loop : tie.MeasureT-loop
 μ-loop edge self n i₀ i = n - i
 
 turn : (c : tie.In-loop Inv-loop μ-loop) →
-    let s = c .before .before .before .args .t1 in
-    let e = edgeOf (c .before .before .before .args .edge) in
+    let a = c .before .before .before .args in
+    let e = edgeOf (a .edge) in
     let i = c .before .loop .i in
-    i + cond (ltEdge e (edgeOf (getD (s .edges) i no-edge))) 0 (suc (Place.spot e (drop (i + 1) (edgesOf s)))) ≡ Place.spot e (edgesOf s)
-turn c = rw (set-step (c .before .before .before .args .t1) (c .before .loop .i) (omega arith)) at (c .before .loop .inv)
+    i + cond (ltEdge e (edgeOf (getD (a .t1 .edges) i no-edge))) 0 (suc (Place.spot e (drop (i + 1) (edgesOf (a .t1))))) ≡ Place.spot e (edgesOf (a .t1))
+turn c =
+    let l = c .before .loop in
+    rw (set-step (c .before .before .before .args .t1) (l .i) (omega arith)) at (l .inv)
 
 len-requires : tie.Need-len-requires Inv-loop μ-loop
 len-requires c κs = search needs
