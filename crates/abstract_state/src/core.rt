@@ -1,4 +1,4 @@
-// The calls that every entry point is made of. Of a state that has stopped each hands on the two numbers; what else it leaves is free.
+// The calls that every entry point is made of. Of a state that has stopped each hands on the number; what else it leaves is free.
 use crate::state::AbstractState;
 use crate::state::AbstractValue;
 use crate::state::Local;

@@ -13,10 +13,10 @@ pub struct Local {
     pub value: AbstractValue,
 }
 
-// A state stops at its first violation or refusal: one of the two is its number, and both are 0 while it goes on. A violation counts
-// before a refusal. The two numbers of a stopped state are handed on; what else it holds is free. `value` is what the last step
-// answered, if it answers a value, else free. What lies from `num_locals` on is free; a number beyond 16 reads as 16. The frame root has
-// the name `num_locals`, and `next_id` is the next fresh name.
+// A state stops at its first violation or refusal: one of the two is its number (the violation, where both are given), and both are 0
+// while it goes on. A stopped state's number is handed on; what else it holds is free. `value` is what the last step answered, if it
+// answers a value, else free. What lies from `num_locals` on is free; a number beyond 16 reads as 16. The frame root has the name
+// `num_locals`, and `next_id` is the next fresh name.
 pub struct AbstractState {
     pub violation: u8,
     pub refusal: u8,

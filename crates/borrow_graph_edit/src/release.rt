@@ -280,8 +280,8 @@ pub(crate) struct Touching {
     pub from: Side,
 }
 
-// What a release puts in, one edge or nothing, where it is `known` without the passes; else `one` and the ends are free. Where it puts in
-// nothing, the edge and its ends are free. A path of the edge has at most eight labels in any case.
+// What a release puts in, one edge or nothing, where it is `known` without the passes; else the other fields are free. Where it is
+// nothing, so are the edge and its ends.
 pub(crate) struct Bridge {
     pub known: bool,
     pub one: bool,
