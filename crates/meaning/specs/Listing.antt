@@ -1,11 +1,12 @@
 -- The listing of one routine (document 01, "Listing of one routine" and "Who can cause a refusal"): what its bytes mean, a routine, or a
 -- refusal with its number and place.
-use Prim.Native.Nat.{ℕ, _+_, _*_, zero, suc, _-_}
+use Prim.Native.Nat.{ℕ, _+_, _*_, zero, suc}
 use mathlib.Core.Bool.{Bool, cond, true, _&&_, false, Bool·beq, _||_, not}
 use mathlib.Core.List.{List, [], _∷_, _++_, map}
+use mathlib.Core.Option.{Option, none, some}
 use lib.Dec.{leb, eqb, ltb}
 use lib.ListN.{getD, length, take, drop}
-use Rattle.meaning.specs.Lists.{any, all, empty}
+use Rattle.meaning.specs.Lists.{any, all, empty, upTo}
 use Rattle.meaning.specs.AbstractState.{Token, ofValue, ofRef}
 use Rattle.meaning.specs.Steps.{Instr, Call, Pop, CopyLoc, MoveLoc, StLoc, FreezeRef, Compare, ReadRef, WriteRef, BorrowLoc, BorrowField, BorrowGlobal, MoveFrom, Ret, Values, MoveTo, VectorOp, BorrowElement, isRet}
 use Rattle.meaning.specs.Blocks.{Routine}
@@ -138,11 +139,6 @@ withinLimits (f ∷ fs) b = fieldWithin f b && withinLimits fs (drop (fieldWidth
 
 -- ---- what the bodies mean
 
--- f 0, f 1, .., n of them
-unfoldable pub series : {A : Type 0} → ℕ → (ℕ → A) → List A
-series zero f = []
-series (suc n) f = series n f ++ (f n ∷ [])
-
 -- 0 value, 1 reference, 2 mutable reference
 abbrev pub tokenAs : ℕ → Token
 tokenAs t = cond (eqb t 0) ofValue (ofRef (eqb t 2))
@@ -153,10 +149,10 @@ flagAt b i = eqb (getD b i 0) 1
 
 -- n tokens from a place on; n numbers
 abbrev pub tokensAt : List ℕ → ℕ → ℕ → List Token
-tokensAt b i n = series n (λ k. tokenAs (getD b (i + k) 0))
+tokensAt b i n = upTo n (λ k. tokenAs (getD b (i + k) 0))
 
 abbrev pub wordsAt : List ℕ → ℕ → ℕ → List ℕ
-wordsAt b i n = series n (λ k. u16At b (i + 2 * k))
+wordsAt b i n = upTo n (λ k. u16At b (i + 2 * k))
 
 -- kind 1
 abbrev pub paramsOf : List ℕ → List Token
@@ -178,31 +174,44 @@ callOf b =
     let n : ℕ = getD b 1 0 in
     Call (getD b 0 0) (wordsAt b 2 n) (tokensAt b (3 + 2 * n) (getD b (2 + 2 * n) 0))
 
--- kinds 10 to 27
-abbrev pub instructions : List ℕ → List Instr
+pub record Row : Type 0 where
+  pub kind : ℕ
+  pub instr : Instr
+
+abbrev pub row : ℕ → Instr → Row
+row k i = record { kind = k; instr = i }
+
+-- the instruction that a body is, kind by kind
+abbrev pub instructions : List ℕ → List Row
 instructions b =
-    Pop
-    ∷ CopyLoc (getD b 0 0)
-    ∷ MoveLoc (getD b 0 0)
-    ∷ StLoc (getD b 0 0)
-    ∷ FreezeRef
-    ∷ Compare
-    ∷ ReadRef
-    ∷ WriteRef
-    ∷ BorrowLoc (getD b 0 0) (flagAt b 1)
-    ∷ BorrowField (u16At b 0) (flagAt b 2)
-    ∷ BorrowGlobal (u16At b 0) (flagAt b 2)
-    ∷ MoveFrom (u16At b 0)
-    ∷ callOf b
-    ∷ Ret
-    ∷ Values (u16At b 0) (u16At b 2) (tokenAs (getD b 4 0))
-    ∷ MoveTo
-    ∷ VectorOp (getD b 0 0) (flagAt b 1) (getD b 2 0) (tokenAs (getD b 3 0))
-    ∷ BorrowElement (flagAt b 0)
+    row 10 Pop
+    ∷ row 11 (CopyLoc (getD b 0 0))
+    ∷ row 12 (MoveLoc (getD b 0 0))
+    ∷ row 13 (StLoc (getD b 0 0))
+    ∷ row 14 FreezeRef
+    ∷ row 15 Compare
+    ∷ row 16 ReadRef
+    ∷ row 17 WriteRef
+    ∷ row 18 (BorrowLoc (getD b 0 0) (flagAt b 1))
+    ∷ row 19 (BorrowField (u16At b 0) (flagAt b 2))
+    ∷ row 20 (BorrowGlobal (u16At b 0) (flagAt b 2))
+    ∷ row 21 (MoveFrom (u16At b 0))
+    ∷ row 22 (callOf b)
+    ∷ row 23 Ret
+    ∷ row 24 (Values (u16At b 0) (u16At b 2) (tokenAs (getD b 4 0)))
+    ∷ row 25 MoveTo
+    ∷ row 26 (VectorOp (getD b 0 0) (flagAt b 1) (getD b 2 0) (tokenAs (getD b 3 0)))
+    ∷ row 27 (BorrowElement (flagAt b 0))
     ∷ []
 
+-- the instruction of a kind's row; Pop, where it has none
+unfoldable pub instrIn : ℕ → List Row → Instr
+instrIn k [] = Pop
+instrIn k (r ∷ rs) = cond (eqb k (r .kind)) (r .instr) (instrIn k rs)
+
 unfoldable pub instrOf : ℕ → List ℕ → Instr
-instrOf k b = getD (instructions b) (k - 10) Pop
+unfolding instrIn
+instrOf k b = instrIn k (instructions b)
 
 -- ---- the records in turn
 
@@ -211,19 +220,19 @@ pub data Listed (A : Type 0) : Type 0 where
   refused : ℕ → ℕ → Listed A
 
 -- the number of the first test that fails, else what comes after it
-abbrev pub unless : Bool → ℕ → ℕ → ℕ
+abbrev pub unless : Bool → ℕ → Option ℕ → Option ℕ
 unless true n k = k
-unless false n k = n
+unless false n k = some n
 
--- the record at a place: 1, 2, 4, 3, 6; 0 if none of them
-unfoldable pub faultAt : List ℕ → ℕ → ℕ → ℕ
+-- the record at a place: 1, 2, 4, 3, 6, or none of them
+unfoldable pub faultAt : List ℕ → ℕ → ℕ → Option ℕ
 faultAt s l at =
     unless (wholeAt s at) 1
     (unless (kindInUse (kindAt s at)) 2
     (unless (Bool·beq (eqb (kindAt s at) 1) (eqb at 0)) 4
     (unless (fitsBody l (fieldsOf (kindAt s at)) (bodyAt s at)) 3
     (unless (withinLimits (fieldsOf (kindAt s at)) (bodyAt s at)) 6
-    0))))
+    none))))
 
 -- the places of the block records and of the instruction records so far
 pub record Places : Type 0 where
@@ -244,9 +253,9 @@ putAt k at w =
     (record { blocks = w .blocks ++ (at ∷ []); code = w .code })
     (record { blocks = w .blocks; code = w .code ++ (at ∷ []) }))
 
-abbrev pub ifFine : {A : Type 0} → ℕ → ℕ → Listed A → Listed A
-ifFine zero at k = k
-ifFine (suc n) at k = refused (suc n) at
+abbrev pub ifFine : {A : Type 0} → Option ℕ → ℕ → Listed A → Listed A
+ifFine none at k = k
+ifFine (some n) at k = refused n at
 
 abbrev pub ifNot : {A : Type 0} → Bool → ℕ → ℕ → Listed A → Listed A
 ifNot true n at k = refused n at

@@ -42,9 +42,9 @@ abbrev LowListed : {A : Type 0} → ℕ → (A → Type 0) → Listed A → Type
 LowListed m P (read a) = P a
 LowListed m P (S.refused n p) = p ≤ m
 
-low-fine : {A : Type 0} (m : ℕ) (P : A → Type 0) (x p : ℕ) (k : Listed A) → p ≤ m → LowListed m P k → LowListed m P (ifFine x p k)
-low-fine m P zero p k h l = l
-low-fine m P (suc x) p k h l = h
+low-fine : {A : Type 0} (m : ℕ) (P : A → Type 0) (x : Option ℕ) (p : ℕ) (k : Listed A) → p ≤ m → LowListed m P k → LowListed m P (ifFine x p k)
+low-fine m P none p k h l = l
+low-fine m P (some x) p k h l = h
 
 low-not : {A : Type 0} (m : ℕ) (P : A → Type 0) (b : Bool) (n p : ℕ) (k : Listed A) → p ≤ m → (b ≡ false → LowListed m P k) → LowListed m P (ifNot b n p k)
 low-not m P true n p k h l = h

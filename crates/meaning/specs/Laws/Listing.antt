@@ -4,17 +4,18 @@ use native.Mathlib.Omega.{arith}
 use mathlib.Core.Bool.{true, cond, false, Bool, false≢true, Bool·beq, _&&_, not, _||_, true≢false}
 use mathlib.Core.List.{List, _∷_, [], _++_, map}
 use mathlib.Core.Logic.{_≢_}
+use mathlib.Core.Option.{Option, none, some}
 use mathlib.Core.Path.{_≡_, refl, ap, subst, sym, _∙_}
 use borrow.Author.Tests.{le-leb, lt-leb, ltb-false, ltb-true, not-false}
 use native.Mathlib.Nat.{not-suc-le-zero, add-suc, suc-add, le-of-suc-le-suc}
 use lib.Dec.{leb, eqb, ltb}
 use lib.ListN.{length, drop, getD, take, length-append, List·getD-eq-default, length-take, length-drop, length-map}
 use lib.Seq.{getD-drop, drop-drop, getD-take}
-use Rattle.meaning.specs.Lists.{all, any, empty}
+use Rattle.meaning.specs.Lists.{all, any, empty, upTo}
 use Rattle.meaning.specs.Steps.{Pop, Instr, isRet}
 use Rattle.meaning.specs.Blocks.{instrsOf, Routine}
 use Rattle.meaning.specs.Loop.{Block, noBlock}
-use Rattle.meaning.specs.Listing.{kindAt, bodyAt, nextAt, localsOf, Listed, read, faultAt, Places, fullFor, putAt, ifFine, ifNot, placesFrom, unless, wholeAt, kindInUse, fieldsOf, fitsBody, withinLimits, Field, fieldWidth, fieldRight, fieldWithin, byte, word, words, tokens, frame, fieldsIn, isToken, refused, noPlaces, series, instructions, callOf, localIndex, tokenAs, instrOf, instrAt, firstOf, overlap, repeats, faultySuccessor, faultyBlock, endsBlock, strayRet, routineAt, readPlaces, afterRecords, readListing}
+use Rattle.meaning.specs.Listing.{kindAt, bodyAt, nextAt, localsOf, Listed, read, faultAt, Places, fullFor, putAt, ifFine, ifNot, placesFrom, unless, wholeAt, kindInUse, fieldsOf, fitsBody, withinLimits, Field, fieldWidth, fieldRight, fieldWithin, byte, word, words, tokens, frame, fieldsIn, isToken, refused, noPlaces, Row, instructions, callOf, localIndex, tokenAs, instrIn, instrOf, instrAt, firstOf, overlap, repeats, faultySuccessor, faultyBlock, endsBlock, strayRet, routineAt, readPlaces, afterRecords, readListing}
 use Rattle.meaning.specs.Laws.Base.{and-l, and-r, leb-le, and-i, all-append, leb-gt, eqb-eq, decide, eqb-ne}
 use Rattle.meaning.specs.Laws.Promised.{withinFrame, retsPlaced, promised}
 
@@ -53,9 +54,9 @@ module _ (s : List ℕ) (at : ℕ) (w : Places) where
 
 -- ---- a record that passed its tests
 
-unless-0 : (b : Bool) (n k : ℕ) → unless b (suc n) k ≡ 0 → (b ≡ true) × (k ≡ 0)
-unless-0 true n k e = (refl, e)
-unless-0 false n k e = absurd (omega arith)
+unless-none : (b : Bool) (n : ℕ) (k : Option ℕ) → unless b n k ≡ none → (b ≡ true) × (k ≡ none)
+unless-none true n k e = (refl, e)
+unless-none false n k e = let z : _≡_ {A = ℕ} 0 1 = cc in absurd (omega arith)
 
 beq-true : (a b : Bool) → Bool·beq a b ≡ true → a ≡ b
 beq-true true true e = refl
@@ -70,14 +71,14 @@ pub record Passed (s : List ℕ) (l at : ℕ) : Type 0 where
   pub fits : fitsBody l (fieldsOf (kindAt s at)) (bodyAt s at) ≡ true
   pub within : withinLimits (fieldsOf (kindAt s at)) (bodyAt s at) ≡ true
 
-pub passed : (s : List ℕ) (l at : ℕ) → faultAt s l at ≡ 0 → Passed s l at
+pub passed : (s : List ℕ) (l at : ℕ) → faultAt s l at ≡ none → Passed s l at
 unfolding faultAt
 passed s l at e =
-    let a = unless-0 (wholeAt s at) 0 _ e in
-    let b = unless-0 (kindInUse (kindAt s at)) 1 _ (a .1) in
-    let c = unless-0 (Bool·beq (eqb (kindAt s at) 1) (eqb at 0)) 3 _ (b .1) in
-    let d = unless-0 (fitsBody l (fieldsOf (kindAt s at)) (bodyAt s at)) 2 _ (c .1) in
-    let g = unless-0 (withinLimits (fieldsOf (kindAt s at)) (bodyAt s at)) 5 _ (d .1) in
+    let a = unless-none (wholeAt s at) 1 _ e in
+    let b = unless-none (kindInUse (kindAt s at)) 2 _ (a .1) in
+    let c = unless-none (Bool·beq (eqb (kindAt s at) 1) (eqb at 0)) 4 _ (b .1) in
+    let d = unless-none (fitsBody l (fieldsOf (kindAt s at)) (bodyAt s at)) 3 _ (c .1) in
+    let g = unless-none (withinLimits (fieldsOf (kindAt s at)) (bodyAt s at)) 6 _ (d .1) in
     record { whole = a .0; kind = b .0; first = beq-true (eqb (kindAt s at) 1) (eqb at 0) (c .0); fits = d .0; within = g .0 }
 
 -- a field after another
@@ -138,11 +139,19 @@ module _ (s : List ℕ) (l at : ℕ) (p : Passed s l at) where
 
 -- ---- what holds of the places that were read
 
+abbrev pub fine : Option ℕ → Bool
+fine none = true
+fine (some n) = false
+
+pub fine-none : (x : Option ℕ) → fine x ≡ true → x ≡ none
+fine-none none e = refl
+fine-none (some n) e = absurd (false≢true e)
+
 abbrev pub okBlock : List ℕ → ℕ → Bool
-okBlock s p = eqb (faultAt s (localsOf (bodyAt s 0)) p) 0 && eqb (kindAt s p) 2
+okBlock s p = fine (faultAt s (localsOf (bodyAt s 0)) p) && eqb (kindAt s p) 2
 
 abbrev pub okCode : List ℕ → ℕ → Bool
-okCode s p = eqb (faultAt s (localsOf (bodyAt s 0)) p) 0 && (not (eqb (kindAt s p) 1) && not (eqb (kindAt s p) 2))
+okCode s p = fine (faultAt s (localsOf (bodyAt s 0)) p) && (not (eqb (kindAt s p) 1) && not (eqb (kindAt s p) 2))
 
 pub record Good (s : List ℕ) (w : Places) : Type 0 where
   pub blocks : all (okBlock s) (w .blocks) ≡ true
@@ -153,9 +162,9 @@ pub record Good (s : List ℕ) (w : Places) : Type 0 where
 refused≢read : {A : Type 0} {n at : ℕ} {a : A} → refused n at ≡ read a → ⊥
 refused≢read e = let z : _≡_ {A = ℕ} 0 1 = cc in omega arith
 
-fine-read : {A : Type 0} (n at : ℕ) (k : Listed A) (a : A) → ifFine n at k ≡ read a → (n ≡ 0) × (k ≡ read a)
-fine-read zero at k a e = (refl, e)
-fine-read (suc n) at k a e = absurd (refused≢read e)
+fine-read : {A : Type 0} (x : Option ℕ) (at : ℕ) (k : Listed A) (a : A) → ifFine x at k ≡ read a → (x ≡ none) × (k ≡ read a)
+fine-read none at k a e = (refl, e)
+fine-read (some n) at k a e = absurd (refused≢read e)
 
 not-read : {A : Type 0} (b : Bool) (n at : ℕ) (k : Listed A) (a : A) → ifNot b n at k ≡ read a → (b ≡ false) × (k ≡ read a)
 not-read true n at k a e = absurd (refused≢read e)
@@ -164,19 +173,19 @@ not-read false n at k a e = (refl, e)
 pub read-inj : {A : Type 0} {a b : A} → read a ≡ read b → a ≡ b
 read-inj e = cc
 
-put-good : (s : List ℕ) (at : ℕ) (w : Places) → faultAt s (localsOf (bodyAt s 0)) at ≡ 0 → (a b : Bool) → eqb (kindAt s at) 1 ≡ a → eqb (kindAt s at) 2 ≡ b
+put-good : (s : List ℕ) (at : ℕ) (w : Places) → faultAt s (localsOf (bodyAt s 0)) at ≡ none → (a b : Bool) → eqb (kindAt s at) 1 ≡ a → eqb (kindAt s at) 2 ≡ b
     → cond a false (cond b (leb 16 (length (w .blocks))) (leb 512 (length (w .code)))) ≡ false → Good s w
     → Good s (cond a w (cond b (record { blocks = w .blocks ++ (at ∷ []); code = w .code }) (record { blocks = w .blocks; code = w .code ++ (at ∷ []) })))
 put-good s at w e true b p q h g = g
 put-good s at w e false true p q h g = record {
-  blocks = all-append (okBlock s) (w .blocks) (at ∷ []) (g .blocks) (and-i (and-i (ap (λ (n : ℕ). eqb n 0) e) q) refl);
+  blocks = all-append (okBlock s) (w .blocks) (at ∷ []) (g .blocks) (and-i (and-i (ap fine e) q) refl);
   code = g .code;
   few-blocks = let l : length (w .blocks) < 16 = leb-gt h in simp length-append (omega arith);
   few = g .few;
 }
 put-good s at w e false false p q h g = record {
   blocks = g .blocks;
-  code = all-append (okCode s) (w .code) (at ∷ []) (g .code) (and-i (and-i (ap (λ (n : ℕ). eqb n 0) e) (and-i (ap not p) (ap not q))) refl);
+  code = all-append (okCode s) (w .code) (at ∷ []) (g .code) (and-i (and-i (ap fine e) (and-i (ap not p) (ap not q))) refl);
   few-blocks = g .few-blocks;
   few = let l : length (w .code) < 512 = leb-gt h in simp length-append (omega arith);
 }
@@ -206,33 +215,25 @@ first-passed s v h e = passed s (localsOf (bodyAt s 0)) 0 (fine-read (faultAt s 
 pub first-kind : (s : List ℕ) (l : ℕ) → Passed s l 0 → kindAt s 0 ≡ 1
 first-kind s l p = eqb-eq (p .first)
 
--- ---- what holds of each number below n, shown one by one
-
-abbrev pub Every : (ℕ → Type 0) → ℕ → Type 0
-Every P zero = Unit {0}
-Every P (suc n) = Every P n × P n
-
-pub every-at : (P : ℕ → Type 0) (n : ℕ) → Every P n → (i : ℕ) → i < n → P i
-every-at P zero e i h = absurd (not-suc-le-zero h)
-every-at P (suc n) e i h =
-    decide (eqb i n)
-    (λ q. subst P (sym (eqb-eq q)) (e .1))
-    (λ q. let d : i ≢ n = eqb-ne q in every-at P n (e .0) i (omega arith))
-
 -- ---- a routine that was read meets what its run asks
 
-pub series-length : {A : Type 0} (n : ℕ) (f : ℕ → A) → length (series n f) ≡ n
-unfolding series
-series-length zero f = refl
-series-length (suc n) f = simp (length-append, series-length n f) (omega arith)
+pub upTo-length : {A : Type 0} (n : ℕ) (f : ℕ → A) → length (upTo n f) ≡ n
+unfolding upTo
+upTo-length zero f = refl
+upTo-length (suc n) f = ap suc (upTo-length n (λ i. f (suc i)))
 
--- the instructions that are no store and no call have nothing to meet
-abbrev Free : ℕ → Type 0
-Free j = (j ≡ 3 → ⊥) → (j ≡ 12 → ⊥) → (l : ℕ) (b : List ℕ) → withinFrame l (getD (instructions b) j Pop) ≡ true
+-- what holds of Pop, and of each row that is the kind's, holds of the kind's instruction
+abbrev pub Rows : (Instr → Type 0) → ℕ → List Row → Type 0
+Rows P k [] = Unit {0}
+Rows P k (r ∷ rs) = (k ≡ r .kind → P (r .instr)) × Rows P k rs
 
-free : Every Free 18
-unfolding callOf
-free = ((((((((((((((((((tt, λ a c l b. refl), λ a c l b. refl), λ a c l b. refl), λ a c l b. absurd (a refl)), λ a c l b. refl), λ a c l b. refl), λ a c l b. refl), λ a c l b. refl), λ a c l b. refl), λ a c l b. refl), λ a c l b. refl), λ a c l b. refl), λ a c l b. absurd (c refl)), λ a c l b. refl), λ a c l b. refl), λ a c l b. refl), λ a c l b. refl), λ a c l b. refl)
+pub by-row : (P : Instr → Type 0) (k : ℕ) (rs : List Row) → P Pop → Rows P k rs → P (instrIn k rs)
+unfolding instrIn
+by-row P k [] h w = h
+by-row P k (r ∷ rs) h w =
+    decide (eqb k (r .kind))
+    (λ e. rw e (w .0 (eqb-eq e)))
+    (λ e. rw e (by-row P k rs h (w .1)))
 
 module _ (s : List ℕ) (l at : ℕ) (p : Passed s l at) where
   store-local : kindAt s at ≡ 13 → ltb (getD (bodyAt s at) 0 0) l ≡ true
@@ -241,22 +242,18 @@ module _ (s : List ℕ) (l at : ℕ) (p : Passed s l at) where
       let f : fitsBody l (localIndex ∷ []) (bodyAt s at) ≡ true = (rw k at (p .fits)) in
       fits-cons l localIndex [] (bodyAt s at) f .1
 
-  -- a store's local is one, a call returns at most eight
-  code-fits : withinFrame l (instrAt s at) ≡ true
-  unfolding instrAt instrOf callOf
-  code-fits =
-      decide (eqb (kindAt s at) 13)
-      (λ q. let k : kindAt s at ≡ 13 = eqb-eq q in rw k (store-local k))
-      (λ q. decide (eqb (kindAt s at) 22)
-      (λ r. let k : kindAt s at ≡ 22 = eqb-eq r in
+  call-returns : kindAt s at ≡ 22 → withinFrame l (callOf (bodyAt s at)) ≡ true
+  unfolding callOf
+  call-returns k =
       let n : ℕ = getD (bodyAt s at) (2 + 2 * getD (bodyAt s at) 1 0) 0 in
-      rw k (rw (series-length n (λ j. tokenAs (getD (bodyAt s at) (3 + 2 * getD (bodyAt s at) 1 0 + j) 0))) (le-leb _ _ (call-limits s l at p k .1))))
-      (λ r. decide (leb 18 (kindAt s at - 10))
-      (λ h. let g : 18 ≤ kindAt s at - 10 = leb-le h in
-      ap (withinFrame l) (List·getD-eq-default (instructions (bodyAt s at)) Pop g))
-      (λ h. let a : kindAt s at ≢ 13 = eqb-ne q in
-      let b : kindAt s at ≢ 22 = eqb-ne r in
-      every-at Free 18 free (kindAt s at - 10) (leb-gt h) (λ e. a (omega arith)) (λ e. b (omega arith)) l (bodyAt s at))))
+      rw (upTo-length n (λ j. tokenAs (getD (bodyAt s at) (3 + 2 * getD (bodyAt s at) 1 0 + j) 0))) (le-leb _ _ (call-limits s l at p k .1))
+
+  -- a store's local is one, a call returns at most eight; no other kind has anything to meet
+  code-fits : withinFrame l (instrAt s at) ≡ true
+  unfolding instrAt instrOf
+  code-fits =
+      by-row (λ i. withinFrame l i ≡ true) (kindAt s at) (instructions (bodyAt s at)) refl
+      (λ _. refl, (λ _. refl, (λ _. refl, (λ k. store-local k, (λ _. refl, (λ _. refl, (λ _. refl, (λ _. refl, (λ _. refl, (λ _. refl, (λ _. refl, (λ _. refl, (λ k. call-returns k, (λ _. refl, (λ _. refl, (λ _. refl, (λ _. refl, (λ _. refl, tt))))))))))))))))))
 
 all-map : {A : Type 0} (p : ℕ → Bool) (f : A → Bool) (g : ℕ → A) → ((x : ℕ) → p x ≡ true → f (g x) ≡ true) → (xs : List ℕ) → all p xs ≡ true → all f (map g xs) ≡ true
 all-map p f g h [] e = refl
@@ -265,7 +262,7 @@ all-map p f g h (x ∷ xs) e = and-i (h x (and-l (p x) (all p xs) e)) (all-map p
 ok-fits : (s : List ℕ) (x : ℕ) → okCode s x ≡ true → withinFrame (localsOf (bodyAt s 0)) (instrAt s x) ≡ true
 ok-fits s x e =
     code-fits s (localsOf (bodyAt s 0)) x (passed s (localsOf (bodyAt s 0)) x
-    (eqb-eq (and-l (eqb (faultAt s (localsOf (bodyAt s 0)) x) 0) (not (eqb (kindAt s x) 1) && not (eqb (kindAt s x) 2)) e)))
+    (fine-none (faultAt s (localsOf (bodyAt s 0)) x) (and-l (fine (faultAt s (localsOf (bodyAt s 0)) x)) (not (eqb (kindAt s x) 1) && not (eqb (kindAt s x) 2)) e)))
 
 none-go : (p : ℕ → Bool) (i n k : ℕ) → i ≤ k → (x : Bool) → p i ≡ x → (r : ℕ) → (ltb r (i + suc n) ≡ false → suc i ≤ k → p k ≡ false)
     → ltb (cond x i r) (i + suc n) ≡ false → p k ≡ false
