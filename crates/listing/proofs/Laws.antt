@@ -1,28 +1,27 @@
 -- Laws of the rules on blocks and of the instructions of records.
 -- Assumes nothing.
 use mathlib.Core.Path.{_≡_, refl, sym, ap, _∙_, subst}
-use mathlib.Core.Logic.{_⊎_, inl, inr}
 use mathlib.Core.Bool.{Bool, true, false, not, _&&_, _||_}
 use mathlib.Core.List.{List, [], _∷_, map}
 use Prim.Native.Nat.{ℕ, zero, suc, _+_, _-_, _≤_, _<_}
 use native.Mathlib.Numerals.{add-one}
 use native.Mathlib.Omega.{arith}
-use lib.ListN.{length, take, drop, getD, length-take, List·getD-eq-default}
+use lib.ListN.{length, take, drop, getD, length-take, length-drop}
 use lib.Seq.{getD-take, take-take, take-nil}
 use lib.Dec.{leb, ltb, eqb, eqb·suc-zero}
 use borrow.Author.Tests.{lt-ltb, le-ltb, eq-eqb, ne-eqb}
-use Rattle.meaning.specs.Lists.{any, empty}
-use Rattle.meaning.specs.Laws.Base.{decide, leb-le, leb-gt, or-false}
+use Rattle.meaning.specs.Lists.{any, empty, upTo}
+use Rattle.meaning.specs.Laws.Base.{decide, eqb-eq, or-false}
 use Rattle.meaning.specs.Loop.{noBlock}
 use Rattle.meaning.specs.Loop as M
 use Rattle.meaning.specs.Steps as I
 use Rattle.meaning.specs.Steps.{isRet}
-use Rattle.meaning.specs.Listing.{series}
 use Rattle.meaning.specs.Listing as D
-use Rattle.meaning.specs.Laws.Listing.{Every, every-at}
+use Rattle.meaning.specs.Laws.Listing.{Rows, by-row, upTo-length}
+use Rattle.meaning.specs.Laws.Search.{search-at, search-end, array-at, array-end}
 use Rattle.listing.specs.declared.Block.{Block}
 use Rattle.listing.specs.Models.{blockOf, blocksIn, faultySuccessors}
-use Rattle.listing_records.proofs.Lists.{eqb-iff, or-true, map-take, any-stop, any-turn, any-end, counted, element, within-list}
+use Rattle.listing_records.proofs.Lists.{or-true, map-take, counted, element, within-list}
 
 -- ---- the blocks of an array
 
@@ -45,46 +44,61 @@ module _ (bs : List Block) (n : ℕ) (full : length bs ≡ 16) (few : n ≤ 16) 
   unfolding blocksIn
   block-part i h = sym (map-take blockOf i (take n bs)) ∙ ap (map blockOf) (take-take i n bs h)
 
+  -- a search through them
+  module _ {R : Type 0} (P : List M.Block → R) (i : ℕ) (r : R) (left : P (drop i (blocksIn bs n)) ≡ r) where
+    pub block-at : i < n → P (blockOf (getD bs i noneBlock) ∷ drop (i + 1) (blocksIn bs n)) ≡ r
+    unfolding blocksIn
+    block-at h = array-at blockOf P bs n fits i r left noneBlock h
+
+    pub block-end : n ≤ i → P [] ≡ r
+    unfolding blocksIn
+    block-end h = array-end blockOf P bs n fits i r left h
+
   module _ (p : M.Block → Bool) (r : Bool) (i : ℕ) where
     pub found : i < n → any p (drop i (blocksIn bs n)) ≡ r → p (blockOf (getD bs i noneBlock)) ≡ true → true ≡ r
-    found h e q = any-stop p noBlock (blocksIn bs n) r i (rw block-count h) e (rw (block-here i h) q)
+    found h e q = rw q at (block-at (any p) i r e h)
 
     pub passed : i < n → any p (drop i (blocksIn bs n)) ≡ r → p (blockOf (getD bs i noneBlock)) ≡ false → any p (drop (i + 1) (blocksIn bs n)) ≡ r
-    passed h e q = any-turn p noBlock (blocksIn bs n) r i (rw block-count h) e (rw (block-here i h) q)
+    passed h e q = rw q at (block-at (any p) i r e h)
 
     pub missed : n ≤ i → any p (drop i (blocksIn bs n)) ≡ r → false ≡ r
-    missed h e = any-end p (blocksIn bs n) r i (rw block-count h) e
+    missed h e = block-end (any p) i r e h
 
 pub no-successor : (n a b : ℕ) → empty (take n (a ∷ b ∷ [])) ≡ eqb n 0
 no-successor zero a b = refl
 no-successor (suc n) a b = sym (eqb·suc-zero n)
 
--- ---- the first number that passes a test
+-- ---- the first number that passes a test: a search through the numbers below n
 
 module _ (p : ℕ → Bool) (i n r : ℕ) where
-  step : i < n → n - i ≡ suc (n - (i + 1))
-  step h = omega arith
+  abbrev numbers : List ℕ
+  numbers = upTo n (λ k. k)
+
+  abbrev first : List ℕ → ℕ
+  first ks = D.firstOf p i (length ks)
+
+  count : (j : ℕ) → length (drop j numbers) ≡ n - j
+  count j = length-drop j numbers ∙ ap (λ (m : ℕ). m - j) (upTo-length n (λ k. k))
+
+  opened : D.firstOf p i (n - i) ≡ r → first (drop i numbers) ≡ r
+  opened e = ap (D.firstOf p i) (count i) ∙ e
+
+  at-first : i < n → D.firstOf p i (n - i) ≡ r → first (getD numbers i 0 ∷ drop (i + 1) numbers) ≡ r
+  at-first h e = search-at first numbers i r (opened e) 0 (omega (arith, upTo-length n (λ k. k)))
 
   pub first-stop : i < n → D.firstOf p i (n - i) ≡ r → p i ≡ true → i ≡ r
   unfolding D.firstOf
-  first-stop h e q = rw (step h, q) at e
+  first-stop h e q = rw q at (at-first h e)
 
   pub first-turn : i < n → D.firstOf p i (n - i) ≡ r → p i ≡ false → D.firstOf p (i + 1) (n - (i + 1)) ≡ r
   unfolding D.firstOf
-  first-turn h e q = subst (λ (j : ℕ). D.firstOf p j (n - (i + 1)) ≡ r) (sym (add-one i)) (rw (step h, q) at e)
+  first-turn h e q =
+      let t : D.firstOf p (suc i) (length (drop (i + 1) numbers)) ≡ r = rw q at (at-first h e) in
+      subst (λ (j : ℕ). D.firstOf p j (n - (i + 1)) ≡ r) (sym (add-one i)) (sym (ap (D.firstOf p (suc i)) (count (i + 1))) ∙ t)
 
   pub first-end : i ≡ n → D.firstOf p i (n - i) ≡ r → n ≡ r
   unfolding D.firstOf
-  first-end h e = let z : n - i ≡ 0 = omega arith in sym h ∙ (rw z at e)
-
--- a kind that no other instruction has is read as Pop
-pub pop-else : (k : ℕ) (b : List ℕ) → (k ≤ 10) ⊎ (28 ≤ k) → I.Instr.Pop ≡ D.instrOf k b
-unfolding D.instrOf
-pop-else k b (inl h) = let z : k - 10 ≡ 0 = omega arith in rw z
-pop-else k b (inr h) = sym (List·getD-eq-default (D.instructions b) I.Instr.Pop (past b k h))
-  where
-    past : (c : List ℕ) (j : ℕ) → 28 ≤ j → length (D.instructions c) ≤ j - 10
-    past c j g = omega arith
+  first-end h e = sym h ∙ search-end first numbers i r (opened e) (omega (arith, upTo-length n (λ k. k)))
 
 -- ---- the rules on blocks
 
@@ -137,35 +151,33 @@ module _ (bs : List Block) (n : ℕ) (full : length bs ≡ 16) (few : n ≤ 16) 
   unfolding D.faultyBlock
   faulty-eq = let w : i ≤ n = omega arith in rw (block-here bs n full few i here, block-part bs n full few i w)
 
-abbrev RetAt : ℕ → Type 0
-RetAt j = (b : List ℕ) → isRet (getD (D.instructions b) j I.Instr.Pop) ≡ eqb j 13
-
-ret-rows : Every RetAt 18
+-- the row of kind 23 is a Ret, and no other
+ret-rows : (k : ℕ) (b : List ℕ) → Rows (λ i. isRet i ≡ eqb k 23) k (D.instructions b)
 unfolding D.callOf
-ret-rows = ((((((((((((((((((tt, λ b. refl), λ b. refl), λ b. refl), λ b. refl), λ b. refl), λ b. refl), λ b. refl), λ b. refl), λ b. refl), λ b. refl), λ b. refl), λ b. refl), λ b. refl), λ b. refl), λ b. refl), λ b. refl), λ b. refl), λ b. refl)
+ret-rows k b = (λ e. rw e, (λ e. rw e, (λ e. rw e, (λ e. rw e, (λ e. rw e, (λ e. rw e, (λ e. rw e, (λ e. rw e, (λ e. rw e, (λ e. rw e, (λ e. rw e, (λ e. rw e, (λ e. rw e, (λ e. rw e, (λ e. rw e, (λ e. rw e, (λ e. rw e, (λ e. rw e, tt))))))))))))))))))
 
-pub is-ret : (k : ℕ) (b : List ℕ) → isRet (D.instrOf k b) ≡ eqb k 23
-unfolding D.instrOf
-is-ret k b = row (k - 10) ∙ eqb-iff (k - 10) 13 k 23 (λ h. omega arith) (λ h. omega arith)
-  where
-    row : (j : ℕ) → isRet (getD (D.instructions b) j I.Instr.Pop) ≡ eqb j 13
-    row j =
-        decide (leb 18 j)
-        (λ h. let g : 18 ≤ j = leb-le h in
-        ap isRet (List·getD-eq-default (D.instructions b) I.Instr.Pop g) ∙ sym (ne-eqb j 13 (λ e. omega arith)))
-        (λ h. let g : j < 18 = leb-gt h in every-at RetAt 18 ret-rows j g b)
+is-ret : (k : ℕ) (b : List ℕ) → isRet (D.instrOf k b) ≡ eqb k 23
+unfolding D.instrOf D.instrIn
+is-ret k b =
+    decide (eqb k 23)
+    (λ e. let q : k ≡ 23 = eqb-eq e in rw q)
+    (λ e. by-row (λ i. isRet i ≡ eqb k 23) k (D.instructions b) (sym e) (ret-rows k b))
+
+ret-at : (s : List ℕ) (p : ℕ) → isRet (D.instrAt s p) ≡ eqb (D.kindAt s p) 23
+unfolding D.instrAt
+ret-at s p = is-ret (D.kindAt s p) (D.bodyAt s p)
 
 module _ (s : List ℕ) (code : List ℕ) (m : ℕ) (fits : m ≤ length code) (bs : List M.Block) (k : ℕ) (here : k < m) where
   pub stray-eq : D.strayRet (map (D.instrAt s) (take m code)) bs k ≡ eqb (D.kindAt s (getD code k 0)) 23 && not (D.endsBlock bs k)
-  unfolding D.strayRet D.instrAt
+  unfolding D.strayRet
   stray-eq =
       let l : k < length (take m code) = simp length-take (omega arith) in
-      rw (within-list (D.instrAt s) 0 I.Instr.Pop (take m code) k l, getD-take m code k 0 here, is-ret)
+      rw (within-list (D.instrAt s) 0 I.Instr.Pop (take m code) k l, getD-take m code k 0 here, ret-at)
 
 -- ---- blocks out of their records
 
-pub two-words : (n : ℕ) (f : ℕ → ℕ) → n ≤ 2 → take n (f 0 ∷ f 1 ∷ []) ≡ series n f
-unfolding series
+pub two-words : (n : ℕ) (f : ℕ → ℕ) → n ≤ 2 → take n (f 0 ∷ f 1 ∷ []) ≡ upTo n f
+unfolding upTo
 two-words zero f h = refl
 two-words (suc zero) f h = refl
 two-words (suc (suc zero)) f h = refl

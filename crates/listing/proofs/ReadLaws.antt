@@ -3,25 +3,26 @@
 use mathlib.Core.Path.{_≡_, refl, sym, ap, _∙_}
 use mathlib.Core.Bool.{Bool, true, false, not, _&&_}
 use mathlib.Core.List.{List, [], _∷_, map}
+use mathlib.Core.Option.{none}
 use Prim.Native.Nat.{ℕ, zero, suc, _+_, _*_, _≤_, _<_}
 use native.Mathlib.Omega.{arith}
 use lib.ListN.{length, take, getD}
 use lib.Seq.{getD-take}
 use lib.Dec.{ltb, eqb, eqb·suc-zero}
 use borrow.Author.Tests.{lt-ltb, le-ltb, eq-eqb, ne-eqb}
-use Rattle.meaning.specs.Lists.{all, empty}
+use Rattle.meaning.specs.Lists.{all, empty, upTo}
 use Rattle.meaning.specs.Laws.Base.{decide, and-l, and-r, eqb-eq, le-leb, all-imp}
 use Rattle.meaning.specs.AbstractState.{Token}
 use Rattle.meaning.specs.Loop as M
 use Rattle.meaning.specs.Steps as I
 use Rattle.meaning.specs.Blocks as Q
 use Rattle.meaning.specs.Listing as D
-use Rattle.meaning.specs.Laws.Listing.{passed, two-successors, call-limits, frame-limits, okBlock, okCode, Good, places-good, none-good, first-passed, first-kind, read-places}
+use Rattle.meaning.specs.Laws.Listing.{fine, fine-none, passed, two-successors, call-limits, frame-limits, okBlock, okCode, Good, places-good, none-good, first-passed, first-kind, read-places}
 use Rattle.listing_records.specs.declared.Places.{Places}
 use Rattle.listing.specs.declared.Listed.{Listed}
 use Rattle.listing.specs.Models.{callFor, decodedAt, twoAt, Sound, ruledPlaces, bytesAt, listedOf}
 use Rattle.listing_records.specs.Models.{placesIn, placesOf}
-use Rattle.listing_records.proofs.Lists.{counted, map-series}
+use Rattle.listing_records.proofs.Lists.{counted, map-upTo}
 
 -- ---- number 5
 
@@ -76,7 +77,7 @@ routine-eq ps qs l k r t bs cs is js a b c d e = λ i. record { params = a i; lo
 
 pub params-eq : (head ps : List ℕ) (n : ℕ) → n ≡ getD head 0 0 → take n ps ≡ bytesAt head 2 n → map D.tokenAs (take n ps) ≡ D.paramsOf head
 params-eq head ps n e h =
-    ap (map D.tokenAs) h ∙ map-series D.tokenAs n (λ k. getD head (2 + k) 0) ∙ ap (λ (j : ℕ). D.series j (λ k. D.tokenAs (getD head (2 + k) 0))) e
+    ap (map D.tokenAs) h ∙ map-upTo D.tokenAs n (λ k. getD head (2 + k) 0) ∙ ap (λ (j : ℕ). upTo j (λ k. D.tokenAs (getD head (2 + k) 0))) e
 
 -- ---- what is known of the places
 
@@ -96,9 +97,9 @@ unfolding callFor
 call-same b h k = rw (le-leb h, le-leb k)
 
 decoded-same : (s : List ℕ) (p : ℕ) → okCode s p ≡ true → decodedAt s p ≡ D.instrAt s p
-unfolding decodedAt D.instrAt D.instrOf
+unfolding decodedAt D.instrAt D.instrOf D.instrIn
 decoded-same s p e =
-    let f : D.faultAt s (D.localsOf (D.bodyAt s 0)) p ≡ 0 = eqb-eq (and-l (eqb (D.faultAt s (D.localsOf (D.bodyAt s 0)) p) 0) (not (eqb (D.kindAt s p) 1) && not (eqb (D.kindAt s p) 2)) e) in
+    let f : D.faultAt s (D.localsOf (D.bodyAt s 0)) p ≡ none = fine-none _ (and-l (fine (D.faultAt s (D.localsOf (D.bodyAt s 0)) p)) (not (eqb (D.kindAt s p) 1) && not (eqb (D.kindAt s p) 2)) e) in
     decide (eqb (D.kindAt s p) 22)
     (λ q. let k : D.kindAt s p ≡ 22 = eqb-eq q in
     let c = call-limits s (D.localsOf (D.bodyAt s 0)) p (passed s (D.localsOf (D.bodyAt s 0)) p f) k in
@@ -108,9 +109,9 @@ decoded-same s p e =
 
 two-of : (s : List ℕ) (p : ℕ) → okBlock s p ≡ true → twoAt s p ≡ true
 two-of s p e =
-    let a : Bool = eqb (D.faultAt s (D.localsOf (D.bodyAt s 0)) p) 0 in
+    let a : Bool = fine (D.faultAt s (D.localsOf (D.bodyAt s 0)) p) in
     let b : Bool = eqb (D.kindAt s p) 2 in
-    let f : D.faultAt s (D.localsOf (D.bodyAt s 0)) p ≡ 0 = eqb-eq (and-l a b e) in
+    let f : D.faultAt s (D.localsOf (D.bodyAt s 0)) p ≡ none = fine-none _ (and-l a b e) in
     le-leb (two-successors s (D.localsOf (D.bodyAt s 0)) p (passed s (D.localsOf (D.bodyAt s 0)) p f) (eqb-eq (and-r a b e)))
 
 module _ (s : List ℕ) (w : Places) (number : w .number ≡ 0) (told : placesOf w ≡ D.readPlaces s) (few-blocks : w .«block_count» ≤ 16) (few : w .«code_count» ≤ 512) where

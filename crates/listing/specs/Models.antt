@@ -5,7 +5,7 @@ use mathlib.Core.Bool.{Bool, true, false, _&&_, _||_}
 use mathlib.Core.List.{List, [], _∷_, map}
 use lib.ListN.{length, getD, take}
 use lib.Dec.{leb, eqb}
-use Rattle.meaning.specs.Lists.{all, any}
+use Rattle.meaning.specs.Lists.{all, any, upTo}
 use Rattle.meaning.specs.AbstractState.{Token}
 use Rattle.meaning.specs.Steps as I
 use Rattle.meaning.specs.Loop as M
@@ -23,7 +23,7 @@ use Rattle.listing.specs.declared.Listed.{Listed}
 -- ---- instructions
 
 abbrev pub bytesAt : List ℕ → ℕ → ℕ → List ℕ
-bytesAt b i n = D.series n (λ k. getD b (i + k) 0)
+bytesAt b i n = upTo n (λ k. getD b (i + k) 0)
 
 abbrev pub withParts : List ℕ → List Token → Instruction → I.Instr
 withParts a t Pop = I.Instr.Pop
@@ -59,7 +59,8 @@ pickInstr false a b = b
 unfoldable pub callFor : List ℕ → I.Instr
 callFor b = pickInstr (leb (getD b 1 0) 16 && leb (getD b (2 + 2 * getD b 1 0) 0) 8) (D.callOf b) I.Instr.Pop
 
--- the instruction of the record at a place; Pop, where there is none, or a call beyond the limits
+-- The instruction that decoding answers for a place, whatever stands there: that of the kind and the body, where a byte past the end is 0 and
+-- the body of no whole record is empty; Pop for a kind without an instruction, and for a call beyond the limits.
 unfoldable pub decodedAt : List ℕ → ℕ → I.Instr
 decodedAt s at = pickInstr (eqb (D.kindAt s at) 22) (callFor (D.bodyAt s at)) (D.instrOf (D.kindAt s at) (D.bodyAt s at))
 

@@ -51,7 +51,7 @@ pub struct Decoded {
 }
 
 // 0 value, 1 reference, 2 mutable reference. (No other number stands in a listing that was read.)
-pub fn token_of(n: u8) -> SignatureToken
+fn token_of(n: u8) -> SignatureToken
     ensures { λ r. ⌜ tokenOf r ≡ tokenAs n ⌝ }
 {
     match n {
@@ -169,7 +169,8 @@ fn decode_call(b: &[u8]) -> Decoded
     }
 }
 
-// The instruction of the record that starts at a place of a listing; Pop where no instruction record within the limits does.
+// The instruction of the record that starts at a place of a listing that was read. At any other place of any bytes: what its kind and its body
+// say, bytes past the end being 0 and the body of no whole record empty; Pop for a kind without an instruction and a call beyond the limits.
 pub fn decode(s: &[u8], at: u16) -> Decoded
     ensures { λ r. ⌜ decodedOf r ≡ decodedAt (now (s .entry)) at ⌝ }
 {

@@ -1,5 +1,6 @@
 // The rules on blocks and on Ret (refusal 5).
 use crate::Block;
+use file_format::CodeOffset;
 use listing_records::place;
 use listing_records::u16_at;
 ghost use mathlib.Core.Path.{_≡_};
@@ -11,14 +12,14 @@ ghost use Rattle.meaning.specs.Listing.{overlap, entryIn, endsBlock, faultySucc
 ghost use Rattle.listing.specs.Models.{blockOf, blocksIn, faultySuccessors};
 
 // That a block listed at `from` or later has this entry.
-fn entry_from(blocks: [Block; 16], n: usize, from: usize, entry: u16) -> bool
+fn entry_from(blocks: [Block; 16], n: usize, from: usize, entry: CodeOffset) -> bool
     requires { ⌜ n ≤ 16 ⌝ }
-    ensures { λ r. ⌜ r ≡ entryIn (drop from (blocksIn blocks n)) entry ⌝ }
+    ensures { λ r. ⌜ r ≡ entryIn (drop from (blocksIn blocks n)) (entry .0) ⌝ }
 {
     let mut i = from;
     while i < n {
         let b = blocks[i];
-        if entry == b.entry.0 {
+        if entry.0 == b.entry.0 {
             return true;
         }
         i += 1;
@@ -43,14 +44,14 @@ fn overlaps(blocks: [Block; 16], n: usize, b: Block) -> bool
 }
 
 // That a successor of the block at `i` is no block's entry, or above the block's own and not listed later.
-fn faulty_successor(blocks: [Block; 16], n: usize, i: usize, b: Block, e: u16) -> bool
+fn faulty_successor(blocks: [Block; 16], n: usize, i: usize, b: Block, e: CodeOffset) -> bool
     requires { ⌜ (n ≤ 16) × (i < n) ⌝ }
-    ensures { λ r. ⌜ r ≡ faultySuccessor (blocksIn blocks n) i (blockOf b) e ⌝ }
+    ensures { λ r. ⌜ r ≡ faultySuccessor (blocksIn blocks n) i (blockOf b) (e .0) ⌝ }
 {
     if !entry_from(blocks, n, 0, e) {
         return true;
     }
-    if e <= b.entry.0 {
+    if e.0 <= b.entry.0 {
         return false;
     }
     !entry_from(blocks, n, i + 1, e)
@@ -64,15 +65,15 @@ fn faulty_successors(blocks: [Block; 16], n: usize, i: usize, b: Block) -> bool
     if count == 0 {
         return false;
     }
-    let e = b.first.0;
+    let e = b.first;
     if faulty_successor(blocks, n, i, b, e) {
         return true;
     }
     if count == 1 {
         return false;
     }
-    let f = b.second.0;
-    if e == f {
+    let f = b.second;
+    if e.0 == f.0 {
         return true;
     }
     faulty_successor(blocks, n, i, b, f)
@@ -84,11 +85,10 @@ fn faulty_block(blocks: [Block; 16], n: usize, i: usize, code_count: usize) -> b
     ensures { λ r. ⌜ r ≡ faultyBlock «code_count» (blocksIn blocks n) i ⌝ }
 {
     let b = blocks[i];
-    let entry = b.entry.0;
-    if (i == 0) & (entry != 0) {
+    if (i == 0) & (b.entry.0 != 0) {
         return true;
     }
-    if b.exit.0 < entry {
+    if b.exit.0 < b.entry.0 {
         return true;
     }
     if code_count <= b.exit.0 as usize {
@@ -116,14 +116,14 @@ pub(crate) fn first_faulty(blocks: [Block; 16], n: usize, code_count: usize) -> 
 }
 
 // That an instruction is the exit of a block without successors.
-fn ends_block(blocks: [Block; 16], n: usize, k: usize) -> bool
+fn ends_block(blocks: [Block; 16], n: usize, k: CodeOffset) -> bool
     requires { ⌜ n ≤ 16 ⌝ }
-    ensures { λ r. ⌜ r ≡ endsBlock (blocksIn blocks n) k ⌝ }
+    ensures { λ r. ⌜ r ≡ endsBlock (blocksIn blocks n) (k .0) ⌝ }
 {
     let mut i: usize = 0;
     while i < n {
         let b = blocks[i];
-        if (k == b.exit.0 as usize) & (b.count == 0) {
+        if (k.0 == b.exit.0) & (b.count == 0) {
             return true;
         }
         i += 1;
@@ -146,7 +146,7 @@ pub(crate) fn first_stray(
     while k < m {
         let start = place(code[k]);
         if u16_at(s, start + 2) == 23 {
-            if !ends_block(blocks, n, k) {
+            if !ends_block(blocks, n, CodeOffset(k as u16)) {
                 return k;
             }
         }

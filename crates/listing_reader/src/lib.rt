@@ -6,8 +6,8 @@ use listing_records::body;
 use listing_records::read;
 ghost use mathlib.Core.Path.{_≡_};
 ghost use Rattle.meaning.specs.Listing.{bodyAt};
-ghost use Rattle.listing_records.specs.Models.{readAt};
-ghost use Rattle.listing_reader.specs.Models.{stepAt, onward};
+ghost use Rattle.listing_records.specs.Models.{foundOf, foundAt};
+ghost use Rattle.listing_reader.specs.Models.{StepFor, onward};
 
 pub struct Reader<'a> {
     pub listing: &'a [u8],
@@ -21,7 +21,7 @@ struct Step {
 }
 
 fn step_at(listing: &[u8], at: usize) -> Step
-    ensures { λ r. ⌜ r ≡ stepAt (now (listing .entry)) at ⌝ }
+    ensures { λ r. ⌜ StepFor (now (listing .entry)) at r ⌝ }
 {
     let found = read(listing, Cursor { at });
     match found {
@@ -46,7 +46,7 @@ impl<'a> Reader<'a> {
 
     // The next record; the reader moves on to the one after it, and stays where there is none.
     pub fn next(&mut self) -> Found
-        ensures { λ r. ⌜ (r ≡ readAt (now (now (self .entry) .listing)) (now (self .entry) .at)) × (now (self .exit) ≡ onward (now (self .entry))) ⌝ }
+        ensures { λ r. ⌜ (foundOf (now (self .entry) .at) r ≡ foundAt (now (now (self .entry) .listing)) (now (self .entry) .at)) × (now (self .exit) ≡ onward (now (self .entry))) ⌝ }
     {
         let s = step_at(self.listing, self.at);
         self.at = s.at;

@@ -3,6 +3,7 @@
 use mathlib.Core.Path.{_≡_, refl, sym, ap, _∙_}
 use mathlib.Core.Bool.{Bool, true, false, not, _&&_, _||_, cond, and-assoc, and-true, Bool·beq}
 use mathlib.Core.List.{List, [], _∷_}
+use mathlib.Core.Option.{Option, none, some}
 use Prim.Native.Nat.{ℕ, zero, suc, _+_, _*_, _-_, _/_, _%_, _≤_, _<_}
 use native.Mathlib.Numerals.{add-one}
 use native.Mathlib.Omega.{arith}
@@ -11,14 +12,15 @@ use lib.Seq.{drop-drop, take-suc-set, take-all, length-take-le}
 use lib.Dec.{leb, ltb, eqb}
 use borrow.Author.Tests.{lt-leb, lt-ltb, le-ltb, eq-eqb, ne-eqb, ltb-true, ltb-false, not-false}
 use Rattle.meaning.specs.Lists.{all, empty}
-use Rattle.meaning.specs.Laws.Base.{decide, leb-le, le-leb, and-i, and-l, and-r, not-true}
+use Rattle.meaning.specs.Laws.Base.{decide, leb-le, leb-gt, le-leb, and-i, and-l, and-r, not-true}
 use Rattle.meaning.specs.Listing as D
 use Rattle.meaning.specs.Laws.Listing.{places-step}
 use Rattle.listing_records.specs.declared.Cursor.{Cursor}
+use Rattle.listing_records.specs.declared.Found.{Found}
 use Rattle.listing_records.specs.declared.Found.the-variants.{Record, Short, End}
 use Rattle.listing_records.specs.declared.Test.{Test}
 use Rattle.listing_records.specs.declared.Places.{Places}
-use Rattle.listing_records.specs.Models.{fieldList, fieldOf, packed, limitOf, pickRead, readAt, bodyFault, Tested, placesOf}
+use Rattle.listing_records.specs.Models.{fieldList, fieldOf, packed, limitOf, faultOf, Head, foundOf, foundAt, bodyFault, Tested, fullOf, placesOf}
 use Rattle.listing_records.proofs.Lists.{or-none, leb-iff}
 
 -- ---- fields
@@ -203,56 +205,59 @@ unused-kind k a b far = unused k D.shapes tests
 absent : {n : ℕ} {A : Type 0} → suc n ≡ 0 → A
 absent e = absurd (omega arith)
 
-module _ (s : List ℕ) (at : ℕ) where
-  pub record-inv : (k : ℕ) (n : Cursor) → readAt s at ≡ Record k n → (D.wholeAt s at ≡ true) × (k ≡ D.kindAt s at) × (n .at ≡ D.nextAt s at)
-  unfolding readAt
-  record-inv k n e = go (leb (length s) at) (D.wholeAt s at) e
+-- what was found, known by its constructor
+module _ (s : List ℕ) (at : ℕ) (f : Found) (told : foundOf at f ≡ foundAt s at) where
+  abbrev choice : Bool → Bool → D.Listed (Option Head)
+  choice a w = cond a (D.Listed.read none) (D.ifNot (not w) 1 at (D.Listed.read (some (record { kind = D.kindAt s at; next = D.nextAt s at }))))
+
+  pub record-inv : (k : ℕ) (n : Cursor) → f ≡ Record k n → (D.wholeAt s at ≡ true) × (k ≡ D.kindAt s at) × (n .at ≡ D.nextAt s at)
+  unfolding foundAt
+  record-inv k n e = go (leb (length s) at) (D.wholeAt s at) (sym (ap (foundOf at) e) ∙ told)
     where
-      go : (a w : Bool) → pickRead a End (pickRead w (Record (D.kindAt s at) (record { at = D.nextAt s at })) Short) ≡ Record k n
-          → (w ≡ true) × (k ≡ D.kindAt s at) × (n .at ≡ D.nextAt s at)
+      go : (a w : Bool) → D.Listed.read (some (record { kind = k; next = n .at })) ≡ choice a w → (w ≡ true) × (k ≡ D.kindAt s at) × (n .at ≡ D.nextAt s at)
       go true w q = let z : _≡_ {A = ℕ} 0 1 = cc in absurd (omega arith)
       go false true q =
-          let x : k ≡ D.kindAt s at = cc in
-          let y : n ≡ record { at = D.nextAt s at } = cc in
-          (refl, x, ap (λ (c : Cursor). c .at) y)
+          let h : _≡_ {A = Head} (record { kind = k; next = n .at }) (record { kind = D.kindAt s at; next = D.nextAt s at }) = cc in
+          (refl, ap (λ (x : Head). x .kind) h, ap (λ (x : Head). x .next) h)
       go false false q = let z : _≡_ {A = ℕ} 0 1 = cc in absurd (omega arith)
 
-  pub short-inv : readAt s at ≡ Short → D.wholeAt s at ≡ false
-  unfolding readAt
-  short-inv e = go (leb (length s) at) (D.wholeAt s at) e
+  pub short-inv : f ≡ Short → D.wholeAt s at ≡ false
+  unfolding foundAt
+  short-inv e = go (leb (length s) at) (D.wholeAt s at) (sym (ap (foundOf at) e) ∙ told)
     where
-      go : (a w : Bool) → pickRead a End (pickRead w (Record (D.kindAt s at) (record { at = D.nextAt s at })) Short) ≡ Short → w ≡ false
+      go : (a w : Bool) → D.Listed.refused 1 at ≡ choice a w → w ≡ false
       go true w q = let z : _≡_ {A = ℕ} 0 1 = cc in absurd (omega arith)
       go false true q = let z : _≡_ {A = ℕ} 0 1 = cc in absurd (omega arith)
       go false false q = refl
 
-  pub end-inv : readAt s at ≡ End → D.wholeAt s at ≡ false
-  unfolding readAt D.wholeAt
-  end-inv e = go (leb (length s) at) refl (D.wholeAt s at) e
+  pub end-inv : f ≡ End → D.wholeAt s at ≡ false
+  unfolding foundAt D.wholeAt
+  end-inv e = go (leb (length s) at) refl (D.wholeAt s at) (sym (ap (foundOf at) e) ∙ told)
     where
-      go : (a : Bool) → leb (length s) at ≡ a → (w : Bool) → pickRead a End (pickRead w (Record (D.kindAt s at) (record { at = D.nextAt s at })) Short) ≡ End → leb (at + 4 + D.u16At s at) (length s) ≡ false
+      go : (a : Bool) → leb (length s) at ≡ a → (w : Bool) → D.Listed.read none ≡ choice a w → leb (at + 4 + D.u16At s at) (length s) ≡ false
       go true h w q = let l : length s ≤ at = leb-le h in let d : length s < at + 4 + D.u16At s at = omega arith in lt-leb _ _ d
       go false h true q = let z : _≡_ {A = ℕ} 0 1 = cc in absurd (omega arith)
       go false h false q = let z : _≡_ {A = ℕ} 0 1 = cc in absurd (omega arith)
 
+module _ (s : List ℕ) (at : ℕ) where
   module _ (l : ℕ) where
-    pub refused-test : (r : Test) (n : ℕ) → r .number ≡ suc n → D.faultAt s l at ≡ suc n → Tested s l at r
+    pub refused-test : (r : Test) (n : ℕ) → r .number ≡ suc n → D.faultAt s l at ≡ some (suc n) → Tested s l at r
     refused-test r n e f = record {
-      number = e ∙ sym f;
+      number = ap faultOf e ∙ sym f;
       kind = λ h. absent (sym e ∙ h);
       next = λ h. absent (sym e ∙ h);
       inside = λ h. absent (sym e ∙ h);
     }
 
-    pub fault-1 : D.wholeAt s at ≡ false → D.faultAt s l at ≡ 1
+    pub fault-1 : D.wholeAt s at ≡ false → D.faultAt s l at ≡ some 1
     unfolding D.faultAt
     fault-1 w = rw w
 
-    pub fault-2 : D.wholeAt s at ≡ true → D.kindInUse (D.kindAt s at) ≡ false → D.faultAt s l at ≡ 2
+    pub fault-2 : D.wholeAt s at ≡ true → D.kindInUse (D.kindAt s at) ≡ false → D.faultAt s l at ≡ some 2
     unfolding D.faultAt
     fault-2 w k = rw (w, k)
 
-    pub fault-4 : D.wholeAt s at ≡ true → D.kindInUse (D.kindAt s at) ≡ true → Bool·beq (eqb (D.kindAt s at) 1) (eqb at 0) ≡ false → D.faultAt s l at ≡ 4
+    pub fault-4 : D.wholeAt s at ≡ true → D.kindInUse (D.kindAt s at) ≡ true → Bool·beq (eqb (D.kindAt s at) 1) (eqb at 0) ≡ false → D.faultAt s l at ≡ some 4
     unfolding D.faultAt
     fault-4 w k b = rw (w, k, b)
 
@@ -284,9 +289,17 @@ places-refused r n at e p h =
     let q : eqb (r .number) 0 ≡ false = rw e (ne-eqb n 0 h) in
     rw (q, e, p)
 
-fine-not : {A : Type 0} (n at : ℕ) (k : D.Listed A) → (n ≡ 0 → ⊥) → D.ifFine n at k ≡ D.Listed.refused n at
+fine-not : {A : Type 0} (n at : ℕ) (k : D.Listed A) → (n ≡ 0 → ⊥) → D.ifFine (faultOf n) at k ≡ D.Listed.refused n at
 fine-not zero at k h = absurd (h refl)
 fine-not (suc n) at k h = refl
+
+-- room for a record that is taken in
+module _ (k nb nc : ℕ) (room : fullOf k nb nc ≡ false) where
+  pub room-block : k ≡ 2 → nb < 16
+  room-block e = leb-gt (rw e at room)
+
+  pub room-code : (k ≡ 1 → ⊥) → (k ≡ 2 → ⊥) → nc < 512
+  room-code f g = leb-gt (rw (ne-eqb k 1 f, ne-eqb k 2 g) at room)
 
 module _ (s bs cs : List ℕ) (nb nc at l : ℕ) (r : D.Listed D.Places) (here : at < length s) (locals : l ≡ D.localsOf (D.bodyAt s 0))
     (inv : D.placesFrom (length s) s at (record { blocks = take nb bs; code = take nc cs }) ≡ r) where
@@ -296,24 +309,18 @@ module _ (s bs cs : List ℕ) (nb nc at l : ℕ) (r : D.Listed D.Places) (here :
   opened : D.ifFine (D.faultAt s l at) at (D.ifNot (D.fullFor (D.kindAt s at) now) 6 at (D.placesFrom (length s) s (D.nextAt s at) (D.putAt (D.kindAt s at) at now))) ≡ r
   opened = rw locals (sym (places-step s at now here) ∙ inv)
 
-  pub stop-fault : (n : ℕ) → n ≡ D.faultAt s l at → (n ≡ 0 → ⊥) → D.Listed.refused n at ≡ r
+  pub stop-fault : (n : ℕ) → faultOf n ≡ D.faultAt s l at → (n ≡ 0 → ⊥) → D.Listed.refused n at ≡ r
   stop-fault n e h = sym (fine-not n at (D.ifNot (D.fullFor (D.kindAt s at) now) 6 at (D.placesFrom (length s) s (D.nextAt s at) (D.putAt (D.kindAt s at) at now))) h) ∙ (rw (← e) at opened)
 
-  module _ (fine : D.faultAt s l at ≡ 0) where
+  module _ (fine : D.faultAt s l at ≡ none) where
     open-fine : D.ifNot (D.fullFor (D.kindAt s at) now) 6 at (D.placesFrom (length s) s (D.nextAt s at) (D.putAt (D.kindAt s at) at now)) ≡ r
     open-fine = rw fine at opened
 
-    pub stop-blocks : D.kindAt s at ≡ 2 → 16 ≤ nb → nb ≤ length bs → D.Listed.refused 6 at ≡ r
-    stop-blocks k h f =
+    pub stop-full : nb ≤ length bs → nc ≤ length cs → fullOf (D.kindAt s at) nb nc ≡ true → D.Listed.refused 6 at ≡ r
+    stop-full f g h =
         let c : length (take nb bs) ≡ nb = length-take-le nb bs f in
-        let g : leb 16 (length (take nb bs)) ≡ true = rw c (le-leb h) in
-        rw (k, g) at open-fine
-
-    pub stop-code : (D.kindAt s at ≡ 1 → ⊥) → (D.kindAt s at ≡ 2 → ⊥) → 512 ≤ nc → nc ≤ length cs → D.Listed.refused 6 at ≡ r
-    stop-code k j h f =
-        let c : length (take nc cs) ≡ nc = length-take-le nc cs f in
-        let g : leb 512 (length (take nc cs)) ≡ true = rw c (le-leb h) in
-        rw (ne-eqb (D.kindAt s at) 1 k, ne-eqb (D.kindAt s at) 2 j, g) at open-fine
+        let d : length (take nc cs) ≡ nc = length-take-le nc cs g in
+        rw (c, d, h) at open-fine
 
     pub go-block : D.kindAt s at ≡ 2 → nb < 16 → nb < length bs
         → D.placesFrom (length s) s (D.nextAt s at) (record { blocks = take (nb + 1) (set bs nb at); code = take nc cs }) ≡ r

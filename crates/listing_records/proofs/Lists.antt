@@ -1,6 +1,6 @@
 -- Laws of lists and tests: a search goes on from element to element, an array is filled from the front.
 -- Assumes nothing.
-use mathlib.Core.Path.{_≡_, refl, sym, ap, _∙_}
+use mathlib.Core.Path.{_≡_, refl, sym, ap, subst, _∙_}
 use mathlib.Core.Logic.{_⊎_, inl, inr}
 use mathlib.Core.Bool.{Bool, true, false, _||_}
 use mathlib.Core.List.{List, [], _∷_, _++_, map}
@@ -12,9 +12,9 @@ use lib.ListN.{length, take, drop, getD, set, length-take, length-map, drop-of-l
 use lib.Seq.{drop-cons, getD-take, take-suc-set, take-suc}
 use lib.Dec.{leb, eqb}
 use borrow.Author.Tests.{eq-eqb, ne-eqb}
-use Rattle.meaning.specs.Lists.{all, any}
+use Rattle.meaning.specs.Lists.{all, any, upTo}
 use Rattle.meaning.specs.Laws.Base.{both, decide, leb-le, le-leb, leb-gt, eqb-eq, eqb-ne, and-l, and-r}
-use Rattle.meaning.specs.Listing.{series}
+use Rattle.meaning.specs.Laws.Area.{upTo-more}
 
 pub leb-iff : (a b c d : ℕ) → (a ≤ b → c ≤ d) → (c ≤ d → a ≤ b) → leb a b ≡ leb c d
 leb-iff a b c d f g =
@@ -41,28 +41,6 @@ map-take f zero xs = refl
 map-take f (suc n) [] = refl
 map-take f (suc n) (x ∷ xs) = ap (λ l. f x ∷ l) (map-take f n xs)
 
--- ---- a search through a list: what is left from i on gives the answer r
-
-module _ {A : Type 0} (p : A → Bool) (d : A) (xs : List A) (r : Bool) (i : ℕ) (here : i < length xs) where
-  pub all-stop : all p (drop i xs) ≡ r → p (getD xs i d) ≡ false → false ≡ r
-  all-stop e h = simp (drop-cons xs i d here, h) at e
-
-  pub all-turn : all p (drop i xs) ≡ r → p (getD xs i d) ≡ true → all p (drop (i + 1) xs) ≡ r
-  all-turn e h = rw add-one (simp (drop-cons xs i d here, h) at e)
-
-  pub any-stop : any p (drop i xs) ≡ r → p (getD xs i d) ≡ true → true ≡ r
-  any-stop e h = simp (drop-cons xs i d here, h) at e
-
-  pub any-turn : any p (drop i xs) ≡ r → p (getD xs i d) ≡ false → any p (drop (i + 1) xs) ≡ r
-  any-turn e h = rw add-one (simp (drop-cons xs i d here, h) at e)
-
-module _ {A : Type 0} (p : A → Bool) (xs : List A) (r : Bool) (i : ℕ) (past : length xs ≤ i) where
-  pub all-end : all p (drop i xs) ≡ r → true ≡ r
-  all-end e = simp (drop-of-length-le xs {i = i} past) at e
-
-  pub any-end : any p (drop i xs) ≡ r → false ≡ r
-  any-end e = simp (drop-of-length-le xs {i = i} past) at e
-
 -- ---- an array of structs, the first n of them, each by what it stands for
 
 module _ {A B : Type 0} (f : A → B) (xs : List A) (n : ℕ) (fits : n ≤ length xs) where
@@ -78,18 +56,17 @@ unmapped X Y f l n e = sym (length-map l f) ∙ e
 -- ---- an array that is filled from the front
 
 module _ {A B : Type 0} (g : A → B) (f : ℕ → B) (out : List A) (i : ℕ) (v : A) where
-  pub filled : i < length out → map g (take i out) ≡ series i f → g v ≡ f i → map g (take (i + 1) (set out i v)) ≡ series (i + 1) f
-  unfolding series
-  filled h e w = rw (add-one, take-suc-set out i v, map-append, e, w)
+  pub filled : i < length out → map g (take i out) ≡ upTo i f → g v ≡ f i → map g (take (i + 1) (set out i v)) ≡ upTo (i + 1) f
+  filled h e w = rw (upTo-more, add-one, take-suc-set out i v, map-append, e, w)
 
 pub map-id : (xs : List ℕ) → map (λ x. x) xs ≡ xs
 map-id [] = refl
 map-id (x ∷ xs) = ap (λ l. x ∷ l) (map-id xs)
 
-pub map-series : {A B : Type 0} (g : A → B) (n : ℕ) (f : ℕ → A) → map g (series n f) ≡ series n (λ k. g (f k))
-unfolding series
-map-series g zero f = refl
-map-series g (suc n) f = map-append g (series n f) (f n ∷ []) ∙ ap (λ l. l ++ (g (f n) ∷ [])) (map-series g n f)
+pub map-upTo : {A B : Type 0} (g : A → B) (n : ℕ) (f : ℕ → A) → map g (upTo n f) ≡ upTo n (λ k. g (f k))
+unfolding upTo
+map-upTo g zero f = refl
+map-upTo g (suc n) f = ap (λ l. g (f 0) ∷ l) (map-upTo g n (λ k. f (suc k)))
 
 -- a number that is n or more, and not n
 pub up : (n k : ℕ) → n ≤ k → (k ≡ n → ⊥) → n + 1 ≤ k
@@ -119,3 +96,16 @@ all-get p (suc n) (x ∷ xs) (suc i) h l e = all-get p n xs i (le-of-suc-le-suc 
 pub cases : {A B C : Type 0} → A ⊎ B → (A → C) → (B → C) → C
 cases (inl a) f g = f a
 cases (inr b) f g = g b
+
+-- ---- what holds of each number below n, shown one by one
+
+abbrev pub Every : (ℕ → Type 0) → ℕ → Type 0
+Every P zero = Unit {0}
+Every P (suc n) = Every P n × P n
+
+pub every-at : (P : ℕ → Type 0) (n : ℕ) → Every P n → (i : ℕ) → i < n → P i
+every-at P zero e i h = absurd (not-suc-le-zero h)
+every-at P (suc n) e i h =
+    decide (eqb i n)
+    (λ q. subst P (sym (eqb-eq q)) (e .1))
+    (λ q. let d : (i ≡ n → ⊥) = eqb-ne q in every-at P n (e .0) i (omega arith))

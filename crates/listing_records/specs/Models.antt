@@ -1,8 +1,9 @@
 -- What the structs of the code mean in the definitions.
 use Prim.Native.Nat.{ℕ, zero, suc, _/_, _%_, _≤_, _<_}
 use mathlib.Core.Path.{_≡_}
-use mathlib.Core.Bool.{Bool, true, false, cond}
+use mathlib.Core.Bool.{Bool, true, false, cond, not}
 use mathlib.Core.List.{List, [], _∷_}
+use mathlib.Core.Option.{Option, none, some}
 use lib.ListN.{length, getD, take}
 use lib.Dec.{leb, eqb}
 use Rattle.meaning.specs.Listing as D
@@ -66,24 +67,41 @@ pub record FieldFor (l : ℕ) (f : D.Field) (b : List ℕ) (r : Field) : Type 0 
 
 -- ---- records
 
-abbrev pub pickRead : Bool → Found → Found → Found
-pickRead true a b = a
-pickRead false a b = b
+-- a refusal's number in the code; 0 stands for none
+abbrev pub faultOf : ℕ → Option ℕ
+faultOf zero = none
+faultOf (suc n) = some (suc n)
 
-unfoldable pub readAt : List ℕ → ℕ → Found
-readAt s at =
-    pickRead (leb (length s) at) End
-    (pickRead (D.wholeAt s at) (Record (D.kindAt s at) (record { at = D.nextAt s at })) Short)
+-- a whole record: its kind, and where the next one starts
+pub record Head : Type 0 where
+  pub kind : ℕ
+  pub next : ℕ
 
--- the tests of a body: 3, 6; 0 if none of them
-unfoldable pub bodyFault : ℕ → List D.Field → List ℕ → ℕ
-bodyFault l fs b = D.unless (D.fitsBody l fs b) 3 (D.unless (D.withinLimits fs b) 6 0)
+-- What was found at a place, in the numbers of document 01: a record; refusal 1, "input .. ends within a record"; no byte is left.
+abbrev pub foundOf : ℕ → Found → D.Listed (Option Head)
+foundOf at (Record k n) = D.Listed.read (some (record { kind = k; next = n .at }))
+foundOf at Short = D.Listed.refused 1 at
+foundOf at End = D.Listed.read none
+
+unfoldable pub foundAt : List ℕ → ℕ → D.Listed (Option Head)
+foundAt s at =
+    cond (leb (length s) at) (D.Listed.read none)
+    (D.ifNot (not (D.wholeAt s at)) 1 at
+    (D.Listed.read (some (record { kind = D.kindAt s at; next = D.nextAt s at }))))
+
+-- the tests of a body: 3, 6, or none of them
+unfoldable pub bodyFault : ℕ → List D.Field → List ℕ → Option ℕ
+bodyFault l fs b = D.unless (D.fitsBody l fs b) 3 (D.unless (D.withinLimits fs b) 6 none)
 
 pub record Tested (s : List ℕ) (l at : ℕ) (r : Test) : Type 0 where
-  pub number : r .number ≡ D.faultAt s l at
+  pub number : faultOf (r .number) ≡ D.faultAt s l at
   pub kind : r .number ≡ 0 → r .kind ≡ D.kindAt s at
   pub next : r .number ≡ 0 → r .next ≡ D.nextAt s at
   pub inside : r .number ≡ 0 → r .next ≤ length s
+
+-- that there is no room for a record of this kind, after so many blocks and instructions
+abbrev pub fullOf : ℕ → ℕ → ℕ → Bool
+fullOf k blocks code = cond (eqb k 1) false (cond (eqb k 2) (leb 16 blocks) (leb 512 code))
 
 abbrev pub pickPlaces : Bool → D.Places → ℕ → ℕ → D.Listed D.Places
 pickPlaces true w n at = D.Listed.read w

@@ -24,19 +24,19 @@ ghost use lib.Dec.{eqb};
 ghost use lib.ListN.{length, getD, take, drop};
 ghost use Rattle.meaning.specs.Lists.{all};
 ghost use Rattle.meaning.specs.Listing.{u16At, wholeAt, bodyAt, localsOf, isToken, noPlaces, placesFrom, readPlaces};
-ghost use Rattle.listing_records.specs.Models.{readAt, fieldOf, fieldsIn, limitOf, FieldFor, bodyFault, Tested, placesOf};
+ghost use Rattle.listing_records.specs.Models.{foundOf, foundAt, fieldOf, fieldsIn, limitOf, FieldFor, faultOf, bodyFault, Tested, fullOf, placesOf};
 
 pub struct Cursor {
     pub at: usize,
 }
 
-// What stands at a cursor.
+// What stands at a cursor; `foundOf` gives each case's number and values.
 pub enum Found {
     // A whole record; the next one starts at `next`.
     Record { kind: u16, next: Cursor },
-    // A record that ends too early.
+    // A record that ends too early: refusal 1.
     Short,
-    // Nothing.
+    // No byte is left.
     End,
 }
 
@@ -96,8 +96,9 @@ fn whole_at(s: &[u8], at: usize) -> bool
     4 + len <= left
 }
 
+// What stands at a cursor.
 pub fn read(s: &[u8], c: Cursor) -> Found
-    ensures { λ r. ⌜ r ≡ readAt (now (s .entry)) (c .at) ⌝ }
+    ensures { λ r. ⌜ foundOf (c .at) r ≡ foundAt (now (s .entry)) (c .at) ⌝ }
 {
     let at = c.at;
     if s.len() <= at {
@@ -217,7 +218,7 @@ fn test_field(b: &[u8], f: u16, locals: u8) -> Field
 
 // A body against its shape: 3, 6, or 0.
 fn test_body(b: &[u8], shape: Shape, locals: u8) -> u8
-    ensures { λ r. ⌜ r ≡ bodyFault locals (fieldsIn shape) (now (b .entry)) ⌝ }
+    ensures { λ r. ⌜ faultOf r ≡ bodyFault locals (fieldsIn shape) (now (b .entry)) ⌝ }
 {
     let mut fields = shape.fields;
     let mut within = true;
@@ -243,11 +244,12 @@ fn test_body(b: &[u8], shape: Shape, locals: u8) -> u8
 
 // ---- the tests of a record
 
-// `number` is 1, 2, 4, 3, 6, or 0 where none of these tests fails; then `kind` and `next` are the record's.
-pub struct Test {
-    pub number: u8,
-    pub kind: u16,
-    pub next: usize,
+// `number` is 1, 2, 4, 3, 6, or 0 where none of these tests fails; then `kind` and `next` are the record's. Beside another number they
+// are free, and nothing is said of them.
+struct Test {
+    number: u8,
+    kind: u16,
+    next: usize,
 }
 
 fn failed(number: u8) -> Test
@@ -267,7 +269,8 @@ fn misplaced(kind: u16, at: usize) -> bool
     if at == 0 { kind != 1 } else { kind == 1 }
 }
 
-pub fn test_record(s: &[u8], at: usize, locals: u8) -> Test
+// The first test of the record at a place that fails.
+fn test_record(s: &[u8], at: usize, locals: u8) -> Test
     ensures { λ r. ⌜ Tested (now (s .entry)) locals at r ⌝ }
 {
     match read(s, Cursor { at }) {
@@ -292,7 +295,8 @@ pub fn test_record(s: &[u8], at: usize, locals: u8) -> Test
 
 // ---- all records
 
-// Where the block records and the instruction records start, or a refusal with its number and place (number 0: none).
+// Where the block records and the instruction records start, or a refusal with its number and place (number 0: none). Slots from a count
+// on are free. Beside a refusal the places are free: every choice has at most 16 blocks and 512 instructions.
 pub struct Places {
     pub number: u8,
     pub place: usize,
@@ -315,6 +319,17 @@ fn refused_at(number: u8, place: usize) -> Places
     }
 }
 
+// That a record of this kind would be one block or one instruction too many.
+fn is_full(kind: u16, block_count: usize, code_count: usize) -> bool
+    ensures { λ r. ⌜ r ≡ fullOf kind «block_count» «code_count» ⌝ }
+{
+    match kind {
+        1 => false,
+        2 => MAX_BLOCKS <= block_count,
+        _ => MAX_INSTRUCTIONS <= code_count,
+    }
+}
+
 fn read_records(s: &[u8], locals: u8) -> Places
     requires { ⌜ (length (now s) ≤ 65536) × (locals ≡ localsOf (bodyAt (now s) 0)) ⌝ }
     ensures { λ r. ⌜ (placesOf r ≡ placesFrom (length (now (s .entry))) (now (s .entry)) 0 noPlaces) × (r .«block_count» ≤ 16) × (r .«code_count» ≤ 512) ⌝ }
@@ -329,16 +344,13 @@ fn read_records(s: &[u8], locals: u8) -> Places
         if t.number != 0 {
             return refused_at(t.number, at);
         }
+        if is_full(t.kind, block_count, code_count) {
+            return refused_at(6, at);
+        }
         if t.kind == 2 {
-            if MAX_BLOCKS <= block_count {
-                return refused_at(6, at);
-            }
             blocks[block_count] = at as u16;
             block_count += 1;
         } else if t.kind != 1 {
-            if MAX_INSTRUCTIONS <= code_count {
-                return refused_at(6, at);
-            }
             code[code_count] = at as u16;
             code_count += 1;
         }

@@ -35,6 +35,7 @@ pub mod Rename
 pub mod RenameStep
 pub mod Run
 pub mod Running
+pub mod Search
 pub mod Set
 pub mod Spliced
 pub mod State

@@ -34,12 +34,17 @@ u16-at-requires-4 c κs = search needs
 
 returns : tie.Need-returns
 unfolding blockAt D.blockOf
-returns c = let b : List ℕ = bodyAt (c .before .before .before .before .before .before .before .args .s .now) (c .before .before .before .before .before .before .before .args .at) in
-    let n : c .before .before .byte-at .result ≡ getD b 4 0 = (c .before .before .byte-at .ensures ∙ ap (λ (l : List ℕ). getD l 4 0) (c .before .before .before .before .before .body .ensures)) in
-    let x : c .before .u16-at3 .result ≡ u16At b 5 = (c .before .u16-at3 .ensures ∙ ap (λ (l : List ℕ). u16At l 5) (c .before .before .before .before .before .body .ensures)) in
-    let y : c .u16-at4 .result ≡ u16At b 7 = (c .u16-at4 .ensures ∙ ap (λ (l : List ℕ). u16At l 7) (c .before .before .before .before .before .body .ensures)) in
+returns c =
+    let a = c .before .before .before .before .before .before .before .args in
+    let b2 = c .before .before .before .before .before .body in
+    let ba = c .before .before .byte-at in
+    let ua3 = c .before .u16-at3 in
+    let b : List ℕ = bodyAt (a .s .now) (a .at) in
+    let n : ba .result ≡ getD b 4 0 = (ba .ensures ∙ ap (λ (l : List ℕ). getD l 4 0) (b2 .ensures)) in
+    let x : ua3 .result ≡ u16At b 5 = (ua3 .ensures ∙ ap (λ (l : List ℕ). u16At l 5) (b2 .ensures)) in
+    let y : c .u16-at4 .result ≡ u16At b 7 = (c .u16-at4 .ensures ∙ ap (λ (l : List ℕ). u16At l 7) (b2 .ensures)) in
     let k : getD b 4 0 ≤ 2 = leb-true _ _ (c .before .before .before .before .before .before .before .pre) in
-    block-eq _ _ _ _ _ _ (c .before .before .before .before .u16-at .ensures ∙ ap (λ (l : List ℕ). u16At l 0) (c .before .before .before .before .before .body .ensures)) (c .before .before .before .u16-at2 .ensures ∙ ap (λ (l : List ℕ). u16At l 2) (c .before .before .before .before .before .body .ensures))
+    block-eq _ _ _ _ _ _ (c .before .before .before .before .u16-at .ensures ∙ ap (λ (l : List ℕ). u16At l 0) (b2 .ensures)) (c .before .before .before .u16-at2 .ensures ∙ ap (λ (l : List ℕ). u16At l 2) (b2 .ensures))
     (rw (n, x, y) (two-words (getD b 4 0) (λ j. u16At b (5 + 2 * j)) k))
 
 pub block-at-spec : {M : Type 1} → statement M

@@ -33,8 +33,10 @@ place-requires : tie.Need-place-requires Inv-loop μ-loop
 place-requires c κs = search needs
 
 block-at-requires : tie.Need-block-at-requires Inv-loop μ-loop
-block-at-requires c κs = let full : length (c .before .before .before .before .before .args .t2) ≡ 16 = search needs in
-    rw (c .place .ensures .0) (all-get (twoAt (c .before .before .before .before .before .args .s .now)) (c .before .before .before .before .before .args .n) (c .before .before .before .before .before .args .t2) (c .before .before .loop .i) (c .before .loop-test .taken) (omega arith) (c .before .before .before .before .before .pre .1))
+block-at-requires c κs =
+    let a = c .before .before .before .before .before .args in
+    let full : length (a .t2) ≡ 16 = search needs in
+    rw (c .place .ensures .0) (all-get (twoAt (a .s .now)) (a .n) (a .t2) (c .before .before .loop .i) (c .before .loop-test .taken) (omega arith) (c .before .before .before .before .before .pre .1))
 
 mul-out : tie.Need-mul-out Inv-loop μ-loop
 mul-out c = omega arith
@@ -49,8 +51,11 @@ loop-less : tie.Need-loop-less Inv-loop μ-loop
 loop-less c = omega arith
 
 loop-again : tie.Need-loop-again Inv-loop μ-loop
-loop-again c = let full : length (c .before .before .before .before .before .before .args .t2) ≡ 16 = search needs in
-    (omega arith, simp length-set (c .before .before .before .loop .inv .1), map-filled blockOf (blockAt (c .before .before .before .before .before .before .args .s .now)) (c .before .before .before .loop .out) (c .before .before .before .before .before .before .args .t2) (c .before .before .before .loop .i) (c .block-at .result) (omega arith) (omega arith) (c .before .before .before .loop .inv .2) (c .block-at .ensures ∙ ap (blockAt (c .before .before .before .before .before .before .args .s .now)) (c .before .place .ensures .0)))
+loop-again c =
+    let a = c .before .before .before .before .before .before .args in
+    let l = c .before .before .before .loop in
+    let full : length (a .t2) ≡ 16 = search needs in
+    (omega arith, simp length-set (l .inv .1), map-filled blockOf (blockAt (a .s .now)) (l .out) (a .t2) (l .i) (c .block-at .result) (omega arith) (omega arith) (l .inv .2) (c .block-at .ensures ∙ ap (blockAt (a .s .now)) (c .before .place .ensures .0)))
 
 returns : tie.Need-returns Inv-loop μ-loop
 unfolding blocksIn

@@ -30,9 +30,11 @@ ruled-requires c κs =
 returns-2 : tie.Need-returns-2
 unfolding readListing ruledPlaces
 returns-2 c =
+    let a = c .before .before .before .before .before .before .args in
+    let rp = c .before .before .before .before .read-places in
     c .ruled .ensures
-    ∙ sym (ap (afterRecords (c .before .before .before .before .before .before .args .s .now))
-    (were-read (c .before .before .before .before .before .before .args .s .now) (c .before .before .before .before .read-places .result) (c .before .before .if1 .left) (c .before .before .before .before .read-places .ensures .0) (c .before .before .before .before .read-places .ensures .1) (c .before .before .before .before .read-places .ensures .2)))
+    ∙ sym (ap (afterRecords (a .s .now))
+    (were-read (a .s .now) (rp .result) (c .before .before .if1 .left) (rp .ensures .0) (rp .ensures .1) (rp .ensures .2)))
 
 pub read-listing-spec : {M : Type 1} → statement M
 read-listing-spec =

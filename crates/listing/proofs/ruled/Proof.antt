@@ -16,9 +16,15 @@ refused-requires : tie.Need-refused-requires
 refused-requires c κs = search needs
 
 returns : tie.Need-returns
-returns c = let fb : length (c .before .before .before .before .args .w .blocks) ≡ 16 = search (needs, c .before .before .before .before .good .1 .1 .0) in
-    let fc : length (c .before .before .before .before .args .w .code) ≡ 512 = search (needs, c .before .before .before .before .good .1 .1 .0) in
-    listed-refused (c .before .before .before .before .args .s .now) (c .refused .result) 5 (length (c .before .before .before .before .args .s .now)) (c .refused .ensures .0) (c .refused .ensures .1) (λ h. omega arith) ∙ ruled-none (c .before .before .before .before .args .s .now) (c .before .before .before .before .args .w .blocks) (c .before .before .before .before .args .w .code) (c .before .before .before .before .args .w .«block_count») (c .before .before .before .before .args .w .«code_count») (omega (arith, c .before .before .before .before .pre .blocks)) (omega (arith, c .before .before .before .before .pre .code)) (c .before .if1 .taken)
+returns c =
+    let a = c .before .before .before .before .args in
+    let g = c .before .before .before .before .good in
+    let fb : length (a .w .blocks) ≡ 16 = search (needs, g .1 .1 .0) in
+    let fc : length (a .w .code) ≡ 512 = search (needs, g .1 .1 .0) in
+    let p = c .before .before .before .before .pre in
+    listed-refused (a .s .now) (c .refused .result) 5 (length (a .s .now)) (c .refused .ensures .0) (c .refused .ensures .1) (λ h. omega arith)
+    ∙ ruled-none (a .s .now) (a .w .blocks) (a .w .code) (a .w .«block_count») (a .w .«code_count») (omega (arith, p .blocks))
+    (omega (arith, p .code)) (c .before .if1 .taken)
 
 blocks-at-requires : tie.Need-blocks-at-requires
 blocks-at-requires c κs = (c .before .before .before .before .before .pre .blocks, c .before .before .before .before .before .pre .two)
@@ -39,9 +45,19 @@ refused-requires-2 : tie.Need-refused-requires-2
 refused-requires-2 c κs = search needs
 
 returns-2 : tie.Need-returns-2
-returns-2 c = let fb : length (c .before .before .before .before .before .before .before .before .before .before .args .w .blocks) ≡ 16 = search (needs, c .before .before .before .before .before .before .before .before .before .before .good .1 .1 .0) in
-    let fc : length (c .before .before .before .before .before .before .before .before .before .before .args .w .code) ≡ 512 = search (needs, c .before .before .before .before .before .before .before .before .before .before .good .1 .1 .0) in
-    listed-refused (c .before .before .before .before .before .before .before .before .before .before .args .s .now) (c .refused2 .result) 5 (getD (c .before .before .before .before .before .before .before .before .before .before .args .w .blocks) (c .before .before .before .first-faulty .result) 0) (c .refused2 .ensures .0) (c .refused2 .ensures .1 ∙ c .before .place .ensures .0) (λ h. omega arith) ∙ ruled-block (c .before .before .before .before .before .before .before .before .before .before .args .s .now) (c .before .before .before .before .before .before .before .before .before .before .args .w .blocks) (c .before .before .before .before .before .before .before .before .before .before .args .w .code) (c .before .before .before .before .before .before .before .before .before .before .args .w .«block_count») (c .before .before .before .before .before .before .before .before .before .before .args .w .«code_count») (omega (arith, c .before .before .before .before .before .before .before .before .before .before .pre .blocks)) (omega (arith, c .before .before .before .before .before .before .before .before .before .before .pre .code)) (c .before .before .before .before .before .before .before .if1 .left) (c .before .before .before .first-faulty .result) (c .before .before .before .first-faulty .ensures ∙ ap (λ (l : List Block). firstOf (faultyBlock (c .before .before .before .before .before .before .before .before .before .before .args .w .«code_count») l) 0 (c .before .before .before .before .before .before .before .before .before .before .args .w .«block_count»)) (c .before .before .before .before .blocks-at .ensures)) (c .before .before .if2 .taken)
+returns-2 c =
+    let a = c .before .before .before .before .before .before .before .before .before .before .args in
+    let g = c .before .before .before .before .before .before .before .before .before .before .good in
+    let fb : length (a .w .blocks) ≡ 16 = search (needs, g .1 .1 .0) in
+    let fc : length (a .w .code) ≡ 512 = search (needs, g .1 .1 .0) in
+    let p = c .before .before .before .before .before .before .before .before .before .before .pre in
+    let ff = c .before .before .before .first-faulty in
+    listed-refused (a .s .now) (c .refused2 .result) 5 (getD (a .w .blocks) (ff .result) 0) (c .refused2 .ensures .0)
+    (c .refused2 .ensures .1 ∙ c .before .place .ensures .0) (λ h. omega arith) ∙ ruled-block (a .s .now) (a .w .blocks) (a .w .code)
+    (a .w .«block_count») (a .w .«code_count») (omega (arith, p .blocks)) (omega (arith, p .code))
+    (c .before .before .before .before .before .before .before .if1 .left) (ff .result)
+    (ff .ensures ∙ ap (λ (l : List Block). firstOf (faultyBlock (a .w .«code_count») l) 0 (a .w .«block_count»))
+    (c .before .before .before .before .blocks-at .ensures)) (c .before .before .if2 .taken)
 
 first-stray-requires : tie.Need-first-stray-requires
 first-stray-requires c κs = (c .before .before .before .before .before .before .before .before .pre .blocks, c .before .before .before .before .before .before .before .before .pre .code)
@@ -59,9 +75,23 @@ refused-requires-3 : tie.Need-refused-requires-3
 refused-requires-3 c κs = search needs
 
 returns-3 : tie.Need-returns-3
-returns-3 c = let fb : length (c .before .before .before .before .before .before .before .before .before .before .before .before .args .w .blocks) ≡ 16 = search (needs, c .before .before .before .before .before .before .before .before .before .before .before .before .good .1 .1 .0) in
-    let fc : length (c .before .before .before .before .before .before .before .before .before .before .before .before .args .w .code) ≡ 512 = search (needs, c .before .before .before .before .before .before .before .before .before .before .before .before .good .1 .1 .0) in
-    listed-refused (c .before .before .before .before .before .before .before .before .before .before .before .before .args .s .now) (c .refused3 .result) 5 (getD (c .before .before .before .before .before .before .before .before .before .before .before .before .args .w .code) (c .before .before .before .first-stray .result) 0) (c .refused3 .ensures .0) (c .refused3 .ensures .1 ∙ c .before .place2 .ensures .0) (λ h. omega arith) ∙ ruled-ret (c .before .before .before .before .before .before .before .before .before .before .before .before .args .s .now) (c .before .before .before .before .before .before .before .before .before .before .before .before .args .w .blocks) (c .before .before .before .before .before .before .before .before .before .before .before .before .args .w .code) (c .before .before .before .before .before .before .before .before .before .before .before .before .args .w .«block_count») (c .before .before .before .before .before .before .before .before .before .before .before .before .args .w .«code_count») (omega (arith, c .before .before .before .before .before .before .before .before .before .before .before .before .pre .blocks)) (omega (arith, c .before .before .before .before .before .before .before .before .before .before .before .before .pre .code)) (c .before .before .before .before .before .before .before .before .before .if1 .left) (c .before .before .before .before .before .first-faulty .result) (c .before .before .before .before .before .first-faulty .ensures ∙ ap (λ (l : List Block). firstOf (faultyBlock (c .before .before .before .before .before .before .before .before .before .before .before .before .args .w .«code_count») l) 0 (c .before .before .before .before .before .before .before .before .before .before .before .before .args .w .«block_count»)) (c .before .before .before .before .before .before .blocks-at .ensures)) (c .before .before .before .before .if2 .left) (c .before .before .before .first-stray .result) (c .before .before .before .first-stray .ensures ∙ ap (λ (l : List Block). firstOf (strayRet (map (instrAt (c .before .before .before .before .before .before .before .before .before .before .before .before .args .s .now)) (take (c .before .before .before .before .before .before .before .before .before .before .before .before .args .w .«code_count») (c .before .before .before .before .before .before .before .before .before .before .before .before .args .w .code))) l) 0 (c .before .before .before .before .before .before .before .before .before .before .before .before .args .w .«code_count»)) (c .before .before .before .before .before .before .blocks-at .ensures)) (c .before .before .if3 .taken)
+returns-3 c =
+    let a = c .before .before .before .before .before .before .before .before .before .before .before .before .args in
+    let g = c .before .before .before .before .before .before .before .before .before .before .before .before .good in
+    let fb : length (a .w .blocks) ≡ 16 = search (needs, g .1 .1 .0) in
+    let fc : length (a .w .code) ≡ 512 = search (needs, g .1 .1 .0) in
+    let p = c .before .before .before .before .before .before .before .before .before .before .before .before .pre in
+    let ba = c .before .before .before .before .before .before .blocks-at in
+    let ff = c .before .before .before .before .before .first-faulty in
+    let fs = c .before .before .before .first-stray in
+    listed-refused (a .s .now) (c .refused3 .result) 5 (getD (a .w .code) (fs .result) 0) (c .refused3 .ensures .0)
+    (c .refused3 .ensures .1 ∙ c .before .place2 .ensures .0) (λ h. omega arith) ∙ ruled-ret (a .s .now) (a .w .blocks) (a .w .code)
+    (a .w .«block_count») (a .w .«code_count») (omega (arith, p .blocks)) (omega (arith, p .code))
+    (c .before .before .before .before .before .before .before .before .before .if1 .left) (ff .result)
+    (ff .ensures ∙ ap (λ (l : List Block). firstOf (faultyBlock (a .w .«code_count») l) 0 (a .w .«block_count»)) (ba .ensures))
+    (c .before .before .before .before .if2 .left) (fs .result)
+    (fs .ensures ∙ ap (λ (l : List Block). firstOf (strayRet (map (instrAt (a .s .now)) (take (a .w .«code_count») (a .w .code))) l) 0
+    (a .w .«code_count»)) (ba .ensures)) (c .before .before .if3 .taken)
 
 byte-at-requires : tie.Need-byte-at-requires
 byte-at-requires c κs = search needs
@@ -83,15 +113,29 @@ byte-at-requires-3 c κs = search needs
 
 returns-4 : tie.Need-returns-4
 unfolding listedOf
-returns-4 c = let fb : length (c .before .before .before .before .before .before .before .before .before .before .before .before .before .before .args .w .blocks) ≡ 16 = search (needs, c .before .before .before .before .before .before .before .before .before .before .before .before .before .before .good .1 .1 .0) in
-    let fc : length (c .before .before .before .before .before .before .before .before .before .before .before .before .before .before .args .w .code) ≡ 512 = search (needs, c .before .before .before .before .before .before .before .before .before .before .before .before .before .before .good .1 .1 .0) in
-    let e : c .before .before .before .before .before .before .before .before .before .before .before .before .before .before .args .head .now ≡ bodyAt (c .before .before .before .before .before .before .before .before .before .before .before .before .before .before .args .s .now) 0 = c .before .before .before .before .before .before .before .before .before .before .before .before .before .before .pre .first in
+returns-4 c =
+    let a = c .before .before .before .before .before .before .before .before .before .before .before .before .before .before .args in
+    let g = c .before .before .before .before .before .before .before .before .before .before .before .before .before .before .good in
+    let fb : length (a .w .blocks) ≡ 16 = search (needs, g .1 .1 .0) in
+    let fc : length (a .w .code) ≡ 512 = search (needs, g .1 .1 .0) in
+    let p = c .before .before .before .before .before .before .before .before .before .before .before .before .before .before .pre in
+    let ba = c .before .before .before .before .before .before .before .before .blocks-at in
+    let ff = c .before .before .before .before .before .before .before .first-faulty in
+    let fs = c .before .before .before .before .before .first-stray in
+    let ba2 = c .before .before .before .byte-at in
+    let ba3 = c .before .before .bytes-at in
+    let e : a .head .now ≡ bodyAt (a .s .now) 0 = p .first in
     ap Listed.read (routine-eq _ _ _ _ _ _ _ _ _ _
-    (params-eq (c .before .before .before .before .before .before .before .before .before .before .before .before .before .before .args .head .now) (c .before .before .bytes-at .result) (c .before .before .before .byte-at .result) (c .before .before .before .byte-at .ensures) (c .before .before .bytes-at .ensures) ∙ ap paramsOf e)
+    (params-eq (a .head .now) (ba3 .result) (ba2 .result) (ba2 .ensures) (ba3 .ensures) ∙ ap paramsOf e)
     (c .before .byte-at2 .ensures ∙ ap localsOf e)
-    (c .byte-at3 .ensures ∙ ap (λ (n : ℕ). getD (c .before .before .before .before .before .before .before .before .before .before .before .before .before .before .args .head .now) (2 + n) 0) (c .before .before .before .byte-at .ensures) ∙ ap returnsOf e)
-    (c .before .before .before .before .before .before .before .before .blocks-at .ensures) (c .before .before .before .before .before .before .before .before .before .before .before .before .before .before .pre .same))
-    ∙ ruled-read (c .before .before .before .before .before .before .before .before .before .before .before .before .before .before .args .s .now) (c .before .before .before .before .before .before .before .before .before .before .before .before .before .before .args .w .blocks) (c .before .before .before .before .before .before .before .before .before .before .before .before .before .before .args .w .code) (c .before .before .before .before .before .before .before .before .before .before .before .before .before .before .args .w .«block_count») (c .before .before .before .before .before .before .before .before .before .before .before .before .before .before .args .w .«code_count») (omega (arith, c .before .before .before .before .before .before .before .before .before .before .before .before .before .before .pre .blocks)) (omega (arith, c .before .before .before .before .before .before .before .before .before .before .before .before .before .before .pre .code)) (c .before .before .before .before .before .before .before .before .before .before .before .if1 .left) (c .before .before .before .before .before .before .before .first-faulty .result) (c .before .before .before .before .before .before .before .first-faulty .ensures ∙ ap (λ (l : List Block). firstOf (faultyBlock (c .before .before .before .before .before .before .before .before .before .before .before .before .before .before .args .w .«code_count») l) 0 (c .before .before .before .before .before .before .before .before .before .before .before .before .before .before .args .w .«block_count»)) (c .before .before .before .before .before .before .before .before .blocks-at .ensures)) (c .before .before .before .before .before .before .if2 .left) (c .before .before .before .before .before .first-stray .result) (c .before .before .before .before .before .first-stray .ensures ∙ ap (λ (l : List Block). firstOf (strayRet (map (instrAt (c .before .before .before .before .before .before .before .before .before .before .before .before .before .before .args .s .now)) (take (c .before .before .before .before .before .before .before .before .before .before .before .before .before .before .args .w .«code_count») (c .before .before .before .before .before .before .before .before .before .before .before .before .before .before .args .w .code))) l) 0 (c .before .before .before .before .before .before .before .before .before .before .before .before .before .before .args .w .«code_count»)) (c .before .before .before .before .before .before .before .before .blocks-at .ensures)) (c .before .before .before .before .if3 .left)
+    (c .byte-at3 .ensures ∙ ap (λ (n : ℕ). getD (a .head .now) (2 + n) 0) (ba2 .ensures) ∙ ap returnsOf e)
+    (ba .ensures) (p .same))
+    ∙ ruled-read (a .s .now) (a .w .blocks) (a .w .code) (a .w .«block_count») (a .w .«code_count») (omega (arith, p .blocks))
+    (omega (arith, p .code)) (c .before .before .before .before .before .before .before .before .before .before .before .if1 .left) (ff .result)
+    (ff .ensures ∙ ap (λ (l : List Block). firstOf (faultyBlock (a .w .«code_count») l) 0 (a .w .«block_count»)) (ba .ensures))
+    (c .before .before .before .before .before .before .if2 .left) (fs .result)
+    (fs .ensures ∙ ap (λ (l : List Block). firstOf (strayRet (map (instrAt (a .s .now)) (take (a .w .«code_count») (a .w .code))) l) 0
+    (a .w .«code_count»)) (ba .ensures)) (c .before .before .before .before .if3 .left)
 
 pub ruled-spec : {M : Type 1} → statement M
 ruled-spec =

@@ -3,19 +3,32 @@ use Prim.Native.Nat.{ℕ}
 use mathlib.Core.Path.{_≡_, refl, sym, ap, _∙_}
 use mathlib.Core.List.{List}
 use borrow.Author.Needs.{needs}
-use Rattle.listing_records.specs.Models.{readAt}
+use mathlib.Core.Option.{Option}
+use Rattle.meaning.specs.Listing.{Listed}
+use Rattle.listing_records.specs.Models.{Head, foundOf, foundAt}
 use Rattle.listing_records.specs.declared.Found.{Found}
-use Rattle.listing_reader.specs.Models.{after, stepAt}
-use Rattle.listing_reader.specs.declared.Step.{Step}
+use Rattle.listing_records.specs.declared.Found.the-variants.{Record, Short, End}
+use Rattle.listing_reader.specs.Models.{after, StepFor}
 use Rattle.listing_reader.proofs.step_at.Statement.{statement}
 use Rattle.listing_reader.proofs.step_at.Tie as tie
 
-abbrev made : Found → ℕ → Step
-made f n = record { found = f; at = n }
+-- where the code goes on to
+abbrev onto : Found → ℕ → ℕ
+onto (Record kind next) at = next .at
+onto Short at = at
+onto End at = at
+
+onto-after : (f : Found) (at : ℕ) → onto f at ≡ after (foundOf at f) at
+onto-after (Record kind next) at = refl
+onto-after Short at = refl
+onto-after End at = refl
 
 -- what was found, known by its constructor
-stepped : (s : List ℕ) (at : ℕ) (f g : Found) → f ≡ g → f ≡ readAt s at → made f (after g at) ≡ stepAt s at
-stepped s at f g told e = ap (λ (h : Found). made f (after h at)) (sym told) ∙ ap (λ (h : Found). made h (after h at)) e
+stepped : (s : List ℕ) (at : ℕ) (f g : Found) → f ≡ g → foundOf at f ≡ foundAt s at → StepFor s at (record { found = f; at = onto g at })
+stepped s at f g told e = record {
+  found = e;
+  at = ap (λ (h : Found). onto h at) (sym told) ∙ onto-after f at ∙ ap (λ (x : Listed (Option Head)). after x at) e;
+}
 
 read-requires : tie.Need-read-requires
 read-requires c κs = search needs
@@ -30,7 +43,7 @@ enum-told-2 : tie.Need-enum-told-2
 enum-told-2 c = search needs
 
 returns : tie.Need-returns
-returns c = stepped (c .before .before .before .before .before .args .listing .now) (c .before .before .before .before .before .args .at) _ _ refl (sym (c .before .found .given .1) ∙ c .before .before .before .read .ensures)
+returns c = stepped (c .before .before .before .before .before .args .listing .now) (c .before .before .before .before .before .args .at) _ _ refl (sym (ap (foundOf (c .before .before .before .before .before .args .at)) (c .before .found .given .1)) ∙ c .before .before .before .read .ensures)
 
 returns-2 : tie.Need-returns-2
 returns-2 c = stepped (c .before .before .before .before .args .listing .now) (c .before .before .before .before .args .at) (c .before .before .read .result) _ (c .enum-told .given .1) (c .before .before .read .ensures)

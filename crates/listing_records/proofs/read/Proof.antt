@@ -6,14 +6,14 @@ use Prim.Native.Nat.{_+_, _≤_}
 use lib.ListN.{length}
 use lib.Dec.{leb}
 use Rattle.meaning.specs.Listing.{u16At, wholeAt}
-use Rattle.listing_records.specs.Models.{readAt}
+use Rattle.listing_records.specs.Models.{foundAt}
 use native.Mathlib.Omega.{arith}
 use borrow.Author.Needs.{needs}
 use Rattle.listing_records.proofs.read.Statement.{statement}
 use Rattle.listing_records.proofs.read.Tie as tie
 
 returns : tie.Need-returns
-unfolding readAt
+unfolding foundAt
 returns c = simp (le-leb _ _ ((c .if1) .taken))
 
 whole-at-requires : tie.Need-whole-at-requires
@@ -42,13 +42,13 @@ add-next-2 : tie.Need-add-next-2
 add-next-2 c = search needs
 
 returns-2 : tie.Need-returns-2
-unfolding readAt
+unfolding foundAt
 returns-2 c = let w : wholeAt ((c .before .before .before .before .before .before .args) .s .now) ((c .before .before .before .before .before .before .args) .c .at) ≡ true = sym ((c .before .before .before .whole-at) .ensures) ∙ (c .before .before .if2) .taken in
     let f : leb (length ((c .before .before .before .before .before .before .args) .s .now)) ((c .before .before .before .before .before .before .args) .c .at) ≡ false = lt-leb _ _ ((c .before .before .before .before .if1) .left) in
     rw (f, w) (cc)
 
 returns-3 : tie.Need-returns-3
-unfolding readAt
+unfolding foundAt
 returns-3 c = let w : wholeAt ((c .before .before .before .before .args) .s .now) ((c .before .before .before .before .args) .c .at) ≡ false = sym ((c .before .whole-at) .ensures) ∙ (c .if2) .left in
     let f : leb (length ((c .before .before .before .before .args) .s .now)) ((c .before .before .before .before .args) .c .at) ≡ false = lt-leb _ _ ((c .before .before .if1) .left) in
     rw (f, w)

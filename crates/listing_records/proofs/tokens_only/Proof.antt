@@ -5,7 +5,7 @@ use Prim.Native.Nat.{_≤_, _-_}
 use lib.ListN.{length, drop}
 use Rattle.meaning.specs.Lists.{all}
 use Rattle.meaning.specs.Listing.{isToken}
-use Rattle.listing_records.proofs.Lists.{all-stop, all-turn, all-end}
+use Rattle.meaning.specs.Laws.Search.{search-end, all-stop, all-turn}
 use native.Mathlib.Omega.{arith}
 use Rattle.listing_records.proofs.tokens_only.Statement.{statement}
 use Rattle.listing_records.proofs.tokens_only.Tie as tie
@@ -23,7 +23,9 @@ shared-slice-read-if1 : tie.Need-shared-slice-read-if1 Inv-loop μ-loop
 shared-slice-read-if1 c = omega arith
 
 returns : tie.Need-returns Inv-loop μ-loop
-returns c = all-stop isToken 0 (c .before .before .before .before .args .b .now) _ (c .before .before .before .loop .i) (omega arith) (c .before .before .before .loop .inv .1) (lt-leb _ _ (c .if1 .taken))
+returns c =
+    let l = c .before .before .before .loop in
+    all-stop isToken 0 (c .before .before .before .before .args .b .now) _ (l .i) (omega arith) (l .inv .1) (lt-leb _ _ (c .if1 .taken))
 
 add-i : tie.Need-add-i Inv-loop μ-loop
 add-i c = omega arith
@@ -32,10 +34,12 @@ loop-less : tie.Need-loop-less Inv-loop μ-loop
 loop-less c = omega arith
 
 loop-again : tie.Need-loop-again Inv-loop μ-loop
-loop-again c = (omega arith, all-turn isToken 0 (c .before .before .before .before .args .b .now) _ (c .before .before .before .loop .i) (omega arith) (c .before .before .before .loop .inv .1) (le-leb _ _ (c .if1 .left)))
+loop-again c =
+    let l = c .before .before .before .loop in
+    (omega arith, all-turn isToken 0 (c .before .before .before .before .args .b .now) _ (l .i) (omega arith) (l .inv .1) (le-leb _ _ (c .if1 .left)))
 
 returns-2 : tie.Need-returns-2 Inv-loop μ-loop
-returns-2 c = all-end isToken (c .before .before .args .b .now) _ (c .before .loop .i) (omega arith) (c .before .loop .inv .1)
+returns-2 c = search-end (all isToken) (c .before .before .args .b .now) (c .before .loop .i) _ (c .before .loop .inv .1) (omega arith)
 
 pub tokens-only-spec : {M : Type 1} → statement M
 tokens-only-spec =

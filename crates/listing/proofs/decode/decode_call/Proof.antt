@@ -4,9 +4,10 @@ use borrow.Author.Tests.{le-leb, lt-leb}
 use Prim.Native.Nat.{_+_, _*_}
 use mathlib.Core.List.{map}
 use lib.ListN.{getD, take}
-use Rattle.meaning.specs.Listing.{callOf, series, tokenAs}
+use Rattle.meaning.specs.Lists.{upTo}
+use Rattle.meaning.specs.Listing.{callOf, tokenAs}
 use Rattle.listing.specs.Models.{callFor, decodedOf}
-use Rattle.listing_records.proofs.Lists.{map-series}
+use Rattle.listing_records.proofs.Lists.{map-upTo}
 use borrow.Author.Needs.{needs}
 use Rattle.listing.proofs.decode.decode_call.Statement.{statement}
 use Rattle.listing.proofs.decode.decode_call.Tie as tie
@@ -63,9 +64,14 @@ words-at-requires c κs = search needs
 
 returns-3 : tie.Need-returns-3
 unfolding callFor callOf decodedOf
-returns-3 c = let a : getD (c .before .before .before .before .before .before .before .before .args .b .now) 1 0 ≡ c .before .before .before .before .before .before .byte-at .result = sym (c .before .before .before .before .before .before .byte-at .ensures) in
-    let r : getD (c .before .before .before .before .before .before .before .before .args .b .now) (2 + 2 * c .before .before .before .before .before .before .byte-at .result) 0 ≡ c .before .before .before .before .byte-at2 .result = sym (c .before .before .before .before .byte-at2 .ensures) in
-    let t : map tokenAs (take (c .before .before .before .before .byte-at2 .result) (c .before .before .bytes-at .result)) ≡ series (c .before .before .before .before .byte-at2 .result) (λ k. tokenAs (getD (c .before .before .before .before .before .before .before .before .args .b .now) (3 + 2 * c .before .before .before .before .before .before .byte-at .result + k) 0)) = ap (map tokenAs) (c .before .before .bytes-at .ensures) ∙ map-series tokenAs _ _ in
+returns-3 c =
+    let a2 = c .before .before .before .before .before .before .before .before .args in
+    let ba = c .before .before .before .before .before .before .byte-at in
+    let ba2 = c .before .before .before .before .byte-at2 in
+    let ba3 = c .before .before .bytes-at in
+    let a : getD (a2 .b .now) 1 0 ≡ ba .result = sym (ba .ensures) in
+    let r : getD (a2 .b .now) (2 + 2 * ba .result) 0 ≡ ba2 .result = sym (ba2 .ensures) in
+    let t : map tokenAs (take (ba2 .result) (ba3 .result)) ≡ upTo (ba2 .result) (λ k. tokenAs (getD (a2 .b .now) (3 + 2 * ba .result + k) 0)) = ap (map tokenAs) (ba3 .ensures) ∙ map-upTo tokenAs _ _ in
     rw (a, r, le-leb _ _ (c .before .before .before .before .before .if1 .left), le-leb _ _ (c .before .before .before .if2 .left), t, c .words-at .ensures, c .before .byte-at3 .ensures)
 
 pub decode-call-spec : {M : Type 1} → statement M

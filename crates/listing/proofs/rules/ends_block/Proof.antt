@@ -13,7 +13,7 @@ use Rattle.listing.proofs.rules.ends_block.Statement.{statement}
 use Rattle.listing.proofs.rules.ends_block.Tie as tie
 
 abbrev Inv-loop : tie.InvT-loop
-Inv-loop n k blocks i₀ i = any (λ b. eqb k (b .exit) && empty (b .successors)) (drop i (blocksIn blocks n)) ≡ any (λ b. eqb k (b .exit) && empty (b .successors)) (blocksIn blocks n)
+Inv-loop n k blocks i₀ i = any (λ b. eqb (k .0) (b .exit) && empty (b .successors)) (drop i (blocksIn blocks n)) ≡ any (λ b. eqb (k .0) (b .exit) && empty (b .successors)) (blocksIn blocks n)
 
 abbrev μ-loop : tie.MeasureT-loop
 μ-loop n k blocks i₀ i = n - i
@@ -27,12 +27,12 @@ mul-b c = omega arith
 array-copy-out-b : tie.Need-array-copy-out-b Inv-loop μ-loop
 array-copy-out-b c = omega arith
 
-cast-if1 : tie.Need-cast-if1 Inv-loop μ-loop
-cast-if1 c = omega arith
-
 returns : tie.Need-returns Inv-loop μ-loop
-returns c = let full : length (c .before .before .before .before .before .before .args .t1) ≡ 16 = search (unmapped) in
-    found (c .before .before .before .before .before .before .args .t1) (c .before .before .before .before .before .before .args .n) full (c .before .before .before .before .before .before .pre) (λ b. eqb (c .before .before .before .before .before .before .args .k) (b .exit) && empty (b .successors)) _ (c .before .before .before .before .before .loop .i) (c .before .before .before .before .loop-test .taken) (c .before .before .before .before .before .loop .inv) (rw no-successor (c .if1 .taken))
+returns c =
+    let a = c .before .before .before .before .before .before .before .args in
+    let l = c .before .before .before .before .before .before .loop in
+    let full : length (a .t1) ≡ 16 = search (unmapped) in
+    found (a .t1) (a .n) full (c .before .before .before .before .before .before .before .pre) (λ b. eqb (a .k .0) (b .exit) && empty (b .successors)) _ (l .i) (c .before .before .before .before .before .loop-test .taken) (l .inv) (rw no-successor (c .if1 .taken))
 
 add-i : tie.Need-add-i Inv-loop μ-loop
 add-i c = omega arith
@@ -41,12 +41,15 @@ loop-less : tie.Need-loop-less Inv-loop μ-loop
 loop-less c = omega arith
 
 loop-again : tie.Need-loop-again Inv-loop μ-loop
-loop-again c = let full : length (c .before .before .before .before .before .before .args .t1) ≡ 16 = search (unmapped) in
-    passed (c .before .before .before .before .before .before .args .t1) (c .before .before .before .before .before .before .args .n) full (c .before .before .before .before .before .before .pre) (λ b. eqb (c .before .before .before .before .before .before .args .k) (b .exit) && empty (b .successors)) _ (c .before .before .before .before .before .loop .i) (c .before .before .before .before .loop-test .taken) (c .before .before .before .before .before .loop .inv) (rw no-successor (c .if1 .left))
+loop-again c =
+    let a = c .before .before .before .before .before .before .before .args in
+    let l = c .before .before .before .before .before .before .loop in
+    let full : length (a .t1) ≡ 16 = search (unmapped) in
+    passed (a .t1) (a .n) full (c .before .before .before .before .before .before .before .pre) (λ b. eqb (a .k .0) (b .exit) && empty (b .successors)) _ (l .i) (c .before .before .before .before .before .loop-test .taken) (l .inv) (rw no-successor (c .if1 .left))
 
 returns-2 : tie.Need-returns-2 Inv-loop μ-loop
 returns-2 c = let full : length (c .before .before .args .t1) ≡ 16 = search (unmapped) in
-    missed (c .before .before .args .t1) (c .before .before .args .n) full (c .before .before .pre) (λ b. eqb (c .before .before .args .k) (b .exit) && empty (b .successors)) _ (c .before .loop .i) (c .loop-test .left) (c .before .loop .inv)
+    missed (c .before .before .args .t1) (c .before .before .args .n) full (c .before .before .pre) (λ b. eqb (c .before .before .args .k .0) (b .exit) && empty (b .successors)) _ (c .before .loop .i) (c .loop-test .left) (c .before .loop .inv)
 
 pub ends-block-spec : {M : Type 1} → statement M
 ends-block-spec =
@@ -57,7 +60,6 @@ ends-block-spec =
     loop-holds
     mul-b
     array-copy-out-b
-    cast-if1
     returns
     add-i
     loop-less

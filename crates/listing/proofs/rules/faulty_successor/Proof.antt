@@ -13,10 +13,12 @@ entry-from-requires : tie.Need-entry-from-requires
 entry-from-requires c κs = search needs
 
 returns : tie.Need-returns
-returns c = succ-none (blocksIn (c .before .before .args .blocks) (c .before .before .args .n)) (c .before .before .args .i) (c .before .before .args .e) (blockOf (c .before .before .args .b)) (sym (c .before .entry-from .ensures) ∙ not-true _ (c .if1 .taken))
+returns c = succ-none (blocksIn (c .before .before .args .blocks) (c .before .before .args .n)) (c .before .before .args .i) (c .before .before .args .e .0) (blockOf (c .before .before .args .b)) (sym (c .before .entry-from .ensures) ∙ not-true _ (c .if1 .taken))
 
 returns-2 : tie.Need-returns-2
-returns-2 c = succ-back (blocksIn (c .before .before .before .before .args .blocks) (c .before .before .before .before .args .n)) (c .before .before .before .before .args .i) (c .before .before .before .before .args .e) (blockOf (c .before .before .before .before .args .b)) (sym (c .before .before .before .entry-from .ensures) ∙ not-false _ (c .before .before .if1 .left)) (c .if2 .taken)
+returns-2 c =
+    let a = c .before .before .before .before .before .args in
+    succ-back (blocksIn (a .blocks) (a .n)) (a .i) (a .e .0) (blockOf (a .b)) (sym (c .before .before .before .before .entry-from .ensures) ∙ not-false _ (c .before .before .before .if1 .left)) (c .if2 .taken)
 
 add-entry-from : tie.Need-add-entry-from
 add-entry-from c = omega arith
@@ -25,7 +27,9 @@ entry-from-requires-2 : tie.Need-entry-from-requires-2
 entry-from-requires-2 c κs = search needs
 
 returns-3 : tie.Need-returns-3
-returns-3 c = ap not (c .entry-from2 .ensures) ∙ succ-forth (blocksIn (c .before .before .before .before .before .args .blocks) (c .before .before .before .before .before .args .n)) (c .before .before .before .before .before .args .i) (c .before .before .before .before .before .args .e) (blockOf (c .before .before .before .before .before .args .b)) (sym (c .before .before .before .before .entry-from .ensures) ∙ not-false _ (c .before .before .before .if1 .left)) (c .before .if2 .left)
+returns-3 c =
+    let a = c .before .before .before .before .before .before .args in
+    ap not (c .entry-from2 .ensures) ∙ succ-forth (blocksIn (a .blocks) (a .n)) (a .i) (a .e .0) (blockOf (a .b)) (sym (c .before .before .before .before .before .entry-from .ensures) ∙ not-false _ (c .before .before .before .before .if1 .left)) (c .before .if2 .left)
 
 pub faulty-successor-spec : {M : Type 1} → statement M
 faulty-successor-spec =

@@ -14,19 +14,30 @@ faulty-successor-requires : tie.Need-faulty-successor-requires
 faulty-successor-requires c κs = search needs
 
 returns-2 : tie.Need-returns-2
-returns-2 c = succ-first (faultySuccessor (blocksIn (c .before .before .before .args .blocks) (c .before .before .before .args .n)) (c .before .before .before .args .i) (blockOf (c .before .before .before .args .b))) (c .before .before .before .args .b .first .0) (c .before .before .before .args .b .second .0) (c .before .before .before .args .b .count) (c .before .before .if1 .left) (sym (c .before .faulty-successor .ensures) ∙ c .if2 .taken)
+returns-2 c =
+    let a = c .before .before .before .before .args in
+    succ-first (faultySuccessor (blocksIn (a .blocks) (a .n)) (a .i) (blockOf (a .b))) (a .b .first .0) (a .b .second .0) (a .b .count) (c .before .before .before .if1 .left) (sym (c .before .faulty-successor .ensures) ∙ c .if2 .taken)
 
 returns-3 : tie.Need-returns-3
-returns-3 c = succ-1 (faultySuccessor (blocksIn (c .before .before .before .before .args .blocks) (c .before .before .before .before .args .n)) (c .before .before .before .before .args .i) (blockOf (c .before .before .before .before .args .b))) (c .before .before .before .before .args .b .first .0) (c .before .before .before .before .args .b .second .0) (c .before .before .before .before .args .b .count) (c .if3 .taken) (sym (c .before .before .faulty-successor .ensures) ∙ c .before .if2 .left)
+returns-3 c =
+    let a = c .before .before .before .before .before .args in
+    succ-1 (faultySuccessor (blocksIn (a .blocks) (a .n)) (a .i) (blockOf (a .b))) (a .b .first .0) (a .b .second .0) (a .b .count) (c .if3 .taken) (sym (c .before .before .faulty-successor .ensures) ∙ c .before .if2 .left)
 
 returns-4 : tie.Need-returns-4
-returns-4 c = succ-same (faultySuccessor (blocksIn (c .before .before .before .before .before .args .blocks) (c .before .before .before .before .before .args .n)) (c .before .before .before .before .before .args .i) (blockOf (c .before .before .before .before .before .args .b))) (c .before .before .before .before .before .args .b .first .0) (c .before .before .before .before .before .args .b .second .0) (c .before .before .before .before .before .args .b .count) (c .before .before .before .before .if1 .left) (c .before .if3 .left) (c .if4 .taken)
+returns-4 c =
+    let a = c .before .before .before .before .before .before .before .before .before .args in
+    succ-same (faultySuccessor (blocksIn (a .blocks) (a .n)) (a .i) (blockOf (a .b))) (a .b .first .0) (a .b .second .0) (a .b .count) (c .before .before .before .before .before .before .before .before .if1 .left) (c .before .before .before .before .if3 .left) (c .if4 .taken)
 
 faulty-successor-requires-2 : tie.Need-faulty-successor-requires-2
 faulty-successor-requires-2 c κs = search needs
 
 returns-5 : tie.Need-returns-5
-returns-5 c = c .faulty-successor2 .ensures ∙ succ-second (faultySuccessor (blocksIn (c .before .before .before .before .before .before .args .blocks) (c .before .before .before .before .before .before .args .n)) (c .before .before .before .before .before .before .args .i) (blockOf (c .before .before .before .before .before .before .args .b))) (c .before .before .before .before .before .before .args .b .first .0) (c .before .before .before .before .before .before .args .b .second .0) (c .before .before .before .before .before .before .args .b .count) (c .before .before .before .before .before .if1 .left) (c .before .before .if3 .left) (c .before .if4 .left) (sym (c .before .before .before .before .faulty-successor .ensures) ∙ c .before .before .before .if2 .left)
+returns-5 c =
+    let a = c .before .before .before .before .before .before .before .before .before .before .args in
+    c .faulty-successor2 .ensures ∙ succ-second (faultySuccessor (blocksIn (a .blocks) (a .n)) (a .i) (blockOf (a .b))) (a .b .first .0)
+    (a .b .second .0) (a .b .count) (c .before .before .before .before .before .before .before .before .before .if1 .left)
+    (c .before .before .before .before .before .if3 .left) (c .before .if4 .left)
+    (sym (c .before .before .before .before .before .before .before .faulty-successor .ensures) ∙ c .before .before .before .before .before .before .if2 .left)
 
 pub faulty-successors-spec : {M : Type 1} → statement M
 faulty-successors-spec =

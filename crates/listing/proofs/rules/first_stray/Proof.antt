@@ -39,14 +39,24 @@ add-u16-at c = omega arith
 u16-at-requires : tie.Need-u16-at-requires Inv-loop μ-loop
 u16-at-requires c κs = search needs
 
+cast-t15 : tie.Need-cast-t15 Inv-loop μ-loop
+cast-t15 c = omega arith
+
 ends-block-requires : tie.Need-ends-block-requires Inv-loop μ-loop
 ends-block-requires c κs = c .before .before .before .before .before .before .pre .0
 
 returns : tie.Need-returns Inv-loop μ-loop
-returns c = let full : length (c .before .before .before .before .before .before .before .before .args .t2) ≡ 512 = search needs in
-    let fits : c .before .before .before .before .before .before .before .before .args .m ≤ length (c .before .before .before .before .before .before .before .before .args .t2) = omega arith in
-    first-stop (strayRet (map (instrAt (c .before .before .before .before .before .before .before .before .args .s .now)) (take (c .before .before .before .before .before .before .before .before .args .m) (c .before .before .before .before .before .before .before .before .args .t2))) (blocksIn (c .before .before .before .before .before .before .before .before .args .blocks) (c .before .before .before .before .before .before .before .before .args .n))) (c .before .before .before .before .before .before .loop .k) (c .before .before .before .before .before .before .before .before .args .m) _ (c .before .before .before .before .before .loop-test .taken) (c .before .before .before .before .before .before .loop .inv .1)
-    (rw (stray-eq (c .before .before .before .before .before .before .before .before .args .s .now) (c .before .before .before .before .before .before .before .before .args .t2) (c .before .before .before .before .before .before .before .before .args .m) fits (blocksIn (c .before .before .before .before .before .before .before .before .args .blocks) (c .before .before .before .before .before .before .before .before .args .n)) (c .before .before .before .before .before .before .loop .k) (c .before .before .before .before .before .loop-test .taken), (ap (λ (n : ℕ). eqb n 23) (sym (c .before .before .before .u16-at .ensures ∙ ap (kindAt (c .before .before .before .before .before .before .before .before .args .s .now)) (c .before .before .before .before .place .ensures .0))) ∙ eq-eqb _ 23 (c .before .before .if1 .taken)), sym (c .before .ends-block .ensures) ∙ not-true _ (c .if2 .taken)))
+returns c =
+    let a = c .before .before .before .before .before .before .before .before .args in
+    let l = c .before .before .before .before .before .before .loop in
+    let t = c .before .before .before .before .before .loop-test in
+    let full : length (a .t2) ≡ 512 = search needs in
+    let fits : a .m ≤ length (a .t2) = omega arith in
+    first-stop (strayRet (map (instrAt (a .s .now)) (take (a .m) (a .t2))) (blocksIn (a .blocks) (a .n))) (l .k) (a .m) _ (t .taken) (l .inv .1)
+    (rw (stray-eq (a .s .now) (a .t2) (a .m) fits (blocksIn (a .blocks) (a .n)) (l .k) (t .taken),
+    (ap (λ (n : ℕ). eqb n 23) (sym (c .before .before .before .u16-at .ensures ∙ ap (kindAt (a .s .now))
+    (c .before .before .before .before .place .ensures .0))) ∙ eq-eqb _ 23 (c .before .before .if1 .taken)), sym (c .before .ends-block .ensures)
+    ∙ not-true _ (c .if2 .taken)))
 
 add-k : tie.Need-add-k Inv-loop μ-loop
 add-k c = omega arith
@@ -55,18 +65,27 @@ loop-less : tie.Need-loop-less Inv-loop μ-loop
 loop-less c = omega arith
 
 loop-again : tie.Need-loop-again Inv-loop μ-loop
-loop-again c = let full : length (c .before .before .before .before .before .before .args .t2) ≡ 512 = search needs in
-    let fits : c .before .before .before .before .before .before .args .m ≤ length (c .before .before .before .before .before .before .args .t2) = omega arith in (
+loop-again c =
+    let a = c .before .before .before .before .before .before .args in
+    let l = c .before .before .before .before .loop in
+    let t = c .before .before .before .loop-test in
+    let p = c .before .before .place in
+    let ua = c .before .u16-at in
+    let full : length (a .t2) ≡ 512 = search needs in
+    let fits : a .m ≤ length (a .t2) = omega arith in (
       omega arith,
-      first-turn (strayRet (map (instrAt (c .before .before .before .before .before .before .args .s .now)) (take (c .before .before .before .before .before .before .args .m) (c .before .before .before .before .before .before .args .t2))) (blocksIn (c .before .before .before .before .before .before .args .blocks) (c .before .before .before .before .before .before .args .n))) (c .before .before .before .before .loop .k) (c .before .before .before .before .before .before .args .m) _ (c .before .before .before .loop-test .taken) (c .before .before .before .before .loop .inv .1)
+      first-turn (strayRet (map (instrAt (a .s .now)) (take (a .m) (a .t2))) (blocksIn (a .blocks) (a .n))) (l .k) (a .m) _ (t .taken) (l .inv .1)
           (cases (c .if1 .came)
-          (λ w. rw (stray-eq (c .before .before .before .before .before .before .args .s .now) (c .before .before .before .before .before .before .args .t2) (c .before .before .before .before .before .before .args .m) fits (blocksIn (c .before .before .before .before .before .before .args .blocks) (c .before .before .before .before .before .before .args .n)) (c .before .before .before .before .loop .k) (c .before .before .before .loop-test .taken), (ap (λ (n : ℕ). eqb n 23) (sym (c .before .u16-at .ensures ∙ ap (kindAt (c .before .before .before .before .before .before .args .s .now)) (c .before .before .place .ensures .0))) ∙ eq-eqb _ 23 (w .0 .taken)), sym (w .1 .ensures) ∙ not-false _ (w .2 .left)))
-          (λ w. rw (stray-eq (c .before .before .before .before .before .before .args .s .now) (c .before .before .before .before .before .before .args .t2) (c .before .before .before .before .before .before .args .m) fits (blocksIn (c .before .before .before .before .before .before .args .blocks) (c .before .before .before .before .before .before .args .n)) (c .before .before .before .before .loop .k) (c .before .before .before .loop-test .taken), (ap (λ (n : ℕ). eqb n 23) (sym (c .before .u16-at .ensures ∙ ap (kindAt (c .before .before .before .before .before .before .args .s .now)) (c .before .before .place .ensures .0))) ∙ ne-eqb _ 23 (w .left))))),
+          (λ w. rw (stray-eq (a .s .now) (a .t2) (a .m) fits (blocksIn (a .blocks) (a .n)) (l .k) (t .taken), (ap (λ (n : ℕ). eqb n 23) (sym (ua .ensures ∙ ap (kindAt (a .s .now)) (p .ensures .0))) ∙ eq-eqb _ 23 (w .0 .taken)), sym (w .1 .ensures) ∙ not-false _ (w .2 .left)))
+          (λ w. rw (stray-eq (a .s .now) (a .t2) (a .m) fits (blocksIn (a .blocks) (a .n)) (l .k) (t .taken), (ap (λ (n : ℕ). eqb n 23) (sym (ua .ensures ∙ ap (kindAt (a .s .now)) (p .ensures .0))) ∙ ne-eqb _ 23 (w .left))))),
     )
 
 returns-2 : tie.Need-returns-2 Inv-loop μ-loop
-returns-2 c = let e : c .before .loop .k ≡ c .before .before .before .args .m = omega arith in
-    first-end (strayRet (map (instrAt (c .before .before .before .args .s .now)) (take (c .before .before .before .args .m) (c .before .before .before .args .t2))) (blocksIn (c .before .before .before .args .blocks) (c .before .before .before .args .n))) (c .before .loop .k) (c .before .before .before .args .m) _ e (c .before .loop .inv .1)
+returns-2 c =
+    let a = c .before .before .before .args in
+    let l = c .before .loop in
+    let e : l .k ≡ a .m = omega arith in
+    first-end (strayRet (map (instrAt (a .s .now)) (take (a .m) (a .t2))) (blocksIn (a .blocks) (a .n))) (l .k) (a .m) _ e (l .inv .1)
 
 pub first-stray-spec : {M : Type 1} → statement M
 first-stray-spec =
@@ -80,6 +99,7 @@ first-stray-spec =
     place-requires
     add-u16-at
     u16-at-requires
+    cast-t15
     ends-block-requires
     returns
     add-k

@@ -27,8 +27,11 @@ array-copy-out-c : tie.Need-array-copy-out-c Inv-loop μ-loop
 array-copy-out-c c = omega arith
 
 returns : tie.Need-returns Inv-loop μ-loop
-returns c = let full : length (c .before .before .before .before .before .before .before .before .args .t1) ≡ 16 = search (unmapped) in
-    found (c .before .before .before .before .before .before .before .before .args .t1) (c .before .before .before .before .before .before .before .before .args .n) full (c .before .before .before .before .before .before .before .before .pre) (overlap (blockOf (c .before .before .before .before .before .before .before .before .args .b))) _ (c .before .before .before .before .before .before .before .loop .i) (c .before .before .before .before .before .before .loop-test .taken) (c .before .before .before .before .before .before .before .loop .inv) (c .if1 .taken)
+returns c =
+    let a = c .before .before .before .before .before .before .before .before .args in
+    let l = c .before .before .before .before .before .before .before .loop in
+    let full : length (a .t1) ≡ 16 = search (unmapped) in
+    found (a .t1) (a .n) full (c .before .before .before .before .before .before .before .before .pre) (overlap (blockOf (a .b))) _ (l .i) (c .before .before .before .before .before .before .loop-test .taken) (l .inv) (c .if1 .taken)
 
 add-i : tie.Need-add-i Inv-loop μ-loop
 add-i c = omega arith
@@ -37,8 +40,11 @@ loop-less : tie.Need-loop-less Inv-loop μ-loop
 loop-less c = omega arith
 
 loop-again : tie.Need-loop-again Inv-loop μ-loop
-loop-again c = let full : length (c .before .before .before .before .before .before .before .before .args .t1) ≡ 16 = search (unmapped) in
-    passed (c .before .before .before .before .before .before .before .before .args .t1) (c .before .before .before .before .before .before .before .before .args .n) full (c .before .before .before .before .before .before .before .before .pre) (overlap (blockOf (c .before .before .before .before .before .before .before .before .args .b))) _ (c .before .before .before .before .before .before .before .loop .i) (c .before .before .before .before .before .before .loop-test .taken) (c .before .before .before .before .before .before .before .loop .inv) (c .if1 .left)
+loop-again c =
+    let a = c .before .before .before .before .before .before .before .before .args in
+    let l = c .before .before .before .before .before .before .before .loop in
+    let full : length (a .t1) ≡ 16 = search (unmapped) in
+    passed (a .t1) (a .n) full (c .before .before .before .before .before .before .before .before .pre) (overlap (blockOf (a .b))) _ (l .i) (c .before .before .before .before .before .before .loop-test .taken) (l .inv) (c .if1 .left)
 
 returns-2 : tie.Need-returns-2 Inv-loop μ-loop
 returns-2 c = let full : length (c .before .before .args .t1) ≡ 16 = search (unmapped) in

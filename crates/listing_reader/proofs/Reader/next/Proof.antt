@@ -44,7 +44,7 @@ use denote.Triple.Walked.{says, Stays, stay-ref, walkOf, goes-ref, Walks, ends-a
 use Rattle.listing_records.specs.declared.Found.{Found}
 use Rattle.listing_records.proofs.Found as F
 use Rattle.listing_records.proofs.Found.Laws as F′
-use Rattle.listing_reader.specs.Models.{stepAt}
+use Rattle.listing_reader.specs.Models.{StepFor}
 use Rattle.listing_reader.specs.declared.Reader.{Reader}
 use Rattle.listing_reader.specs.declared.Step.{Step}
 use Rattle.listing_reader.proofs.Reader as T
@@ -104,7 +104,7 @@ module _ {M : Type 1} (𝓤 : URA M) (H : Heap 𝓤) (A : Atoms 𝓤) (W : Given
 
   -- what `step_at` says of its answer
   abbrev Said : Step → Type 0
-  Said r = r ≡ stepAt (now (h .listing)) (h .at)
+  Said r = StepFor (now (h .listing)) (h .at) r
 
   abbrev to : StepAt 𝓤 H A at-mem run .Ghost
   to = (((κ′, tt), (q′, tt), tt, args h, arg-vals h), tt)
@@ -133,7 +133,7 @@ module _ {M : Type 1} (𝓤 : URA M) (H : Heap 𝓤) (A : Atoms 𝓤) (W : Given
     exits e =
         qed W (‵ (fobs γ (B .coded .code h′)) ∷ ‵ (fbor κ (Body (mem B) b o γ)) ∷ ‵ (flft κ q) ∷ (‵ (flft κ′ q′) ⊛ ‵ ftrue) ∷ []) ∵
         suffices ! _ (ends-at 𝓤 H A next.ended stayed (next.clauses 𝓤 H A at-mem run) W (((κ, (κ′, tt)), (q, (q′, tt)), bounds, x, at), tt) (found-val (r .found)) (r .found) (h′, tt) (tt, tt)) $
-        says ! (ap (λ (s : Step). s .found) e, ap (λ (s : Step). record { listing = h .listing; at = s .at }) e) $
+        says ! (e .found, ap (λ (n : ℕ). record { listing = h .listing; at = n }) (e .at)) $
         move ! (2 ∷ 3 ∷ []) $ join ! $ frame ! $ feqI ! (List Val) (vptr b o ∷ []) (vptr b o ∷ []) refl $ fjoin3 ! $ nothing ! $ move ! (1 ∷ 0 ∷ []) $ fjoin ! $ frame ! $
         owned ! F.the-row (Is F.the-row) (EL.makes F.the-type F′.the-plain 𝓤 H A) (r .found) _ found-is $ done !
 

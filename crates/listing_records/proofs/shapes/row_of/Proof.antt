@@ -4,7 +4,7 @@ use Prim.Native.Nat.{ℕ, _+_, _-_, _≤_}
 use lib.ListN.{getD}
 use Rattle.listing_records.specs.Models.{kinds}
 use Rattle.listing_records.proofs.Laws.{unused-kind}
-use Rattle.meaning.specs.Laws.Listing.{Every, every-at}
+use Rattle.listing_records.proofs.Lists.{Every, every-at}
 use borrow.Author.Needs.{needs}
 use native.Mathlib.Omega.{arith}
 use Rattle.listing_records.proofs.shapes.row_of.Statement.{statement}

@@ -6,7 +6,7 @@ use mathlib.Core.List.{List, [], _∷_}
 use lib.ListN.{getD}
 use Rattle.meaning.specs.Listing as D
 use Rattle.listing_records.specs.Models.{packed, kinds}
-use Rattle.meaning.specs.Laws.Listing.{Every, every-at}
+use Rattle.listing_records.proofs.Lists.{Every, every-at}
 use borrow.Author.Needs.{needs}
 use native.Mathlib.Omega.{arith}
 use Rattle.listing_records.proofs.shapes.shape_of.Statement.{statement}
