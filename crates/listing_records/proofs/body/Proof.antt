@@ -26,7 +26,9 @@ cast-end c = search needs
 
 add-end : tie.Need-add-end
 unfolding wholeAt
-add-end c = let w : c .before .before .before .before .args .c .at + 4 + u16At (c .before .before .before .before .args .s .now) (c .before .before .before .before .args .c .at) ≤ length (c .before .before .before .before .args .s .now) = leb-true _ _ (sym (c .before .before .whole-at .ensures) ∙ c .before .if1 .taken) in
+add-end c =
+    let a = c .before .before .before .before .args in
+    let w : a .c .at + 4 + u16At (a .s .now) (a .c .at) ≤ length (a .s .now) = leb-true _ _ (sym (c .before .before .whole-at .ensures) ∙ c .before .if1 .taken) in
     omega arith
 
 sub-result : tie.Need-sub-result
@@ -37,7 +39,9 @@ part-result-start c = search needs
 
 part-result-end : tie.Need-part-result-end
 unfolding wholeAt
-part-result-end c = let w : c .before .before .before .before .args .c .at + 4 + u16At (c .before .before .before .before .args .s .now) (c .before .before .before .before .args .c .at) ≤ length (c .before .before .before .before .args .s .now) = leb-true _ _ (sym (c .before .before .whole-at .ensures) ∙ c .before .if1 .taken) in
+part-result-end c =
+    let a = c .before .before .before .before .args in
+    let w : a .c .at + 4 + u16At (a .s .now) (a .c .at) ≤ length (a .s .now) = leb-true _ _ (sym (c .before .before .whole-at .ensures) ∙ c .before .if1 .taken) in
     omega arith
 
 slice-aggregate-result : tie.Need-slice-aggregate-result
@@ -45,9 +49,12 @@ slice-aggregate-result c = search needs
 
 returns : tie.Need-returns
 unfolding bodyAt
-returns c = let w : wholeAt (c .before .before .before .before .before .args .s .now) (c .before .before .before .before .before .args .c .at) ≡ true = sym (c .before .before .before .whole-at .ensures) ∙ c .before .before .if1 .taken in
-    let e : (c .before .before .before .before .before .args .c .at + 4 + c .before .u16-at .result) - (c .before .before .before .before .before .args .c .at + 4) ≡ u16At (c .before .before .before .before .before .args .s .now) (c .before .before .before .before .before .args .c .at) = omega (arith, c .before .u16-at .ensures) in
-    rw w (ap (λ (n : ℕ). take n (drop (c .before .before .before .before .before .args .c .at + 4) (c .before .before .before .before .before .args .s .now))) e)
+returns c =
+    let a = c .before .before .before .before .before .args in
+    let ua = c .before .u16-at in
+    let w : wholeAt (a .s .now) (a .c .at) ≡ true = sym (c .before .before .before .whole-at .ensures) ∙ c .before .before .if1 .taken in
+    let e : (a .c .at + 4 + ua .result) - (a .c .at + 4) ≡ u16At (a .s .now) (a .c .at) = omega (arith, ua .ensures) in
+    rw w (ap (λ (n : ℕ). take n (drop (a .c .at + 4) (a .s .now))) e)
 
 returns-2 : tie.Need-returns-2
 unfolding bodyAt

@@ -24,7 +24,9 @@ add-u16-in c = search needs
 
 u16-in-requires : tie.Need-u16-in-requires
 unfolding wholeAt
-u16-in-requires c κs = let w : (c .before .before .before .before .args) .c .at + 4 + u16At ((c .before .before .before .before .args) .s .now) ((c .before .before .before .before .args) .c .at) ≤ length ((c .before .before .before .before .args) .s .now) = leb-true _ _ (sym ((c .before .whole-at) .ensures) ∙ (c .if2) .taken) in
+u16-in-requires c κs =
+    let a = c .before .before .before .before .args in
+    let w : a .c .at + 4 + u16At (a .s .now) (a .c .at) ≤ length (a .s .now) = leb-true _ _ (sym ((c .before .whole-at) .ensures) ∙ (c .if2) .taken) in
     omega arith
 
 add-next : tie.Need-add-next
@@ -32,7 +34,9 @@ add-next c = search needs
 
 u16-in-requires-2 : tie.Need-u16-in-requires-2
 unfolding wholeAt
-u16-in-requires-2 c κs = let w : (c .before .before .before .before .before .args) .c .at + 4 + u16At ((c .before .before .before .before .before .args) .s .now) ((c .before .before .before .before .before .args) .c .at) ≤ length ((c .before .before .before .before .before .args) .s .now) = leb-true _ _ (sym ((c .before .before .whole-at) .ensures) ∙ (c .before .if2) .taken) in
+u16-in-requires-2 c κs =
+    let a = c .before .before .before .before .before .args in
+    let w : a .c .at + 4 + u16At (a .s .now) (a .c .at) ≤ length (a .s .now) = leb-true _ _ (sym ((c .before .before .whole-at) .ensures) ∙ (c .before .if2) .taken) in
     omega arith
 
 cast-next : tie.Need-cast-next

@@ -56,10 +56,14 @@ cast-blocks : tie.Need-cast-blocks Inv-loop μ-loop
 cast-blocks c = omega arith
 
 mul-blocks : tie.Need-mul-blocks Inv-loop μ-loop
-mul-blocks c = let h : (c .before .before .before .before .before .before .before .before .loop) .block-count < 16 = room-block ((c .before .before .before .before .before .before .test-record) .result .kind) (c .before .before .before .before .before .before .before .before .loop .block-count) (c .before .before .before .before .before .before .before .before .loop .code-count) (sym ((c .before .before .before .is-full) .ensures) ∙ (c .before .before .if2) .left) ((c .if3) .taken) in omega arith
+mul-blocks c =
+    let l = c .before .before .before .before .before .before .before .before .loop in
+    let h : l .block-count < 16 = room-block ((c .before .before .before .before .before .before .test-record) .result .kind) (l .block-count) (l .code-count) (sym ((c .before .before .before .is-full) .ensures) ∙ (c .before .before .if2) .left) ((c .if3) .taken) in omega arith
 
 array-write-blocks : tie.Need-array-write-blocks Inv-loop μ-loop
-array-write-blocks c = let h : (c .before .before .before .before .before .before .before .before .loop) .block-count < 16 = room-block ((c .before .before .before .before .before .before .test-record) .result .kind) (c .before .before .before .before .before .before .before .before .loop .block-count) (c .before .before .before .before .before .before .before .before .loop .code-count) (sym ((c .before .before .before .is-full) .ensures) ∙ (c .before .before .if2) .left) ((c .if3) .taken) in omega arith
+array-write-blocks c =
+    let l = c .before .before .before .before .before .before .before .before .loop in
+    let h : l .block-count < 16 = room-block ((c .before .before .before .before .before .before .test-record) .result .kind) (l .block-count) (l .code-count) (sym ((c .before .before .before .is-full) .ensures) ∙ (c .before .before .if2) .left) ((c .if3) .taken) in omega arith
 
 add-block-count : tie.Need-add-block-count Inv-loop μ-loop
 add-block-count c = omega arith
@@ -68,10 +72,18 @@ cast-code : tie.Need-cast-code Inv-loop μ-loop
 cast-code c = omega arith
 
 mul-code : tie.Need-mul-code Inv-loop μ-loop
-mul-code c = let h : (c .before .before .before .before .before .before .before .before .before .before .loop) .code-count < 512 = room-code ((c .before .before .before .before .before .before .before .before .test-record) .result .kind) (c .before .before .before .before .before .before .before .before .before .before .loop .block-count) (c .before .before .before .before .before .before .before .before .before .before .loop .code-count) (sym ((c .before .before .before .before .before .is-full) .ensures) ∙ (c .before .before .before .before .if2) .left) ((c .if4) .taken) ((c .before .before .if3) .left) in omega arith
+mul-code c =
+    let l = c .before .before .before .before .before .before .before .before .before .before .loop in
+    let h : l .code-count < 512 = room-code ((c .before .before .before .before .before .before .before .before .test-record) .result .kind)
+    (l .block-count) (l .code-count) (sym ((c .before .before .before .before .before .is-full) .ensures) ∙
+    (c .before .before .before .before .if2) .left) ((c .if4) .taken) ((c .before .before .if3) .left) in omega arith
 
 array-write-code : tie.Need-array-write-code Inv-loop μ-loop
-array-write-code c = let h : (c .before .before .before .before .before .before .before .before .before .before .loop) .code-count < 512 = room-code ((c .before .before .before .before .before .before .before .before .test-record) .result .kind) (c .before .before .before .before .before .before .before .before .before .before .loop .block-count) (c .before .before .before .before .before .before .before .before .before .before .loop .code-count) (sym ((c .before .before .before .before .before .is-full) .ensures) ∙ (c .before .before .before .before .if2) .left) ((c .if4) .taken) ((c .before .before .if3) .left) in omega arith
+array-write-code c =
+    let l = c .before .before .before .before .before .before .before .before .before .before .loop in
+    let h : l .code-count < 512 = room-code ((c .before .before .before .before .before .before .before .before .test-record) .result .kind)
+    (l .block-count) (l .code-count) (sym ((c .before .before .before .before .before .is-full) .ensures) ∙
+    (c .before .before .before .before .if2) .left) ((c .if4) .taken) ((c .before .before .if3) .left) in omega arith
 
 add-code-count : tie.Need-add-code-count Inv-loop μ-loop
 add-code-count c = omega arith
@@ -93,25 +105,32 @@ loop-less-2 : tie.Need-loop-less-2 Inv-loop μ-loop
 loop-less-2 c = let x = (c .before .before .before .before .before .before .before .before .test-record) .ensures .next ((c .before .before .before .before .before .before .if1) .left) in omega arith
 
 loop-again-2 : tie.Need-loop-again-2 Inv-loop μ-loop
-loop-again-2 c = let a = (c .before .before .before .before .before .before .before .before .before .before .before .before .args) in
+loop-again-2 c =
+    let i3 = c .before .before .if3 in
+    let a = (c .before .before .before .before .before .before .before .before .before .before .before .before .args) in
     let l = (c .before .before .before .before .before .before .before .before .before .before .loop) in
     let t = (c .before .before .before .before .before .before .before .before .test-record) in
     let z : t .result .number ≡ 0 = (c .before .before .before .before .before .before .if1) .left in
-    let h : l .code-count < 512 = room-code (t .result .kind) (l .block-count) (l .code-count) (sym ((c .before .before .before .before .before .is-full) .ensures) ∙ (c .before .before .before .before .if2) .left) ((c .if4) .taken) ((c .before .before .if3) .left) in
+    let h : l .code-count < 512 = room-code (t .result .kind) (l .block-count) (l .code-count) (sym ((c .before .before .before .before .before .is-full) .ensures) ∙ (c .before .before .before .before .if2) .left) ((c .if4) .taken) (i3 .left) in
     (omega arith, omega arith, l .inv .2, simp length-set (l .inv .3), rw (t .ensures .next z)
-    (go-code (a .s .now) (l .blocks) (l .code) (l .block-count) (l .code-count) (l .at) (a .locals) _ ((c .before .before .before .before .before .before .before .before .before .loop-test) .taken) ((c .before .before .before .before .before .before .before .before .before .before .before .before .pre) .1) (l .inv .4)
-    (sym (t .ensures .number) ∙ ap faultOf z) (λ e. (c .if4) .taken (t .ensures .kind z ∙ e)) (λ e. (c .before .before .if3) .left (t .ensures .kind z ∙ e)) h (omega arith)))
+    (go-code (a .s .now) (l .blocks) (l .code) (l .block-count) (l .code-count) (l .at) (a .locals) _
+    ((c .before .before .before .before .before .before .before .before .before .loop-test) .taken)
+    ((c .before .before .before .before .before .before .before .before .before .before .before .before .pre) .1) (l .inv .4)
+    (sym (t .ensures .number) ∙ ap faultOf z) (λ e. (c .if4) .taken (t .ensures .kind z ∙ e)) (λ e. i3 .left (t .ensures .kind z ∙ e)) h (omega arith)))
 
 loop-less-3 : tie.Need-loop-less-3 Inv-loop μ-loop
 loop-less-3 c = let x = (c .before .before .before .before .before .before .before .before .test-record) .ensures .next ((c .before .before .before .before .before .before .if1) .left) in omega arith
 
 loop-again-3 : tie.Need-loop-again-3 Inv-loop μ-loop
-loop-again-3 c = let a = (c .before .before .before .before .before .before .before .before .before .before .before .before .args) in
+loop-again-3 c =
+    let a = (c .before .before .before .before .before .before .before .before .before .before .before .before .args) in
     let l = (c .before .before .before .before .before .before .before .before .before .before .loop) in
     let t = (c .before .before .before .before .before .before .before .before .test-record) in
     let z : t .result .number ≡ 0 = (c .before .before .before .before .before .before .if1) .left in
     (omega arith, omega arith, l .inv .2, l .inv .3, rw (t .ensures .next z)
-    (go-first (a .s .now) (l .blocks) (l .code) (l .block-count) (l .code-count) (l .at) (a .locals) _ ((c .before .before .before .before .before .before .before .before .before .loop-test) .taken) ((c .before .before .before .before .before .before .before .before .before .before .before .before .pre) .1) (l .inv .4)
+    (go-first (a .s .now) (l .blocks) (l .code) (l .block-count) (l .code-count) (l .at) (a .locals) _
+    ((c .before .before .before .before .before .before .before .before .before .loop-test) .taken)
+    ((c .before .before .before .before .before .before .before .before .before .before .before .before .pre) .1) (l .inv .4)
     (sym (t .ensures .number) ∙ ap faultOf z) (sym (t .ensures .kind z) ∙ (c .if4) .left)))
 
 returns-3 : tie.Need-returns-3 Inv-loop μ-loop

@@ -31,60 +31,97 @@ part-rest-end c = omega arith
 
 returns : tie.Need-returns Inv-loop μ-loop
 unfolding bodyFault
-returns c = let d : length (drop ((c .before .before .before .loop) .i) ((c .before .before .before .before .before .args) .b .now)) ≡ length ((c .before .before .before .before .before .args) .b .now) - (c .before .before .before .loop) .i = length-drop ((c .before .before .before .loop) .i) ((c .before .before .before .before .before .args) .b .now) in
-    let p : 0 < fieldWidth (fieldOf ((c .before .before .before .loop) .fields % 16)) (drop ((c .before .before .before .loop) .i) ((c .before .before .before .before .before .args) .b .now)) = some-width (fieldOf ((c .before .before .before .loop) .fields % 16)) (drop ((c .before .before .before .loop) .i) ((c .before .before .before .before .before .args) .b .now)) in
-    let h : length (drop ((c .before .before .before .loop) .i) ((c .before .before .before .before .before .args) .b .now)) < fieldWidth (fieldOf ((c .before .before .before .loop) .fields % 16)) (drop ((c .before .before .before .loop) .i) ((c .before .before .before .before .before .args) .b .now)) = omega arith in
-    rw (← fit-wide ((c .before .before .before .before .before .args) .locals) (packed 4 ((c .before .before .before .loop) .fields)) (packed 4 ((c .before .before .before .loop) .fields / 16)) ((c .before .before .before .before .before .args) .b .now) ((c .before .before .before .loop) .i) (fieldWidth (fieldOf ((c .before .before .before .loop) .fields % 16)) (drop ((c .before .before .before .loop) .i) ((c .before .before .before .before .before .args) .b .now))) (fieldOf ((c .before .before .before .loop) .fields % 16)) (fields-here ((c .before .before .before .loop) .fields) ((c .before .before .before .loop) .inv .1) ((c .before .before .loop-test) .taken)) refl _ ((c .before .before .before .loop) .inv .2) h)
+returns c =
+    let a = c .before .before .before .before .before .args in
+    let l = c .before .before .before .loop in
+    let d : length (drop (l .i) (a .b .now)) ≡ length (a .b .now) - l .i = length-drop (l .i) (a .b .now) in
+    let p : 0 < fieldWidth (fieldOf (l .fields % 16)) (drop (l .i) (a .b .now)) = some-width (fieldOf (l .fields % 16)) (drop (l .i) (a .b .now)) in
+    let h : length (drop (l .i) (a .b .now)) < fieldWidth (fieldOf (l .fields % 16)) (drop (l .i) (a .b .now)) = omega arith in
+    rw (← fit-wide (a .locals) (packed 4 (l .fields)) (packed 4 (l .fields / 16)) (a .b .now) (l .i) (fieldWidth (fieldOf (l .fields % 16)) (drop (l .i) (a .b .now))) (fieldOf (l .fields % 16)) (fields-here (l .fields) (l .inv .1) ((c .before .before .loop-test) .taken)) refl _ (l .inv .2) h)
 
 test-field-requires : tie.Need-test-field-requires Inv-loop μ-loop
-test-field-requires c κs = let d : length (drop ((c .before .before .before .loop) .i) ((c .before .before .before .before .before .args) .b .now)) ≡ length ((c .before .before .before .before .before .args) .b .now) - (c .before .before .before .loop) .i = length-drop ((c .before .before .before .loop) .i) ((c .before .before .before .before .before .args) .b .now) in
-    let t : take (length ((c .before .before .before .before .before .args) .b .now) - (c .before .before .before .loop) .i) (drop ((c .before .before .before .loop) .i) ((c .before .before .before .before .before .args) .b .now)) ≡ drop ((c .before .before .before .loop) .i) ((c .before .before .before .before .before .args) .b .now) = tail-part ((c .before .before .before .before .before .args) .b .now) ((c .before .before .before .loop) .i) in
+test-field-requires c κs =
+    let a = c .before .before .before .before .before .args in
+    let l = c .before .before .before .loop in
+    let d : length (drop (l .i) (a .b .now)) ≡ length (a .b .now) - l .i = length-drop (l .i) (a .b .now) in
+    let t : take (length (a .b .now) - l .i) (drop (l .i) (a .b .now)) ≡ drop (l .i) (a .b .now) = tail-part (a .b .now) (l .i) in
     rw t (omega arith)
 
 returns-2 : tie.Need-returns-2 Inv-loop μ-loop
 unfolding bodyFault
-returns-2 c = let d : length (drop ((c .before .before .before .before .before .before .before .loop) .i) ((c .before .before .before .before .before .before .before .before .before .args) .b .now)) ≡ length ((c .before .before .before .before .before .before .before .before .before .args) .b .now) - (c .before .before .before .before .before .before .before .loop) .i = length-drop ((c .before .before .before .before .before .before .before .loop) .i) ((c .before .before .before .before .before .before .before .before .before .args) .b .now) in
-    let t : take (length ((c .before .before .before .before .before .before .before .before .before .args) .b .now) - (c .before .before .before .before .before .before .before .loop) .i) (drop ((c .before .before .before .before .before .before .before .loop) .i) ((c .before .before .before .before .before .before .before .before .before .args) .b .now)) ≡ drop ((c .before .before .before .before .before .before .before .loop) .i) ((c .before .before .before .before .before .before .before .before .before .args) .b .now) = tail-part ((c .before .before .before .before .before .before .before .before .before .args) .b .now) ((c .before .before .before .before .before .before .before .loop) .i) in
-    let g : FieldFor ((c .before .before .before .before .before .before .before .before .before .args) .locals) (fieldOf ((c .before .before .before .before .before .before .before .loop) .fields % 16)) (drop ((c .before .before .before .before .before .before .before .loop) .i) ((c .before .before .before .before .before .before .before .before .before .args) .b .now)) ((c .before .before .before .test-field) .result) = (rw t at ((c .before .before .before .test-field) .ensures)) in
-    rw (← fit-stop ((c .before .before .before .before .before .before .before .before .before .args) .locals) (packed 4 ((c .before .before .before .before .before .before .before .loop) .fields)) (packed 4 ((c .before .before .before .before .before .before .before .loop) .fields / 16)) ((c .before .before .before .before .before .before .before .before .before .args) .b .now) ((c .before .before .before .before .before .before .before .loop) .i) ((c .before .before .before .test-field) .result .width) (fieldOf ((c .before .before .before .before .before .before .before .loop) .fields % 16)) (fields-here ((c .before .before .before .before .before .before .before .loop) .fields) ((c .before .before .before .before .before .before .before .loop) .inv .1) ((c .before .before .before .before .before .before .loop-test) .taken)) (g .width) (length (take (length ((c .before .before .before .before .before .before .before .before .before .args) .b .now) - (c .before .before .before .before .before .before .before .loop) .i) (drop ((c .before .before .before .before .before .before .before .loop) .i) ((c .before .before .before .before .before .before .before .before .before .args) .b .now)))) ((c .before .before .before .test-field) .result .right) (ap (λ (l : List ℕ). length l) t) _ ((c .before .before .before .before .before .before .before .loop) .inv .2) (g .right) ((c .if2) .taken))
+returns-2 c =
+    let a = c .before .before .before .before .before .before .before .before .before .args in
+    let l2 = c .before .before .before .before .before .before .before .loop in
+    let tf = c .before .before .before .test-field in
+    let d : length (drop (l2 .i) (a .b .now)) ≡ length (a .b .now) - l2 .i = length-drop (l2 .i) (a .b .now) in
+    let t : take (length (a .b .now) - l2 .i) (drop (l2 .i) (a .b .now)) ≡ drop (l2 .i) (a .b .now) = tail-part (a .b .now) (l2 .i) in
+    let g : FieldFor (a .locals) (fieldOf (l2 .fields % 16)) (drop (l2 .i) (a .b .now)) (tf .result) = (rw t at (tf .ensures)) in
+    rw (← fit-stop (a .locals) (packed 4 (l2 .fields)) (packed 4 (l2 .fields / 16)) (a .b .now) (l2 .i) (tf .result .width)
+    (fieldOf (l2 .fields % 16)) (fields-here (l2 .fields) (l2 .inv .1) ((c .before .before .before .before .before .before .loop-test) .taken))
+    (g .width) (length (take (length (a .b .now) - l2 .i) (drop (l2 .i) (a .b .now)))) (tf .result .right) (ap (λ (l : List ℕ). length l) t) _
+    (l2 .inv .2) (g .right) ((c .if2) .taken))
 
 add-i : tie.Need-add-i Inv-loop μ-loop
-add-i c = let d : length (drop ((c .before .before .before .before .before .before .before .before .before .loop) .i) ((c .before .before .before .before .before .before .before .before .before .before .before .args) .b .now)) ≡ length ((c .before .before .before .before .before .before .before .before .before .before .before .args) .b .now) - (c .before .before .before .before .before .before .before .before .before .loop) .i = length-drop ((c .before .before .before .before .before .before .before .before .before .loop) .i) ((c .before .before .before .before .before .before .before .before .before .before .before .args) .b .now) in
-    let t : take (length ((c .before .before .before .before .before .before .before .before .before .before .before .args) .b .now) - (c .before .before .before .before .before .before .before .before .before .loop) .i) (drop ((c .before .before .before .before .before .before .before .before .before .loop) .i) ((c .before .before .before .before .before .before .before .before .before .before .before .args) .b .now)) ≡ drop ((c .before .before .before .before .before .before .before .before .before .loop) .i) ((c .before .before .before .before .before .before .before .before .before .before .before .args) .b .now) = tail-part ((c .before .before .before .before .before .before .before .before .before .before .before .args) .b .now) ((c .before .before .before .before .before .before .before .before .before .loop) .i) in
-    let g : FieldFor ((c .before .before .before .before .before .before .before .before .before .before .before .args) .locals) (fieldOf ((c .before .before .before .before .before .before .before .before .before .loop) .fields % 16)) (drop ((c .before .before .before .before .before .before .before .before .before .loop) .i) ((c .before .before .before .before .before .before .before .before .before .before .before .args) .b .now)) ((c .before .before .before .before .before .test-field) .result) = (rw t at ((c .before .before .before .before .before .test-field) .ensures)) in
-    let v = fit-go ((c .before .before .before .before .before .before .before .before .before .before .before .args) .locals) (packed 4 ((c .before .before .before .before .before .before .before .before .before .loop) .fields)) (packed 4 ((c .before .before .before .before .before .before .before .before .before .loop) .fields / 16)) ((c .before .before .before .before .before .before .before .before .before .before .before .args) .b .now) ((c .before .before .before .before .before .before .before .before .before .loop) .i) ((c .before .before .before .before .before .test-field) .result .width) (fieldOf ((c .before .before .before .before .before .before .before .before .before .loop) .fields % 16)) (fields-here ((c .before .before .before .before .before .before .before .before .before .loop) .fields) ((c .before .before .before .before .before .before .before .before .before .loop) .inv .1) ((c .before .before .before .before .before .before .before .before .loop-test) .taken)) (g .width) (length (take (length ((c .before .before .before .before .before .before .before .before .before .before .before .args) .b .now) - (c .before .before .before .before .before .before .before .before .before .loop) .i) (drop ((c .before .before .before .before .before .before .before .before .before .loop) .i) ((c .before .before .before .before .before .before .before .before .before .before .before .args) .b .now)))) ((c .before .before .before .before .before .test-field) .result .right) (ap (λ (l : List ℕ). length l) t) ((c .before .before .if2) .left) in
+add-i c =
+    let a = c .before .before .before .before .before .before .before .before .before .before .before .args in
+    let l2 = c .before .before .before .before .before .before .before .before .before .loop in
+    let tf = c .before .before .before .before .before .test-field in
+    let d : length (drop (l2 .i) (a .b .now)) ≡ length (a .b .now) - l2 .i = length-drop (l2 .i) (a .b .now) in
+    let t : take (length (a .b .now) - l2 .i) (drop (l2 .i) (a .b .now)) ≡ drop (l2 .i) (a .b .now) = tail-part (a .b .now) (l2 .i) in
+    let g : FieldFor (a .locals) (fieldOf (l2 .fields % 16)) (drop (l2 .i) (a .b .now)) (tf .result) = (rw t at (tf .ensures)) in
+    let v = fit-go (a .locals) (packed 4 (l2 .fields)) (packed 4 (l2 .fields / 16)) (a .b .now) (l2 .i) (tf .result .width)
+    (fieldOf (l2 .fields % 16)) (fields-here (l2 .fields) (l2 .inv .1)
+    ((c .before .before .before .before .before .before .before .before .loop-test) .taken)) (g .width)
+    (length (take (length (a .b .now) - l2 .i) (drop (l2 .i) (a .b .now)))) (tf .result .right) (ap (λ (l : List ℕ). length l) t) ((c .before .before .if2) .left) in
     omega (arith, v .0)
 
 loop-less : tie.Need-loop-less Inv-loop μ-loop
 loop-less c = omega arith
 
 loop-again : tie.Need-loop-again Inv-loop μ-loop
-loop-again c = let d : length (drop ((c .before .before .before .before .before .before .before .before .before .loop) .i) ((c .before .before .before .before .before .before .before .before .before .before .before .args) .b .now)) ≡ length ((c .before .before .before .before .before .before .before .before .before .before .before .args) .b .now) - (c .before .before .before .before .before .before .before .before .before .loop) .i = length-drop ((c .before .before .before .before .before .before .before .before .before .loop) .i) ((c .before .before .before .before .before .before .before .before .before .before .before .args) .b .now) in
-    let t : take (length ((c .before .before .before .before .before .before .before .before .before .before .before .args) .b .now) - (c .before .before .before .before .before .before .before .before .before .loop) .i) (drop ((c .before .before .before .before .before .before .before .before .before .loop) .i) ((c .before .before .before .before .before .before .before .before .before .before .before .args) .b .now)) ≡ drop ((c .before .before .before .before .before .before .before .before .before .loop) .i) ((c .before .before .before .before .before .before .before .before .before .before .before .args) .b .now) = tail-part ((c .before .before .before .before .before .before .before .before .before .before .before .args) .b .now) ((c .before .before .before .before .before .before .before .before .before .loop) .i) in
-    let g : FieldFor ((c .before .before .before .before .before .before .before .before .before .before .before .args) .locals) (fieldOf ((c .before .before .before .before .before .before .before .before .before .loop) .fields % 16)) (drop ((c .before .before .before .before .before .before .before .before .before .loop) .i) ((c .before .before .before .before .before .before .before .before .before .before .before .args) .b .now)) ((c .before .before .before .before .before .test-field) .result) = (rw t at ((c .before .before .before .before .before .test-field) .ensures)) in
-    let k = fields-here ((c .before .before .before .before .before .before .before .before .before .loop) .fields) ((c .before .before .before .before .before .before .before .before .before .loop) .inv .1) ((c .before .before .before .before .before .before .before .before .loop-test) .taken) in
-    let v = fit-go ((c .before .before .before .before .before .before .before .before .before .before .before .args) .locals) (packed 4 ((c .before .before .before .before .before .before .before .before .before .loop) .fields)) (packed 4 ((c .before .before .before .before .before .before .before .before .before .loop) .fields / 16)) ((c .before .before .before .before .before .before .before .before .before .before .before .args) .b .now) ((c .before .before .before .before .before .before .before .before .before .loop) .i) ((c .before .before .before .before .before .test-field) .result .width) (fieldOf ((c .before .before .before .before .before .before .before .before .before .loop) .fields % 16)) k (g .width) (length (take (length ((c .before .before .before .before .before .before .before .before .before .before .before .args) .b .now) - (c .before .before .before .before .before .before .before .before .before .loop) .i) (drop ((c .before .before .before .before .before .before .before .before .before .loop) .i) ((c .before .before .before .before .before .before .before .before .before .before .before .args) .b .now)))) ((c .before .before .before .before .before .test-field) .result .right) (ap (λ (l : List ℕ). length l) t) ((c .before .before .if2) .left) in
+loop-again c =
+    let a = c .before .before .before .before .before .before .before .before .before .before .before .args in
+    let l2 = c .before .before .before .before .before .before .before .before .before .loop in
+    let tf = c .before .before .before .before .before .test-field in
+    let d : length (drop (l2 .i) (a .b .now)) ≡ length (a .b .now) - l2 .i = length-drop (l2 .i) (a .b .now) in
+    let t : take (length (a .b .now) - l2 .i) (drop (l2 .i) (a .b .now)) ≡ drop (l2 .i) (a .b .now) = tail-part (a .b .now) (l2 .i) in
+    let g : FieldFor (a .locals) (fieldOf (l2 .fields % 16)) (drop (l2 .i) (a .b .now)) (tf .result) = (rw t at (tf .ensures)) in
+    let k = fields-here (l2 .fields) (l2 .inv .1) ((c .before .before .before .before .before .before .before .before .loop-test) .taken) in
+    let v = fit-go (a .locals) (packed 4 (l2 .fields)) (packed 4 (l2 .fields / 16)) (a .b .now) (l2 .i) (tf .result .width)
+    (fieldOf (l2 .fields % 16)) k (g .width) (length (take (length (a .b .now) - l2 .i) (drop (l2 .i) (a .b .now)))) (tf .result .right)
+    (ap (λ (l : List ℕ). length l) t) ((c .before .before .if2) .left) in
     let q = sym (g .right (rw (g .width) at (v .0))) ∙ v .1 in (
       omega (arith, v .0),
       omega arith,
-      fit-turn ((c .before .before .before .before .before .before .before .before .before .before .before .args) .locals) (packed 4 ((c .before .before .before .before .before .before .before .before .before .loop) .fields)) (packed 4 ((c .before .before .before .before .before .before .before .before .before .loop) .fields / 16)) ((c .before .before .before .before .before .before .before .before .before .before .before .args) .b .now) ((c .before .before .before .before .before .before .before .before .before .loop) .i) ((c .before .before .before .before .before .test-field) .result .width) (fieldOf ((c .before .before .before .before .before .before .before .before .before .loop) .fields % 16)) k (g .width) _ ((c .before .before .before .before .before .before .before .before .before .loop) .inv .2) (v .0) q,
-      within-turn ((c .before .before .before .before .before .before .before .before .before .before .before .args) .locals) (packed 4 ((c .before .before .before .before .before .before .before .before .before .loop) .fields)) (packed 4 ((c .before .before .before .before .before .before .before .before .before .loop) .fields / 16)) ((c .before .before .before .before .before .before .before .before .before .before .before .args) .b .now) ((c .before .before .before .before .before .before .before .before .before .loop) .i) ((c .before .before .before .before .before .test-field) .result .width) (fieldOf ((c .before .before .before .before .before .before .before .before .before .loop) .fields % 16)) k (g .width) ((c .before .before .before .before .before .before .before .before .before .loop) .within) ((c .before .before .before .before .before .test-field) .result .within) _ ((c .before .before .before .before .before .before .before .before .before .loop) .inv .3) (g .within q),
+      fit-turn (a .locals) (packed 4 (l2 .fields)) (packed 4 (l2 .fields / 16)) (a .b .now) (l2 .i) (tf .result .width) (fieldOf (l2 .fields % 16)) k (g .width) _ (l2 .inv .2) (v .0) q,
+      within-turn (a .locals) (packed 4 (l2 .fields)) (packed 4 (l2 .fields / 16)) (a .b .now) (l2 .i) (tf .result .width) (fieldOf (l2 .fields % 16)) k (g .width) (l2 .within) (tf .result .within) _ (l2 .inv .3) (g .within q),
     )
 
 returns-3 : tie.Need-returns-3 Inv-loop μ-loop
 unfolding bodyFault
-returns-3 c = rw (← fit-over ((c .before .before .before .before .args) .locals) (packed 4 ((c .before .before .loop) .fields)) ((c .before .before .before .before .args) .b .now) ((c .before .before .loop) .i) (fields-end ((c .before .before .loop) .fields) ((c .before .loop-test) .left)) _ ((c .before .before .loop) .inv .2) ((c .if3) .taken))
+returns-3 c =
+    let a = c .before .before .before .before .args in
+    let l = c .before .before .loop in
+    rw (← fit-over (a .locals) (packed 4 (l .fields)) (a .b .now) (l .i) (fields-end (l .fields) ((c .before .loop-test) .left)) _ (l .inv .2) ((c .if3) .taken))
 
 returns-4 : tie.Need-returns-4 Inv-loop μ-loop
 unfolding bodyFault
-returns-4 c = let f = fit-done ((c .before .before .before .before .before .args) .locals) (packed 4 ((c .before .before .before .loop) .fields)) ((c .before .before .before .before .before .args) .b .now) ((c .before .before .before .loop) .i) (fields-end ((c .before .before .before .loop) .fields) ((c .before .before .loop-test) .left)) _ ((c .before .before .before .loop) .inv .2) ((c .before .if3) .left) in
-    let v = within-done ((c .before .before .before .before .before .args) .locals) (packed 4 ((c .before .before .before .loop) .fields)) ((c .before .before .before .before .before .args) .b .now) ((c .before .before .before .loop) .i) (fields-end ((c .before .before .before .loop) .fields) ((c .before .before .loop-test) .left)) ((c .before .before .before .loop) .within) _ ((c .before .before .before .loop) .inv .3) in
+returns-4 c =
+    let a = c .before .before .before .before .before .args in
+    let l = c .before .before .before .loop in
+    let t = c .before .before .loop-test in
+    let f = fit-done (a .locals) (packed 4 (l .fields)) (a .b .now) (l .i) (fields-end (l .fields) (t .left)) _ (l .inv .2) ((c .before .if3) .left) in
+    let v = within-done (a .locals) (packed 4 (l .fields)) (a .b .now) (l .i) (fields-end (l .fields) (t .left)) (l .within) _ (l .inv .3) in
     rw (← f, sym v ∙ (c .if4) .taken)
 
 returns-5 : tie.Need-returns-5 Inv-loop μ-loop
 unfolding bodyFault
-returns-5 c = let f = fit-done ((c .before .before .before .before .before .args) .locals) (packed 4 ((c .before .before .before .loop) .fields)) ((c .before .before .before .before .before .args) .b .now) ((c .before .before .before .loop) .i) (fields-end ((c .before .before .before .loop) .fields) ((c .before .before .loop-test) .left)) _ ((c .before .before .before .loop) .inv .2) ((c .before .if3) .left) in
-    let v = within-done ((c .before .before .before .before .before .args) .locals) (packed 4 ((c .before .before .before .loop) .fields)) ((c .before .before .before .before .before .args) .b .now) ((c .before .before .before .loop) .i) (fields-end ((c .before .before .before .loop) .fields) ((c .before .before .loop-test) .left)) ((c .before .before .before .loop) .within) _ ((c .before .before .before .loop) .inv .3) in
+returns-5 c =
+    let a = c .before .before .before .before .before .args in
+    let l = c .before .before .before .loop in
+    let t = c .before .before .loop-test in
+    let f = fit-done (a .locals) (packed 4 (l .fields)) (a .b .now) (l .i) (fields-end (l .fields) (t .left)) _ (l .inv .2) ((c .before .if3) .left) in
+    let v = within-done (a .locals) (packed 4 (l .fields)) (a .b .now) (l .i) (fields-end (l .fields) (t .left)) (l .within) _ (l .inv .3) in
     rw (← f, sym v ∙ (c .if4) .left)
 
 pub test-body-spec : {M : Type 1} → statement M

@@ -27,11 +27,14 @@ limit-of-requires : tie.Need-limit-of-requires
 limit-of-requires c κs = search needs
 
 returns : tie.Need-returns
-returns c = let k : getD ((c .before .before .before .before .before .args) .b .now) 0 0 < 256 = omega (arith, (c .before .before .before .shared-slice-known2) .given 0) in
+returns c =
+    let a = c .before .before .before .before .before .args in
+    let i1 = c .before .before .if1 in
+    let k : getD (a .b .now) 0 0 < 256 = omega (arith, (c .before .before .before .shared-slice-known2) .given 0) in
     record {
-      width = plain-width ((c .before .before .before .before .before .args) .locals) ((c .before .before .before .before .before .args) .b .now) (getD ((c .before .before .before .before .before .args) .b .now) 0 0) refl k ((c .before .before .before .before .before .args) .f) ((c .before .before .if1) .taken);
-      right = λ h. rw ((c .before .wide) .ensures, (c .limit-of) .ensures) (plain-right ((c .before .before .before .before .before .args) .locals) ((c .before .before .before .before .before .args) .b .now) (getD ((c .before .before .before .before .before .args) .b .now) 0 0) refl k ((c .before .before .before .before .before .args) .f) ((c .before .before .if1) .taken));
-      within = λ h. plain-within ((c .before .before .before .before .before .args) .locals) ((c .before .before .before .before .before .args) .b .now) (getD ((c .before .before .before .before .before .args) .b .now) 0 0) refl k ((c .before .before .before .before .before .args) .f) ((c .before .before .if1) .taken) h;
+      width = plain-width (a .locals) (a .b .now) (getD (a .b .now) 0 0) refl k (a .f) (i1 .taken);
+      right = λ h. rw ((c .before .wide) .ensures, (c .limit-of) .ensures) (plain-right (a .locals) (a .b .now) (getD (a .b .now) 0 0) refl k (a .f) (i1 .taken));
+      within = λ h. plain-within (a .locals) (a .b .now) (getD (a .b .now) 0 0) refl k (a .f) (i1 .taken) h;
     }
 
 cast-n : tie.Need-cast-n
@@ -77,7 +80,10 @@ returns-4 : tie.Need-returns-4
 returns-4 c = rw ((c .before .match) .keys3) (record { width = refl; right = λ h. (c .tokens-from) .ensures h; within = λ h. refl })
 
 returns-5 : tie.Need-returns-5
-returns-5 c = rw (frame-else ((c .before .before .before .before .before .before .before .args) .f) (up 8 ((c .before .before .before .before .before .before .before .args) .f) (up 7 ((c .before .before .before .before .before .before .before .args) .f) (up 6 ((c .before .before .before .before .before .before .before .args) .f) ((c .before .before .before .before .if1) .left) ((c .before .before .before .match) .rest .0 .0 .1)) ((c .before .before .before .match) .rest .0 .1)) ((c .before .before .before .match) .rest .1)))
+returns-5 c =
+    let a = c .before .before .before .before .before .before .before .args in
+    let m = c .before .before .before .match in
+    rw (frame-else (a .f) (up 8 (a .f) (up 7 (a .f) (up 6 (a .f) ((c .before .before .before .before .if1) .left) (m .rest .0 .0 .1)) (m .rest .0 .1)) (m .rest .1)))
     (record { width = refl; right = λ h. rw ((c .before .before .byte-at) .ensures, (c .before .tokens-from2) .ensures h); within = λ h. ap (λ (n : ℕ). leb n 16) ((c .byte-at2) .ensures) })
 
 pub test-field-spec : {M : Type 1} → statement M

@@ -23,9 +23,13 @@ failed-requires : tie.Need-failed-requires
 failed-requires c κs = search needs
 
 returns : tie.Need-returns
-returns c = let v = record-inv (c .before .before .before .before .before .before .before .before .before .args .s .now) (c .before .before .before .before .before .before .before .before .before .args .at) (c .before .before .before .before .before .before .before .read .result) (c .before .before .before .before .before .before .before .read .ensures) (c .before .before .before .before .before .kind .given .0 .0) (c .before .before .before .before .before .kind .given .0 .1 .0) (c .before .before .before .before .before .kind .given .1) in
-    let k : kindInUse (kindAt (c .before .before .before .before .before .before .before .before .before .args .s .now) (c .before .before .before .before .before .before .before .before .before .args .at)) ≡ false = rw (v .1) at (sym (c .before .before .before .shape-of .ensures .known) ∙ not-true _ (c .before .if1 .taken)) in
-    refused-test (c .before .before .before .before .before .before .before .before .before .args .s .now) (c .before .before .before .before .before .before .before .before .before .args .at) (c .before .before .before .before .before .before .before .before .before .args .locals) (c .failed .result) 1 (c .failed .ensures) (fault-2 (c .before .before .before .before .before .before .before .before .before .args .s .now) (c .before .before .before .before .before .before .before .before .before .args .at) (c .before .before .before .before .before .before .before .before .before .args .locals) (v .0) k)
+returns c =
+    let a = c .before .before .before .before .before .before .before .before .before .args in
+    let r = c .before .before .before .before .before .before .before .read in
+    let k2 = c .before .before .before .before .before .kind in
+    let v = record-inv (a .s .now) (a .at) (r .result) (r .ensures) (k2 .given .0 .0) (k2 .given .0 .1 .0) (k2 .given .1) in
+    let k : kindInUse (kindAt (a .s .now) (a .at)) ≡ false = rw (v .1) at (sym (c .before .before .before .shape-of .ensures .known) ∙ not-true _ (c .before .if1 .taken)) in
+    refused-test (a .s .now) (a .at) (a .locals) (c .failed .result) 1 (c .failed .ensures) (fault-2 (a .s .now) (a .at) (a .locals) (v .0) k)
 
 misplaced-requires : tie.Need-misplaced-requires
 misplaced-requires c κs = search needs
@@ -34,11 +38,15 @@ failed-requires-2 : tie.Need-failed-requires-2
 failed-requires-2 c κs = search needs
 
 returns-2 : tie.Need-returns-2
-returns-2 c = let v = record-inv (c .before .before .before .before .before .before .before .before .before .before .before .args .s .now) (c .before .before .before .before .before .before .before .before .before .before .before .args .at) (c .before .before .before .before .before .before .before .before .before .read .result) (c .before .before .before .before .before .before .before .before .before .read .ensures) (c .before .before .before .before .before .before .before .kind .given .0 .0) (c .before .before .before .before .before .before .before .kind .given .0 .1 .0) (c .before .before .before .before .before .before .before .kind .given .1) in
-    let k : kindInUse (kindAt (c .before .before .before .before .before .before .before .before .before .before .before .args .s .now) (c .before .before .before .before .before .before .before .before .before .before .before .args .at)) ≡ true = rw (v .1) at (sym (c .before .before .before .before .before .shape-of .ensures .known) ∙ not-false _ (c .before .before .before .if1 .left)) in
-    let b′ : Bool·beq (eqb (c .before .before .before .before .before .before .before .kind .given .0 .0) 1) (eqb (c .before .before .before .before .before .before .before .before .before .before .before .args .at) 0) ≡ false = not-true _ (sym (c .before .before .misplaced .ensures) ∙ c .before .if2 .taken) in
-    let b : Bool·beq (eqb (kindAt (c .before .before .before .before .before .before .before .before .before .before .before .args .s .now) (c .before .before .before .before .before .before .before .before .before .before .before .args .at)) 1) (eqb (c .before .before .before .before .before .before .before .before .before .before .before .args .at) 0) ≡ false = rw (v .1) at b′ in
-    refused-test (c .before .before .before .before .before .before .before .before .before .before .before .args .s .now) (c .before .before .before .before .before .before .before .before .before .before .before .args .at) (c .before .before .before .before .before .before .before .before .before .before .before .args .locals) (c .failed2 .result) 3 (c .failed2 .ensures) (fault-4 (c .before .before .before .before .before .before .before .before .before .before .before .args .s .now) (c .before .before .before .before .before .before .before .before .before .before .before .args .at) (c .before .before .before .before .before .before .before .before .before .before .before .args .locals) (v .0) k b)
+returns-2 c =
+    let a = c .before .before .before .before .before .before .before .before .before .before .before .args in
+    let r = c .before .before .before .before .before .before .before .before .before .read in
+    let k2 = c .before .before .before .before .before .before .before .kind in
+    let v = record-inv (a .s .now) (a .at) (r .result) (r .ensures) (k2 .given .0 .0) (k2 .given .0 .1 .0) (k2 .given .1) in
+    let k : kindInUse (kindAt (a .s .now) (a .at)) ≡ true = rw (v .1) at (sym (c .before .before .before .before .before .shape-of .ensures .known) ∙ not-false _ (c .before .before .before .if1 .left)) in
+    let b′ : Bool·beq (eqb (k2 .given .0 .0) 1) (eqb (a .at) 0) ≡ false = not-true _ (sym (c .before .before .misplaced .ensures) ∙ c .before .if2 .taken) in
+    let b : Bool·beq (eqb (kindAt (a .s .now) (a .at)) 1) (eqb (a .at) 0) ≡ false = rw (v .1) at b′ in
+    refused-test (a .s .now) (a .at) (a .locals) (c .failed2 .result) 3 (c .failed2 .ensures) (fault-4 (a .s .now) (a .at) (a .locals) (v .0) k b)
 
 body-requires : tie.Need-body-requires
 body-requires c κs = search needs
@@ -59,19 +67,30 @@ failed-requires-4 : tie.Need-failed-requires-4
 failed-requires-4 c κs = search needs
 
 returns-3 : tie.Need-returns-3
-returns-3 c = let v = record-inv (c .before .before .before .before .before .before .before .before .before .before .before .before .args .s .now) (c .before .before .before .before .before .before .before .before .before .before .before .before .args .at) (c .before .before .before .before .before .before .before .before .before .before .read .result) (c .before .before .before .before .before .before .before .before .before .before .read .ensures) (c .before .before .before .before .before .before .before .before .kind .given .0 .0) (c .before .before .before .before .before .before .before .before .kind .given .0 .1 .0) (c .before .before .before .before .before .before .before .before .kind .given .1) in
-    let k : kindInUse (kindAt (c .before .before .before .before .before .before .before .before .before .before .before .before .args .s .now) (c .before .before .before .before .before .before .before .before .before .before .before .before .args .at)) ≡ true = rw (v .1) at (sym (c .before .before .before .before .before .before .shape-of .ensures .known) ∙ not-false _ (c .before .before .before .before .if1 .left)) in
-    let b′ : Bool·beq (eqb (c .before .before .before .before .before .before .before .before .kind .given .0 .0) 1) (eqb (c .before .before .before .before .before .before .before .before .before .before .before .before .args .at) 0) ≡ true = not-false _ (sym (c .before .before .before .misplaced .ensures) ∙ c .before .before .if2 .left) in
-    let b : Bool·beq (eqb (kindAt (c .before .before .before .before .before .before .before .before .before .before .before .before .args .s .now) (c .before .before .before .before .before .before .before .before .before .before .before .before .args .at)) 1) (eqb (c .before .before .before .before .before .before .before .before .before .before .before .before .args .at) 0) ≡ true = rw (v .1) at b′ in
-    let f : fieldsIn (c .before .before .before .before .before .before .shape-of .result) ≡ fieldsOf (kindAt (c .before .before .before .before .before .before .before .before .before .before .before .before .args .s .now) (c .before .before .before .before .before .before .before .before .before .before .before .before .args .at)) = c .before .before .before .before .before .before .shape-of .ensures .fields ∙ ap fieldsOf (v .1) in
-    let n : faultOf (c .test-body .result) ≡ faultAt (c .before .before .before .before .before .before .before .before .before .before .before .before .args .s .now) (c .before .before .before .before .before .before .before .before .before .before .before .before .args .locals) (c .before .before .before .before .before .before .before .before .before .before .before .before .args .at) = c .test-body .ensures ∙ (rw (f, c .before .body .ensures) (sym (fault-body (c .before .before .before .before .before .before .before .before .before .before .before .before .args .s .now) (c .before .before .before .before .before .before .before .before .before .before .before .before .args .at) (c .before .before .before .before .before .before .before .before .before .before .before .before .args .locals) (v .0) k b))) in
-    record { number = n; kind = λ h. v .1; next = λ h. v .2; inside = λ h. rw (v .2) (inside (c .before .before .before .before .before .before .before .before .before .before .before .before .args .s .now) (c .before .before .before .before .before .before .before .before .before .before .before .before .args .at) (v .0)) }
+returns-3 c =
+    let a = c .before .before .before .before .before .before .before .before .before .before .before .before .args in
+    let r = c .before .before .before .before .before .before .before .before .before .before .read in
+    let k2 = c .before .before .before .before .before .before .before .before .kind in
+    let so = c .before .before .before .before .before .before .shape-of in
+    let v = record-inv (a .s .now) (a .at) (r .result) (r .ensures) (k2 .given .0 .0) (k2 .given .0 .1 .0) (k2 .given .1) in
+    let k : kindInUse (kindAt (a .s .now) (a .at)) ≡ true = rw (v .1) at (sym (so .ensures .known) ∙ not-false _ (c .before .before .before .before .if1 .left)) in
+    let b′ : Bool·beq (eqb (k2 .given .0 .0) 1) (eqb (a .at) 0) ≡ true = not-false _ (sym (c .before .before .before .misplaced .ensures) ∙ c .before .before .if2 .left) in
+    let b : Bool·beq (eqb (kindAt (a .s .now) (a .at)) 1) (eqb (a .at) 0) ≡ true = rw (v .1) at b′ in
+    let f : fieldsIn (so .result) ≡ fieldsOf (kindAt (a .s .now) (a .at)) = so .ensures .fields ∙ ap fieldsOf (v .1) in
+    let n : faultOf (c .test-body .result) ≡ faultAt (a .s .now) (a .locals) (a .at) = c .test-body .ensures ∙ (rw (f, c .before .body .ensures) (sym (fault-body (a .s .now) (a .at) (a .locals) (v .0) k b))) in
+    record { number = n; kind = λ h. v .1; next = λ h. v .2; inside = λ h. rw (v .2) (inside (a .s .now) (a .at) (v .0)) }
 
 returns-4 : tie.Need-returns-4
-returns-4 c = refused-test (c .before .before .before .before .before .args .s .now) (c .before .before .before .before .before .args .at) (c .before .before .before .before .before .args .locals) (c .failed3 .result) 0 (c .failed3 .ensures) (fault-1 (c .before .before .before .before .before .args .s .now) (c .before .before .before .before .before .args .at) (c .before .before .before .before .before .args .locals) (short-inv (c .before .before .before .before .before .args .s .now) (c .before .before .before .before .before .args .at) (c .before .before .before .read .result) (c .before .before .before .read .ensures) (c .before .enum-told .given .1)))
+returns-4 c =
+    let a = c .before .before .before .before .before .args in
+    let r = c .before .before .before .read in
+    refused-test (a .s .now) (a .at) (a .locals) (c .failed3 .result) 0 (c .failed3 .ensures) (fault-1 (a .s .now) (a .at) (a .locals) (short-inv (a .s .now) (a .at) (r .result) (r .ensures) (c .before .enum-told .given .1)))
 
 returns-5 : tie.Need-returns-5
-returns-5 c = refused-test (c .before .before .before .before .before .args .s .now) (c .before .before .before .before .before .args .at) (c .before .before .before .before .before .args .locals) (c .failed4 .result) 0 (c .failed4 .ensures) (fault-1 (c .before .before .before .before .before .args .s .now) (c .before .before .before .before .before .args .at) (c .before .before .before .before .before .args .locals) (end-inv (c .before .before .before .before .before .args .s .now) (c .before .before .before .before .before .args .at) (c .before .before .before .read .result) (c .before .before .before .read .ensures) (c .before .enum-told2 .given .1)))
+returns-5 c =
+    let a = c .before .before .before .before .before .args in
+    let r = c .before .before .before .read in
+    refused-test (a .s .now) (a .at) (a .locals) (c .failed4 .result) 0 (c .failed4 .ensures) (fault-1 (a .s .now) (a .at) (a .locals) (end-inv (a .s .now) (a .at) (r .result) (r .ensures) (c .before .enum-told2 .given .1)))
 
 pub test-record-spec : {M : Type 1} → statement M
 test-record-spec =

@@ -34,7 +34,9 @@ add-result c = search needs
 
 returns-3 : tie.Need-returns-3
 unfolding wholeAt
-returns-3 c = leb-iff (4 + (c .u16-in) .result) (length ((c .before .before .before .before .args) .s .now) - (c .before .before .before .before .args) .at) ((c .before .before .before .before .args) .at + 4 + u16At ((c .before .before .before .before .args) .s .now) ((c .before .before .before .before .args) .at)) (length ((c .before .before .before .before .args) .s .now)) (λ h. omega (arith, (c .u16-in) .ensures)) (λ h. omega (arith, (c .u16-in) .ensures))
+returns-3 c =
+    let a = c .before .before .before .before .args in
+    leb-iff (4 + (c .u16-in) .result) (length (a .s .now) - a .at) (a .at + 4 + u16At (a .s .now) (a .at)) (length (a .s .now)) (λ h. omega (arith, (c .u16-in) .ensures)) (λ h. omega (arith, (c .u16-in) .ensures))
 
 pub whole-at-spec : {M : Type 1} → statement M
 whole-at-spec =
