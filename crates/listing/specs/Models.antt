@@ -5,6 +5,7 @@ use mathlib.Core.Bool.{Bool, true, false, _&&_, _||_}
 use mathlib.Core.List.{List, [], _∷_, map}
 use lib.ListN.{length, getD, take}
 use lib.Dec.{leb, eqb}
+use Rattle.meaning.specs.Limits.{maxLocals, maxAcquired, maxReturns, maxInstructions, maxBlocks}
 use Rattle.meaning.specs.Lists.{all, any, upTo}
 use Rattle.meaning.specs.AbstractState.{Token}
 use Rattle.meaning.specs.Steps as I
@@ -57,7 +58,7 @@ pickInstr false a b = b
 
 -- a call within the limits
 unfoldable pub callFor : List ℕ → I.Instr
-callFor b = pickInstr (leb (getD b 1 0) 16 && leb (getD b (2 + 2 * getD b 1 0) 0) 8) (D.callOf b) I.Instr.Pop
+callFor b = pickInstr (leb (getD b 1 0) maxAcquired && leb (getD b (2 + 2 * getD b 1 0) 0) maxReturns) (D.callOf b) I.Instr.Pop
 
 -- The instruction that decoding answers for a place, whatever stands there: that of the kind and the body, where a byte past the end is 0 and
 -- the body of no whole record is empty; Pop for a kind without an instruction, and for a call beyond the limits.
@@ -79,11 +80,11 @@ twoAt s at = leb (getD (D.bodyAt s at) 4 0) 2
 -- what is known of the places that were read, with the first record's body
 pub record Sound (s head : List ℕ) (w : Places) : Type 0 where
   pub first : head ≡ D.bodyAt s 0
-  pub blocks : w .«block_count» ≤ 16
-  pub code : w .«code_count» ≤ 512
+  pub blocks : w .«block_count» ≤ maxBlocks
+  pub code : w .«code_count» ≤ maxInstructions
   pub two : all (twoAt s) (take (w .«block_count») (w .blocks)) ≡ true
   pub same : map (decodedAt s) (take (w .«code_count») (w .code)) ≡ map (D.instrAt s) (take (w .«code_count») (w .code))
-  pub params : getD head 0 0 ≤ 16
+  pub params : getD head 0 0 ≤ maxLocals
 
 unfoldable pub ruledPlaces : List ℕ → D.Places → D.Listed Q.Routine
 ruledPlaces s w = D.ruled (length s) w (D.routineAt s w)

@@ -11,11 +11,14 @@ use listing_records::byte_at;
 use listing_records::place;
 use listing_records::read_places;
 use listing_records::u16_at;
+use meaning::MAX_BLOCKS;
+use meaning::MAX_INSTRUCTIONS;
 ghost use mathlib.Core.Path.{_≡_};
 ghost use mathlib.Core.Bool.{true};
 ghost use mathlib.Core.List.{map};
 ghost use Prim.Native.Nat.{_≤_, _<_};
 ghost use lib.ListN.{take};
+ghost use Rattle.meaning.specs.Limits.{maxBlocks};
 ghost use Rattle.meaning.specs.Lists.{all};
 ghost use Rattle.meaning.specs.Listing.{blockAt, readListing};
 ghost use Rattle.listing.specs.Models.{blockOf, blocksIn, twoAt, Sound, ruledPlaces, listedOf};
@@ -37,13 +40,13 @@ pub struct Routine {
     pub param_count: usize,
     pub locals: u8,
     pub returns: u8,
-    pub code: [u16; 512],
+    pub code: [u16; MAX_INSTRUCTIONS],
     pub code_count: usize,
-    pub blocks: [Block; 16],
+    pub blocks: [Block; MAX_BLOCKS],
     pub block_count: usize,
 }
 
-// A refusal's number and place, or (number 0) the routine.
+// A refusal's number and place, or (number 0) the routine. Beside a refusal the routine is free, and nothing is said of it.
 pub struct Listed {
     pub number: u8,
     pub place: usize,
@@ -71,9 +74,9 @@ fn refused(number: u8, place: usize) -> Listed
             param_count: 0,
             locals: 0,
             returns: 0,
-            code: [0u16; 512],
+            code: [0u16; MAX_INSTRUCTIONS],
             code_count: 0,
-            blocks: [no_block(); 16],
+            blocks: [no_block(); MAX_BLOCKS],
             block_count: 0,
         },
     }
@@ -95,11 +98,11 @@ fn block_at(s: &[u8], at: usize) -> Block
 }
 
 // The blocks whose records start at the first n places.
-fn blocks_at(s: &[u8], places: [u16; 16], n: usize) -> [Block; 16]
-    requires { ⌜ (n ≤ 16) × (all (twoAt (now s)) (take n places) ≡ true) ⌝ }
+fn blocks_at(s: &[u8], places: [u16; MAX_BLOCKS], n: usize) -> [Block; MAX_BLOCKS]
+    requires { ⌜ (n ≤ maxBlocks) × (all (twoAt (now s)) (take n places) ≡ true) ⌝ }
     ensures { λ r. ⌜ blocksIn r n ≡ map (blockAt (now (s .entry))) (take n places) ⌝ }
 {
-    let mut out = [no_block(); 16];
+    let mut out = [no_block(); MAX_BLOCKS];
     let mut i: usize = 0;
     while i < n {
         out[i] = block_at(s, place(places[i]));

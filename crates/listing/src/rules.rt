@@ -3,17 +3,20 @@ use crate::Block;
 use file_format::CodeOffset;
 use listing_records::place;
 use listing_records::u16_at;
+use meaning::MAX_BLOCKS;
+use meaning::MAX_INSTRUCTIONS;
 ghost use mathlib.Core.Path.{_≡_};
 ghost use Prim.Native.Nat.{_≤_, _<_};
 ghost use mathlib.Core.List.{map};
 ghost use lib.ListN.{take, drop};
+ghost use Rattle.meaning.specs.Limits.{maxBlocks, maxInstructions};
 ghost use Rattle.meaning.specs.Lists.{any};
 ghost use Rattle.meaning.specs.Listing.{overlap, entryIn, endsBlock, faultySuccessor, faultyBlock, firstOf, strayRet, instrAt};
 ghost use Rattle.listing.specs.Models.{blockOf, blocksIn, faultySuccessors};
 
 // That a block listed at `from` or later has this entry.
-fn entry_from(blocks: [Block; 16], n: usize, from: usize, entry: CodeOffset) -> bool
-    requires { ⌜ n ≤ 16 ⌝ }
+fn entry_from(blocks: [Block; MAX_BLOCKS], n: usize, from: usize, entry: CodeOffset) -> bool
+    requires { ⌜ n ≤ maxBlocks ⌝ }
     ensures { λ r. ⌜ r ≡ entryIn (drop from (blocksIn blocks n)) (entry .0) ⌝ }
 {
     let mut i = from;
@@ -28,8 +31,8 @@ fn entry_from(blocks: [Block; 16], n: usize, from: usize, entry: CodeOffset) -> 
 }
 
 // That a block has an instruction of one of the n listed first.
-fn overlaps(blocks: [Block; 16], n: usize, b: Block) -> bool
-    requires { ⌜ n ≤ 16 ⌝ }
+fn overlaps(blocks: [Block; MAX_BLOCKS], n: usize, b: Block) -> bool
+    requires { ⌜ n ≤ maxBlocks ⌝ }
     ensures { λ r. ⌜ r ≡ any (overlap (blockOf b)) (blocksIn blocks n) ⌝ }
 {
     let mut i: usize = 0;
@@ -44,8 +47,14 @@ fn overlaps(blocks: [Block; 16], n: usize, b: Block) -> bool
 }
 
 // That a successor of the block at `i` is no block's entry, or above the block's own and not listed later.
-fn faulty_successor(blocks: [Block; 16], n: usize, i: usize, b: Block, e: CodeOffset) -> bool
-    requires { ⌜ (n ≤ 16) × (i < n) ⌝ }
+fn faulty_successor(
+    blocks: [Block; MAX_BLOCKS],
+    n: usize,
+    i: usize,
+    b: Block,
+    e: CodeOffset,
+) -> bool
+    requires { ⌜ (n ≤ maxBlocks) × (i < n) ⌝ }
     ensures { λ r. ⌜ r ≡ faultySuccessor (blocksIn blocks n) i (blockOf b) (e .0) ⌝ }
 {
     if !entry_from(blocks, n, 0, e) {
@@ -57,8 +66,8 @@ fn faulty_successor(blocks: [Block; 16], n: usize, i: usize, b: Block, e: CodeOf
     !entry_from(blocks, n, i + 1, e)
 }
 
-fn faulty_successors(blocks: [Block; 16], n: usize, i: usize, b: Block) -> bool
-    requires { ⌜ (n ≤ 16) × (i < n) ⌝ }
+fn faulty_successors(blocks: [Block; MAX_BLOCKS], n: usize, i: usize, b: Block) -> bool
+    requires { ⌜ (n ≤ maxBlocks) × (i < n) ⌝ }
     ensures { λ r. ⌜ r ≡ faultySuccessors (blocksIn blocks n) i (blockOf b) ⌝ }
 {
     let count = b.count;
@@ -80,8 +89,8 @@ fn faulty_successors(blocks: [Block; 16], n: usize, i: usize, b: Block) -> bool
 }
 
 // That the block at `i`, in a routine of `code_count` instructions, breaks a rule.
-fn faulty_block(blocks: [Block; 16], n: usize, i: usize, code_count: usize) -> bool
-    requires { ⌜ (n ≤ 16) × (i < n) ⌝ }
+fn faulty_block(blocks: [Block; MAX_BLOCKS], n: usize, i: usize, code_count: usize) -> bool
+    requires { ⌜ (n ≤ maxBlocks) × (i < n) ⌝ }
     ensures { λ r. ⌜ r ≡ faultyBlock «code_count» (blocksIn blocks n) i ⌝ }
 {
     let b = blocks[i];
@@ -101,8 +110,8 @@ fn faulty_block(blocks: [Block; 16], n: usize, i: usize, code_count: usize) -> b
 }
 
 // The first block that breaks a rule; n, if none does.
-pub(crate) fn first_faulty(blocks: [Block; 16], n: usize, code_count: usize) -> usize
-    requires { ⌜ n ≤ 16 ⌝ }
+pub(crate) fn first_faulty(blocks: [Block; MAX_BLOCKS], n: usize, code_count: usize) -> usize
+    requires { ⌜ n ≤ maxBlocks ⌝ }
     ensures { λ r. ⌜ r ≡ firstOf (faultyBlock «code_count» (blocksIn blocks n)) 0 n ⌝ }
 {
     let mut i: usize = 0;
@@ -116,8 +125,8 @@ pub(crate) fn first_faulty(blocks: [Block; 16], n: usize, code_count: usize) -> 
 }
 
 // That an instruction is the exit of a block without successors.
-fn ends_block(blocks: [Block; 16], n: usize, k: CodeOffset) -> bool
-    requires { ⌜ n ≤ 16 ⌝ }
+fn ends_block(blocks: [Block; MAX_BLOCKS], n: usize, k: CodeOffset) -> bool
+    requires { ⌜ n ≤ maxBlocks ⌝ }
     ensures { λ r. ⌜ r ≡ endsBlock (blocksIn blocks n) (k .0) ⌝ }
 {
     let mut i: usize = 0;
@@ -134,12 +143,12 @@ fn ends_block(blocks: [Block; 16], n: usize, k: CodeOffset) -> bool
 // The first Ret that is not the exit of a block without successors; m, if there is none.
 pub(crate) fn first_stray(
     s: &[u8],
-    code: [u16; 512],
+    code: [u16; MAX_INSTRUCTIONS],
     m: usize,
-    blocks: [Block; 16],
+    blocks: [Block; MAX_BLOCKS],
     n: usize,
 ) -> usize
-    requires { ⌜ (n ≤ 16) × (m ≤ 512) ⌝ }
+    requires { ⌜ (n ≤ maxBlocks) × (m ≤ maxInstructions) ⌝ }
     ensures { λ r. ⌜ r ≡ firstOf (strayRet (map (instrAt (now (s .entry))) (take m code)) (blocksIn blocks n)) 0 m ⌝ }
 {
     let mut k: usize = 0;

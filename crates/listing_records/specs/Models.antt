@@ -6,6 +6,7 @@ use mathlib.Core.List.{List, [], _∷_}
 use mathlib.Core.Option.{Option, none, some}
 use lib.ListN.{length, getD, take}
 use lib.Dec.{leb, eqb}
+use Rattle.meaning.specs.Limits.{maxParameters, maxAcquired, maxReturns, maxInstructions, maxBlocks}
 use Rattle.meaning.specs.Listing as D
 use Rattle.listing_records.specs.declared.shapes.Shape.{Shape}
 use Rattle.listing_records.specs.declared.Field.{Field}
@@ -22,12 +23,12 @@ fieldList =
     D.Field.byte 0 0
     ∷ D.flag
     ∷ D.token
-    ∷ D.Field.byte 255 16
+    ∷ D.Field.byte 255 maxParameters
     ∷ D.Field.localIndex
     ∷ D.Field.word
     ∷ D.Field.words 2 2
-    ∷ D.Field.words 255 16
-    ∷ D.Field.tokens 8
+    ∷ D.Field.words 255 maxAcquired
+    ∷ D.Field.tokens maxReturns
     ∷ []
 
 abbrev pub fieldOf : ℕ → D.Field
@@ -101,7 +102,7 @@ pub record Tested (s : List ℕ) (l at : ℕ) (r : Test) : Type 0 where
 
 -- that there is no room for a record of this kind, after so many blocks and instructions
 abbrev pub fullOf : ℕ → ℕ → ℕ → Bool
-fullOf k blocks code = cond (eqb k 1) false (cond (eqb k 2) (leb 16 blocks) (leb 512 code))
+fullOf k blocks code = cond (eqb k 1) false (cond (eqb k 2) (leb maxBlocks blocks) (leb maxInstructions code))
 
 abbrev pub pickPlaces : Bool → D.Places → ℕ → ℕ → D.Listed D.Places
 pickPlaces true w n at = D.Listed.read w

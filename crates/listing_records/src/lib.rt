@@ -22,6 +22,7 @@ ghost use Prim.Native.Nat.{_+_, _≤_, _<_};
 ghost use mathlib.Core.Bool.{not, Bool·beq};
 ghost use lib.Dec.{eqb};
 ghost use lib.ListN.{length, getD, take, drop};
+ghost use Rattle.meaning.specs.Limits.{maxBytes, maxInstructions, maxBlocks};
 ghost use Rattle.meaning.specs.Lists.{all};
 ghost use Rattle.meaning.specs.Listing.{u16At, wholeAt, bodyAt, localsOf, isToken, noPlaces, placesFrom, readPlaces};
 ghost use Rattle.listing_records.specs.Models.{foundOf, foundAt, fieldOf, fieldsIn, limitOf, FieldFor, faultOf, bodyFault, Tested, fullOf, placesOf};
@@ -300,9 +301,9 @@ fn test_record(s: &[u8], at: usize, locals: u8) -> Test
 pub struct Places {
     pub number: u8,
     pub place: usize,
-    pub blocks: [u16; 16],
+    pub blocks: [u16; MAX_BLOCKS],
     pub block_count: usize,
-    pub code: [u16; 512],
+    pub code: [u16; MAX_INSTRUCTIONS],
     pub code_count: usize,
 }
 
@@ -312,9 +313,9 @@ fn refused_at(number: u8, place: usize) -> Places
     Places {
         number,
         place,
-        blocks: [0u16; 16],
+        blocks: [0u16; MAX_BLOCKS],
         block_count: 0,
-        code: [0u16; 512],
+        code: [0u16; MAX_INSTRUCTIONS],
         code_count: 0,
     }
 }
@@ -331,12 +332,12 @@ fn is_full(kind: u16, block_count: usize, code_count: usize) -> bool
 }
 
 fn read_records(s: &[u8], locals: u8) -> Places
-    requires { ⌜ (length (now s) ≤ 65536) × (locals ≡ localsOf (bodyAt (now s) 0)) ⌝ }
-    ensures { λ r. ⌜ (placesOf r ≡ placesFrom (length (now (s .entry))) (now (s .entry)) 0 noPlaces) × (r .«block_count» ≤ 16) × (r .«code_count» ≤ 512) ⌝ }
+    requires { ⌜ (length (now s) ≤ maxBytes) × (locals ≡ localsOf (bodyAt (now s) 0)) ⌝ }
+    ensures { λ r. ⌜ (placesOf r ≡ placesFrom (length (now (s .entry))) (now (s .entry)) 0 noPlaces) × (r .«block_count» ≤ maxBlocks) × (r .«code_count» ≤ maxInstructions) ⌝ }
 {
-    let mut blocks = [0u16; 16];
+    let mut blocks = [0u16; MAX_BLOCKS];
     let mut block_count: usize = 0;
-    let mut code = [0u16; 512];
+    let mut code = [0u16; MAX_INSTRUCTIONS];
     let mut code_count: usize = 0;
     let mut at: usize = 0;
     while at < s.len() {
@@ -368,7 +369,7 @@ fn read_records(s: &[u8], locals: u8) -> Places
 
 // Every byte string gets the places of its records, or the refusal and the place of document 01: its length, no byte, then record by record.
 pub fn read_places(s: &[u8]) -> Places
-    ensures { λ r. ⌜ (placesOf r ≡ readPlaces (now (s .entry))) × (r .«block_count» ≤ 16) × (r .«code_count» ≤ 512) ⌝ }
+    ensures { λ r. ⌜ (placesOf r ≡ readPlaces (now (s .entry))) × (r .«block_count» ≤ maxBlocks) × (r .«code_count» ≤ maxInstructions) ⌝ }
 {
     if MAX_BYTES < s.len() {
         return refused_at(6, MAX_BYTES);

@@ -31,10 +31,13 @@ returns : tie.Need-returns Inv-loop μ-loop
 returns c = let a = (c .before .before .before .before .before .before .before .args) in
     let l = (c .before .before .before .before .before .loop) in
     let t = (c .before .before .before .test-record) in
-    let f = (c .refused-at) in
-    (places-refused (f .result) (t .result .number) (l .at) (f .ensures .0) (f .ensures .1) ((c .before .if1) .taken)
-    ∙ stop-fault (a .s .now) (l .blocks) (l .code) (l .block-count) (l .code-count) (l .at) (a .locals) _ ((c .before .before .before .before .loop-test) .taken) ((c .before .before .before .before .before .before .before .pre) .1) (l .inv .4)
-    (t .result .number) (t .ensures .number) ((c .before .if1) .taken), omega arith, omega arith)
+    let f = (c .refused-at) in (
+      places-refused (f .result) (t .result .number) (l .at) (f .ensures .0) (f .ensures .1) ((c .before .if1) .taken)
+          ∙ stop-fault (a .s .now) (l .blocks) (l .code) (l .block-count) (l .code-count) (l .at) (a .locals) _ ((c .before .before .before .before .loop-test) .taken) ((c .before .before .before .before .before .before .before .pre) .1) (l .inv .4)
+          (t .result .number) (t .ensures .number) ((c .before .if1) .taken),
+      omega arith,
+      omega arith,
+    )
 
 is-full-requires : tie.Need-is-full-requires Inv-loop μ-loop
 is-full-requires c κs = search needs
@@ -47,10 +50,13 @@ returns-2 c = let a = (c .before .before .before .before .before .before .before
     let l = (c .before .before .before .before .before .before .before .loop) in
     let t = (c .before .before .before .before .before .test-record) in
     let f = (c .refused-at2) in
-    let z : t .result .number ≡ 0 = (c .before .before .before .if1) .left in
-    (places-refused (f .result) 6 (l .at) (f .ensures .0) (f .ensures .1) (λ h. omega arith)
-    ∙ stop-full (a .s .now) (l .blocks) (l .code) (l .block-count) (l .code-count) (l .at) (a .locals) _ ((c .before .before .before .before .before .before .loop-test) .taken) ((c .before .before .before .before .before .before .before .before .before .pre) .1) (l .inv .4)
-    (sym (t .ensures .number) ∙ ap faultOf z) (omega arith) (omega arith) (rw (t .ensures .kind z) at (sym ((c .before .before .is-full) .ensures) ∙ (c .before .if2) .taken)), omega arith, omega arith)
+    let z : t .result .number ≡ 0 = (c .before .before .before .if1) .left in (
+      places-refused (f .result) 6 (l .at) (f .ensures .0) (f .ensures .1) (λ h. omega arith)
+          ∙ stop-full (a .s .now) (l .blocks) (l .code) (l .block-count) (l .code-count) (l .at) (a .locals) _ ((c .before .before .before .before .before .before .loop-test) .taken) ((c .before .before .before .before .before .before .before .before .before .pre) .1) (l .inv .4)
+          (sym (t .ensures .number) ∙ ap faultOf z) (omega arith) (omega arith) (rw (t .ensures .kind z) at (sym ((c .before .before .is-full) .ensures) ∙ (c .before .if2) .taken)),
+      omega arith,
+      omega arith,
+    )
 
 cast-blocks : tie.Need-cast-blocks Inv-loop μ-loop
 cast-blocks c = omega arith
@@ -96,10 +102,15 @@ loop-again c = let a = (c .before .before .before .before .before .before .befor
     let l = (c .before .before .before .before .before .before .before .before .loop) in
     let t = (c .before .before .before .before .before .before .test-record) in
     let z : t .result .number ≡ 0 = (c .before .before .before .before .if1) .left in
-    let h : l .block-count < 16 = room-block (t .result .kind) (l .block-count) (l .code-count) (sym ((c .before .before .before .is-full) .ensures) ∙ (c .before .before .if2) .left) ((c .if3) .taken) in
-    (omega arith, omega arith, simp length-set (l .inv .2), l .inv .3, rw (t .ensures .next z)
-    (go-block (a .s .now) (l .blocks) (l .code) (l .block-count) (l .code-count) (l .at) (a .locals) _ ((c .before .before .before .before .before .before .before .loop-test) .taken) ((c .before .before .before .before .before .before .before .before .before .before .pre) .1) (l .inv .4)
-    (sym (t .ensures .number) ∙ ap faultOf z) (sym (t .ensures .kind z) ∙ (c .if3) .taken) h (omega arith)))
+    let h : l .block-count < 16 = room-block (t .result .kind) (l .block-count) (l .code-count) (sym ((c .before .before .before .is-full) .ensures) ∙ (c .before .before .if2) .left) ((c .if3) .taken) in (
+      omega arith,
+      omega arith,
+      simp length-set (l .inv .2),
+      l .inv .3,
+      rw (t .ensures .next z)
+          (go-block (a .s .now) (l .blocks) (l .code) (l .block-count) (l .code-count) (l .at) (a .locals) _ ((c .before .before .before .before .before .before .before .loop-test) .taken) ((c .before .before .before .before .before .before .before .before .before .before .pre) .1) (l .inv .4)
+          (sym (t .ensures .number) ∙ ap faultOf z) (sym (t .ensures .kind z) ∙ (c .if3) .taken) h (omega arith)),
+    )
 
 loop-less-2 : tie.Need-loop-less-2 Inv-loop μ-loop
 loop-less-2 c = let x = (c .before .before .before .before .before .before .before .before .test-record) .ensures .next ((c .before .before .before .before .before .before .if1) .left) in omega arith
@@ -111,12 +122,17 @@ loop-again-2 c =
     let l = (c .before .before .before .before .before .before .before .before .before .before .loop) in
     let t = (c .before .before .before .before .before .before .before .before .test-record) in
     let z : t .result .number ≡ 0 = (c .before .before .before .before .before .before .if1) .left in
-    let h : l .code-count < 512 = room-code (t .result .kind) (l .block-count) (l .code-count) (sym ((c .before .before .before .before .before .is-full) .ensures) ∙ (c .before .before .before .before .if2) .left) ((c .if4) .taken) (i3 .left) in
-    (omega arith, omega arith, l .inv .2, simp length-set (l .inv .3), rw (t .ensures .next z)
-    (go-code (a .s .now) (l .blocks) (l .code) (l .block-count) (l .code-count) (l .at) (a .locals) _
-    ((c .before .before .before .before .before .before .before .before .before .loop-test) .taken)
-    ((c .before .before .before .before .before .before .before .before .before .before .before .before .pre) .1) (l .inv .4)
-    (sym (t .ensures .number) ∙ ap faultOf z) (λ e. (c .if4) .taken (t .ensures .kind z ∙ e)) (λ e. i3 .left (t .ensures .kind z ∙ e)) h (omega arith)))
+    let h : l .code-count < 512 = room-code (t .result .kind) (l .block-count) (l .code-count) (sym ((c .before .before .before .before .before .is-full) .ensures) ∙ (c .before .before .before .before .if2) .left) ((c .if4) .taken) (i3 .left) in (
+      omega arith,
+      omega arith,
+      l .inv .2,
+      simp length-set (l .inv .3),
+      rw (t .ensures .next z)
+          (go-code (a .s .now) (l .blocks) (l .code) (l .block-count) (l .code-count) (l .at) (a .locals) _
+          ((c .before .before .before .before .before .before .before .before .before .loop-test) .taken)
+          ((c .before .before .before .before .before .before .before .before .before .before .before .before .pre) .1) (l .inv .4)
+          (sym (t .ensures .number) ∙ ap faultOf z) (λ e. (c .if4) .taken (t .ensures .kind z ∙ e)) (λ e. i3 .left (t .ensures .kind z ∙ e)) h (omega arith)),
+    )
 
 loop-less-3 : tie.Need-loop-less-3 Inv-loop μ-loop
 loop-less-3 c = let x = (c .before .before .before .before .before .before .before .before .test-record) .ensures .next ((c .before .before .before .before .before .before .if1) .left) in omega arith
@@ -126,12 +142,17 @@ loop-again-3 c =
     let a = (c .before .before .before .before .before .before .before .before .before .before .before .before .args) in
     let l = (c .before .before .before .before .before .before .before .before .before .before .loop) in
     let t = (c .before .before .before .before .before .before .before .before .test-record) in
-    let z : t .result .number ≡ 0 = (c .before .before .before .before .before .before .if1) .left in
-    (omega arith, omega arith, l .inv .2, l .inv .3, rw (t .ensures .next z)
-    (go-first (a .s .now) (l .blocks) (l .code) (l .block-count) (l .code-count) (l .at) (a .locals) _
-    ((c .before .before .before .before .before .before .before .before .before .loop-test) .taken)
-    ((c .before .before .before .before .before .before .before .before .before .before .before .before .pre) .1) (l .inv .4)
-    (sym (t .ensures .number) ∙ ap faultOf z) (sym (t .ensures .kind z) ∙ (c .if4) .left)))
+    let z : t .result .number ≡ 0 = (c .before .before .before .before .before .before .if1) .left in (
+      omega arith,
+      omega arith,
+      l .inv .2,
+      l .inv .3,
+      rw (t .ensures .next z)
+          (go-first (a .s .now) (l .blocks) (l .code) (l .block-count) (l .code-count) (l .at) (a .locals) _
+          ((c .before .before .before .before .before .before .before .before .before .loop-test) .taken)
+          ((c .before .before .before .before .before .before .before .before .before .before .before .before .pre) .1) (l .inv .4)
+          (sym (t .ensures .number) ∙ ap faultOf z) (sym (t .ensures .kind z) ∙ (c .if4) .left)),
+    )
 
 returns-3 : tie.Need-returns-3 Inv-loop μ-loop
 unfolding placesOf

@@ -144,11 +144,49 @@ returns-17 c =
     let n13 = n14 .0 in
     let n12 = n13 .0 in
     let n11 = n12 .0 in
-    by-row (λ i. Instr.Pop ≡ i) (c .before .before .args .kind) (instructions (c .before .before .args .b .now)) refl
-    (λ e. refl, (λ e. absurd (n11 .1 e), (λ e. absurd (n12 .1 e), (λ e. absurd (n13 .1 e), (λ e. absurd (n14 .1 e),
-    (λ e. absurd (n15 .1 e), (λ e. absurd (n16 .1 e), (λ e. absurd (n17 .1 e), (λ e. absurd (n18 .1 e), (λ e. absurd (n19 .1 e),
-    (λ e. absurd (n20 .1 e), (λ e. absurd (n21 .1 e), (λ e. absurd (c .before .before .pre e), (λ e. absurd (n23 .1 e),
-    (λ e. absurd (n24 .1 e), (λ e. absurd (n25 .1 e), (λ e. absurd (n26 .1 e), (λ e. absurd (n27 .1 e), tt))))))))))))))))))
+    by-row (λ i. Instr.Pop ≡ i) (c .before .before .args .kind) (instructions (c .before .before .args .b .now)) refl (
+      λ e. refl,
+      (
+        λ e. absurd (n11 .1 e),
+        (
+          λ e. absurd (n12 .1 e),
+          (
+            λ e. absurd (n13 .1 e),
+            (
+              λ e. absurd (n14 .1 e),
+              (
+                λ e. absurd (n15 .1 e),
+                (
+                  λ e. absurd (n16 .1 e),
+                  (
+                    λ e. absurd (n17 .1 e),
+                    (
+                      λ e. absurd (n18 .1 e),
+                      (
+                        λ e. absurd (n19 .1 e),
+                        (
+                          λ e. absurd (n20 .1 e),
+                          (
+                            λ e. absurd (n21 .1 e),
+                            (
+                              λ e. absurd (c .before .before .pre e),
+                              (
+                                λ e. absurd (n23 .1 e),
+                                (λ e. absurd (n24 .1 e), (λ e. absurd (n25 .1 e), (λ e. absurd (n26 .1 e), (λ e. absurd (n27 .1 e), tt)))),
+                              ),
+                            ),
+                          ),
+                        ),
+                      ),
+                    ),
+                  ),
+                ),
+              ),
+            ),
+          ),
+        ),
+      ),
+    )
 
 pub decode-plain-spec : {M : Type 1} → statement M
 decode-plain-spec =

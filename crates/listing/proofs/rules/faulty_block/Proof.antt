@@ -53,10 +53,16 @@ returns-5 c =
     let a = c .before .before .before .before .before .before .before .before .before .before .args in
     let p = c .before .before .before .before .before .before .before .before .before .before .pre in
     let full : length (a .t1) ≡ 16 = search (unmapped) in
-    rw (faulty-eq (a .t1) (a .n) full (p .0) (a .i) (p .1)
-    (a .code-count), c .before .before .before .before .before .before .before .if1 .left, le-ltb _ _
-    (c .before .before .before .before .before .if2 .left), lt-leb _ _ (c .before .before .before .if3 .left), sym
-    (c .before .before .overlaps .ensures) ∙ c .before .if4 .left) (c .faulty-successors .ensures)
+    rw (
+      faulty-eq (a .t1) (a .n) full (p .0) (a .i) (p .1)
+          (a .code-count),
+      c .before .before .before .before .before .before .before .if1 .left,
+      le-ltb _ _
+          (c .before .before .before .before .before .if2 .left),
+      lt-leb _ _ (c .before .before .before .if3 .left),
+      sym
+          (c .before .before .overlaps .ensures) ∙ c .before .if4 .left,
+    ) (c .faulty-successors .ensures)
 
 pub faulty-block-spec : {M : Type 1} → statement M
 faulty-block-spec =

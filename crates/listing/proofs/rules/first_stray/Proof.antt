@@ -53,10 +53,13 @@ returns c =
     let full : length (a .t2) ≡ 512 = search needs in
     let fits : a .m ≤ length (a .t2) = omega arith in
     first-stop (strayRet (map (instrAt (a .s .now)) (take (a .m) (a .t2))) (blocksIn (a .blocks) (a .n))) (l .k) (a .m) _ (t .taken) (l .inv .1)
-    (rw (stray-eq (a .s .now) (a .t2) (a .m) fits (blocksIn (a .blocks) (a .n)) (l .k) (t .taken),
-    (ap (λ (n : ℕ). eqb n 23) (sym (c .before .before .before .u16-at .ensures ∙ ap (kindAt (a .s .now))
-    (c .before .before .before .before .place .ensures .0))) ∙ eq-eqb _ 23 (c .before .before .if1 .taken)), sym (c .before .ends-block .ensures)
-    ∙ not-true _ (c .if2 .taken)))
+    (rw (
+      stray-eq (a .s .now) (a .t2) (a .m) fits (blocksIn (a .blocks) (a .n)) (l .k) (t .taken),
+      (ap (λ (n : ℕ). eqb n 23) (sym (c .before .before .before .u16-at .ensures ∙ ap (kindAt (a .s .now))
+          (c .before .before .before .before .place .ensures .0))) ∙ eq-eqb _ 23 (c .before .before .if1 .taken)),
+      sym (c .before .ends-block .ensures)
+          ∙ not-true _ (c .if2 .taken),
+    ))
 
 add-k : tie.Need-add-k Inv-loop μ-loop
 add-k c = omega arith

@@ -14,9 +14,49 @@ abbrev Eight : ℕ → Type 0
 Eight i = 2 ≤ i → getD kinds i 0 ≡ i + 8
 
 eights : Every Eight 20
-eights = ((((((((((((((((((((tt, λ h. absurd (omega arith)), λ h. absurd (omega arith)), λ h. refl), λ h. refl), λ h. refl), λ h. refl),
-    λ h. refl), λ h. refl), λ h. refl), λ h. refl), λ h. refl), λ h. refl), λ h. refl), λ h. refl), λ h. refl), λ h. refl), λ h. refl),
-    λ h. refl), λ h. refl), λ h. refl)
+eights = (
+  (
+    (
+      (
+        (
+          (
+            (
+              (
+                (
+                  (
+                    (
+                      (
+                        (
+                          (
+                            ((((((tt, λ h. absurd (omega arith)), λ h. absurd (omega arith)), λ h. refl), λ h. refl), λ h. refl), λ h. refl),
+                            λ h. refl,
+                          ),
+                          λ h. refl,
+                        ),
+                        λ h. refl,
+                      ),
+                      λ h. refl,
+                    ),
+                    λ h. refl,
+                  ),
+                  λ h. refl,
+                ),
+                λ h. refl,
+              ),
+              λ h. refl,
+            ),
+            λ h. refl,
+          ),
+          λ h. refl,
+        ),
+        λ h. refl,
+      ),
+      λ h. refl,
+    ),
+    λ h. refl,
+  ),
+  λ h. refl,
+)
 
 sub-result : tie.Need-sub-result
 sub-result c = search needs

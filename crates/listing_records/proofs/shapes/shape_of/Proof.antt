@@ -21,10 +21,46 @@ Right i = (D.kindInUse (getD kinds i 0) ≡ true) × (packed 4 (getD table i 0) 
 
 rule : Every Right 20
 unfolding D.kindInUse D.fieldsOf D.inUse D.fieldsIn packed
-rule =
-    ((((((((((((((((((((tt, (refl, refl)), (refl, refl)), (refl, refl)), (refl, refl)), (refl, refl)), (refl, refl)), (refl, refl)),
-    (refl, refl)), (refl, refl)), (refl, refl)), (refl, refl)), (refl, refl)), (refl, refl)), (refl, refl)), (refl, refl)), (refl, refl)),
-    (refl, refl)), (refl, refl)), (refl, refl)), (refl, refl))
+rule = (
+  (
+    (
+      (
+        (
+          (
+            (
+              (
+                (
+                  (
+                    (
+                      (
+                        (
+                          (((((((tt, (refl, refl)), (refl, refl)), (refl, refl)), (refl, refl)), (refl, refl)), (refl, refl)), (refl, refl)),
+                          (refl, refl),
+                        ),
+                        (refl, refl),
+                      ),
+                      (refl, refl),
+                    ),
+                    (refl, refl),
+                  ),
+                  (refl, refl),
+                ),
+                (refl, refl),
+              ),
+              (refl, refl),
+            ),
+            (refl, refl),
+          ),
+          (refl, refl),
+        ),
+        (refl, refl),
+      ),
+      (refl, refl),
+    ),
+    (refl, refl),
+  ),
+  (refl, refl),
+)
 
 row-of-requires : tie.Need-row-of-requires
 row-of-requires c κs = search needs
