@@ -7,7 +7,7 @@ use mathlib.Core.Logic.{_⊎_}
 use mathlib.Core.Path.{_≡_}
 use lib.Dec.{eqb, ltb}
 use lib.ListN.{length, getD}
-use Rattle.meaning.specs.Answers.{Ans, ok, refuse, andThen, guard}
+use Rattle.meaning.specs.Answers.{Ans, ok, refuse, andThen, guard, leaves}
 use Rattle.meaning.specs.Lists.{any}
 use Rattle.meaning.specs.References.{Edge, eqEdge, EdgeSet}
 use Rattle.meaning.specs.BorrowGraph.{Graph, release, joinGraphs, setAt, onPairs, held, wellFormed, Name, renamed}
@@ -137,20 +137,17 @@ abbrev pub count1 : Bool → ℕ
 count1 true = 1
 count1 false = 0
 
--- the state after a join: after a refused one, the state that it got
-abbrev pub kept : State → Ans State → State
-kept s (ok t) = t
-kept s (refuse n) = s
-
+-- "A join changes the state exactly when it is not refused and its answer differs from the state it got"
 abbrev pub did : State → Ans State → ℕ
 did s (ok t) = count1 (changed s t)
 did s (refuse n) = 0
 
--- how many of a list of joins change the state
+-- How many of a list of joins change the state. A join gets "the state that the join before it answered; after a refused one, the state
+-- that one had got".
 unfoldable pub changes : State → List State → ℕ
 unfolding join changed
 changes s [] = 0
-changes s (o ∷ os) = did s (join s o) + changes (kept s (join s o)) os
+changes s (o ∷ os) = did s (join s o) + changes (leaves s (join s o)) os
 
 -- ---- the first state: the parameters present, no edges (AbstractState::new)
 

@@ -1,41 +1,40 @@
 -- The answer to a listing, from its bytes to the verdict: document 01 as a whole.
-use Prim.Native.Nat.{ℕ, _+_, _*_}
+use Prim.Native.Nat.{ℕ}
 use mathlib.Core.Bool.{cond}
 use mathlib.Core.List.{List}
 use mathlib.Core.Option.{Option, none}
 use lib.Dec.{ltb}
 use lib.ListN.{length, getD}
+use Rattle.meaning.specs.Limits.{areaWords}
 use Rattle.meaning.specs.AbstractState.{State, join, changed, firstState}
 use Rattle.meaning.specs.Blocks.{Routine, exec}
-use Rattle.meaning.specs.Loop.{Run, run, visits, Verdict, verdict, refusal, blank}
+use Rattle.meaning.specs.Loop.{Run, run, visits, mostVisits, Verdict, verdict, refusal, blank}
 use Rattle.meaning.specs.Listing.{Listed, read, refused, readListing}
 
--- B × (1 + B × (11 × L × L + L)) for B blocks and L locals
-abbrev pub mostVisits : Routine → ℕ
-mostVisits q = length (q .blocks) * (1 + length (q .blocks) * (11 * q .locals * q .locals + q .locals))
+-- the run of a routine with a budget of turns, "with the parameters present and no edges" at first
+abbrev pub runWith : Routine → ℕ → Run State
+runWith q f = run State join changed (exec q) (q .blocks) f (firstState (q .locals) (q .params))
 
--- The run of a routine, with a budget that never ends it: RunLaws has `ends-itself` and `same-run`.
+-- The run of a routine. Its budget never ends it: Theorems has that the run ends by itself, and is the same with any larger one.
 unfoldable pub runOf : Routine → Run State
-runOf q = run State join changed (exec q) (q .blocks) (mostVisits q) (firstState (q .locals) (q .params))
+runOf q = runWith q (mostVisits (length (q .blocks)) (q .locals))
 
+-- "The run also answers its block visits"
 pub record Answered : Type 0 where
   pub verdict : Verdict
   pub visits : ℕ
 
+-- "0 for refusals 1–7"
 abbrev pub answerTo : Listed Routine → Answered
 answerTo (read q) = record { verdict = verdict (q .blocks) (runOf q); visits = visits (runOf q) }
 answerTo (refused n at) = record { verdict = refusal n at; visits = 0 }
 
--- the work area, in words: 16 blocks of 1,024
-abbrev pub areaWords : ℕ
-areaWords = 16384
-
--- `words`: how long the work area is
+-- "7: work area under 16,384 32-bit words (place 0 ..)", and "Order: 7; ..": before the listing is read. `words`: how long the area is.
 unfoldable pub verify : ℕ → List ℕ → Answered
 unfolding readListing runOf
 verify words s = cond (ltb words areaWords) (record { verdict = refusal 7 0; visits = 0 }) (answerTo (readListing s))
 
--- the kept state of the block at a position, as the loop leaves it
+-- the kept state of the block at a position as the loop leaves it, none past the last block
 abbrev pub keptBy : Listed Routine → ℕ → Option State
 keptBy (read q) j = getD (runOf q .slots) j blank .kept
 keptBy (refused n at) j = none

@@ -8,15 +8,16 @@ use mathlib.Core.Path.{_≡_, refl, sym, subst}
 use borrow.Author.Tests.{leb-false, ltb-false, ltb-true, leb-true}
 use lib.Dec.{eqb, leb, ltb}
 use lib.ListN.{getD, length, take, drop, length-take, length-drop}
+use Rattle.meaning.specs.Limits.{areaWords}
 use Rattle.meaning.specs.Answers.{Ans, ok, refuse, Outcome, done, violated, refused}
 use Rattle.meaning.specs.Lists.{empty}
 use Rattle.meaning.specs.AbstractState.{State, Operand, canonical, join, changed}
 use Rattle.meaning.specs.EntryPoints.{Running}
 use Rattle.meaning.specs.Steps.{Instr, Machine, step}
-use Rattle.meaning.specs.Blocks.{Routine, runFrom, finish, settle, handOn, renamedEnd, exec, runBlock, instrsOf, startMachine}
-use Rattle.meaning.specs.Loop.{Result, Block, noBlock, Next, at, stopped, Run, Slot, Spread, spread, afterChange, afterJoin, toKept, toNext, afterBlock, turnAt, turns, blank, Verdict, accept, violation, refusal, lowest, verdictAt, verdict, run}
+use Rattle.meaning.specs.Blocks.{Routine, runFrom, finish, settle, endOf, renamedEnd, exec, runBlock, instrsOf, startMachine}
+use Rattle.meaning.specs.Loop.{mostVisits, Failure, verdictFor, Result, Block, noBlock, Next, at, stopped, Run, Slot, Propagation, propagate, afterChange, afterJoin, toKept, toSuccessor, afterBlock, turnAt, turns, blank, Verdict, accept, violation, refusal, lowest, verdictAt, verdict, run}
 use Rattle.meaning.specs.Listing.{Places, Listed, read, ifFine, ifNot, putAt, fullFor, placesFrom, faultAt, kindAt, nextAt, bodyAt, localsOf, faultyBlock, strayRet, firstOf, ruled, routineAt, afterRecords, noPlaces, readPlaces, readListing}
-use Rattle.meaning.specs.Verify.{runOf, mostVisits, verify, answerTo, areaWords}
+use Rattle.meaning.specs.Verify.{runOf, verify, answerTo}
 use Rattle.meaning.specs.Laws.Base.{decide, and-l, and-r}
 use Rattle.meaning.specs.Laws.Listing.{Ruled, accepted-promised, ruled-block, first-none-below, Accepted, accepted}
 use Rattle.meaning.specs.Laws.Promised.{promised}
@@ -110,20 +111,21 @@ low-reader s =
 
 abbrev LowResult : ℕ → Result State → Type 0
 LowResult m (Result.ended t) = Unit {0}
+LowResult m Result.returned = Unit {0}
 LowResult m (Result.violated c o) = Unit {0}
 LowResult m (Result.refused n p) = p ≤ m
 
-module _ (returns : ℕ) (b : Block) (s : State) (m : ℕ) (exit : b .exit ≤ m) where
+module _ (returns : ℕ) (b : Block) (m : ℕ) (exit : b .exit ≤ m) where
   low-renamed : (a : Ans State) → LowResult m (renamedEnd (b .exit) a)
   low-renamed (ok t) = tt
   low-renamed (refuse n) = exit
 
-  low-hand : (es : List ℕ) (r : Running) → LowResult m (handOn b es s r)
-  low-hand [] r = tt
-  low-hand (e ∷ es) r = low-renamed (canonical (r .root) (record { locals = r .locals; graph = r .graph }))
+  low-end : (es : List ℕ) (r : Running) → LowResult m (endOf b es r)
+  low-end [] r = tt
+  low-end (e ∷ es) r = low-renamed (canonical (r .root) (record { locals = r .locals; graph = r .graph }))
 
-  low-finish : (r : Running) (vs : List Operand) → LowResult m (finish b s r vs)
-  low-finish r [] = low-hand (b .successors) r
+  low-finish : (r : Running) (vs : List Operand) → LowResult m (finish b r vs)
+  low-finish r [] = low-end (b .successors) r
   low-finish r (v ∷ vs) = exit
 
   low-settle : (o : ℕ) (x : Outcome Machine) (k : Machine → Result State) → o ≤ m → ((n : Machine) → LowResult m (k n)) → LowResult m (settle o x k)
@@ -131,7 +133,7 @@ module _ (returns : ℕ) (b : Block) (s : State) (m : ℕ) (exit : b .exit ≤ m
   low-settle o (violated c) k h l = tt
   low-settle o (refused n) k h l = h
 
-  low-run : (is : List Instr) (o : ℕ) (n : Machine) → o + length is ≤ suc m → LowResult m (runFrom returns b s o is n)
+  low-run : (is : List Instr) (o : ℕ) (n : Machine) → o + length is ≤ suc m → LowResult m (runFrom returns b o is n)
   unfolding runFrom
   low-run [] o n h = low-finish (n .state) (n .stack)
   low-run (i ∷ is) o n h = low-settle o (step returns i n) _ (omega (arith, h)) (λ x. low-run is (suc o) x (omega (arith, h)))
@@ -140,7 +142,7 @@ low-exec : (q : Routine) (m i : ℕ) (s : State) → Ruled (length (q .code)) (q
 unfolding exec runBlock instrsOf
 low-exec q m i s r h =
     let b : Block = getD (q .blocks) i noBlock in
-    low-run (q .returns) b s m (omega (arith, r .inside, h)) (take (suc (b .exit - b .entry)) (drop (b .entry) (q .code))) (b .entry) (startMachine (q .locals) s)
+    low-run (q .returns) b m (omega (arith, r .inside, h)) (take (suc (b .exit - b .entry)) (drop (b .entry) (q .code))) (b .entry) (startMachine (q .locals) s)
     (simp (length-take, length-drop) (omega (arith, r .inside, r .forth, h)))
 
 -- ---- the run
@@ -164,17 +166,18 @@ module _ (ex : ℕ → State → Result State) (bs : List Block) (m : ℕ) (exit
     low-kept e j ss n none = tt
     low-kept e j ss n (some s) = low-join e j ss n s (join s t)
 
-    low-next : (e : ℕ) (ss : List (Slot State)) (x : Next) → LowNext m x → LowNext m (toNext State join changed ex bs b t e ss x .next)
+    low-next : (e : ℕ) (ss : List (Slot State)) (x : Next) → LowNext m x → LowNext m (toSuccessor State join changed ex bs b t e ss x .next)
     low-next e ss (at n) l = low-kept e (L.position bs e) ss n (getD ss (L.position bs e) blank .kept)
     low-next e ss (stopped r p) l = l
 
-    low-spread : (es : List ℕ) (a : Spread State) → LowNext m (a .next) → LowNext m (spread State join changed ex bs b t es a .next)
-    unfolding spread
-    low-spread [] a l = l
-    low-spread (e ∷ es) a l = low-spread es (toNext State join changed ex bs b t e (a .slots) (a .next)) (low-next e (a .slots) (a .next) l)
+    low-propagate : (es : List ℕ) (a : Propagation State) → LowNext m (a .next) → LowNext m (propagate State join changed ex bs b t es a .next)
+    unfolding propagate
+    low-propagate [] a l = l
+    low-propagate (e ∷ es) a l = low-propagate es (toSuccessor State join changed ex bs b t e (a .slots) (a .next)) (low-next e (a .slots) (a .next) l)
 
   low-block : (r : Run State) (i : ℕ) (x : Result State) → i < length bs → LowResult m x → LowNext m (afterBlock State join changed ex bs r i x .next)
-  low-block r i (Result.ended t) h l = low-spread (getD bs i noBlock) t (exits i h) (getD bs i noBlock .successors) _ tt
+  low-block r i (Result.ended t) h l = low-propagate (getD bs i noBlock) t (exits i h) (getD bs i noBlock .successors) _ tt
+  low-block r i Result.returned h l = tt
   low-block r i (Result.violated c o) h l = tt
   low-block r i (Result.refused n p) h l = l
 
@@ -201,24 +204,16 @@ Low accept = Unit {0}
 Low (violation c o) = Unit {0}
 Low (refusal n p) = p ≤ 65536
 
-low-lowest : (bs : List Block) (ss : List (Slot State)) (e : ℕ) (v : Verdict) → Low v → Low (lowest bs ss e v)
-unfolding lowest
-low-lowest [] ss e v l = l
-low-lowest (b ∷ bs) [] e v l = l
-low-lowest (b ∷ bs) (x ∷ ss) e v l = low-lowest bs ss _ _ (one (x .status) v l)
-  where
-    one : (y : L.Status) (v : Verdict) → Low v → Low (L.lowestOf (b .entry) y e v)
-    one L.fine v l = l
-    one (L.failed c o) accept l = tt
-    one (L.failed c o) (violation d q) l = decide (ltb (b .entry) e) (λ z. rw z tt) (λ z. rw z tt)
-    one (L.failed c o) (refusal n p) l = l
+low-for : (f : Option Failure) → Low (verdictFor f)
+low-for none = tt
+low-for (some f) = tt
 
 low-verdict : (bs : List Block) (r : Run State) → LowNext 512 (r .next) → Low (verdict bs r)
 unfolding verdict
 low-verdict bs r l = go (r .next) l
   where
     go : (x : Next) → LowNext 512 x → Low (verdictAt bs (r .slots) x)
-    go (at i) k = low-lowest bs (r .slots) 0 accept tt
+    go (at i) k = low-for (lowest bs (r .slots) none)
     go (stopped n p) k = omega (arith, k)
 
 few : (s : List ℕ) (q : Routine) → readListing s ≡ read q → length (q .code) ≤ 512
@@ -238,7 +233,7 @@ low-routine s q e =
     (low-steps (exec q) (q .blocks) 512
     (λ i h. let r : Ruled (length (q .code)) (q .blocks) i = rules s q e i h in omega (arith, r .inside, few s q e))
     (λ i x h. low-exec q 512 i x (rules s q e i h) (few s q e))
-    (mostVisits q) _ tt)
+    (mostVisits (length (q .blocks)) (q .locals)) _ tt)
 
 pub low-answer : (words : ℕ) (s : List ℕ) → Low (verify words s .verdict)
 unfolding verify

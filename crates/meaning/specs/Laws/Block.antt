@@ -13,7 +13,7 @@ use Rattle.meaning.specs.BorrowGraph.{held, Graph, renamed}
 use Rattle.meaning.specs.AbstractState.{Local, absent, value, ref, count1, State, Form, canonical, crosses, newNameOf, ownNames, Operand}
 use Rattle.meaning.specs.EntryPoints.{localNames, Running}
 use Rattle.meaning.specs.Steps.{Machine, Instr, step, isRet}
-use Rattle.meaning.specs.Blocks.{startMachine, settle, renamedEnd, handOn, finish, runFrom, instrsOf, Routine, runBlock, exec}
+use Rattle.meaning.specs.Blocks.{startMachine, settle, renamedEnd, endOf, finish, runFrom, instrsOf, Routine, runBlock, exec}
 use Rattle.meaning.specs.Loop.{Result, Block, noBlock}
 use Rattle.meaning.specs.Laws.Base.{decide, eqb-eq, leb-le, leb-gt, eqb-self, both, eqb-no, and-l, and-r, and-i}
 use Rattle.meaning.specs.Laws.Forms.{Strong, Open}
@@ -160,6 +160,7 @@ canonical-fair l s = go (not (crosses (s .locals) 0 (s .locals))) (record { loca
 -- the end state has the property; a refusal is not 8, 9 or 23
 pub data Ends (P : State → Type 0) : Result State → Type 0 where
   ends : {t : State} → P t → Ends P (Result.ended t)
+  leaves : Ends P Result.returned
   breaks : {c o : ℕ} → Ends P (Result.violated c o)
   bars : {n p : ℕ} → ordinary n ≡ true → Ends P (Result.refused n p)
 
@@ -172,32 +173,32 @@ renamedEnd-ends : {Q : State → Type 0} (exit : ℕ) (a : Ans State) → fair a
 renamedEnd-ends exit (ok t) f h = ends (h t refl)
 renamedEnd-ends exit (refuse n) f h = bars f
 
-module _ (l : ℕ) (small : l ≤ 16) (returns : ℕ) (b : Block) (s : State) (strong : Strong l s) where
-  finish-ends : (m : ℕ) (r : Running) (vs : List Operand) → Good l m vs r → Ends (Strong l) (finish b s r vs)
+module _ (l : ℕ) (small : l ≤ 16) (returns : ℕ) (b : Block) where
+  finish-ends : (m : ℕ) (r : Running) (vs : List Operand) → Good l m vs r → Ends (Strong l) (finish b r vs)
   finish-ends m r (v ∷ vs) h = bars refl
   finish-ends m r [] h = go (b .successors)
     where
-      go : (es : List ℕ) → Ends (Strong l) (handOn b es s r)
-      go [] = ends strong
+      go : (es : List ℕ) → Ends (Strong l) (endOf b es r)
+      go [] = leaves
       go (e ∷ es) = renamedEnd-ends (b .exit) (canonical (r .root) (record { locals = r .locals; graph = r .graph })) (canonical-fair (r .root) (record { locals = r .locals; graph = r .graph }))
           (λ t q. canonical-strong l m (r .locals) (r .graph) (r .next) t small (h .count) (h .keeps .own)
           (subst (λ (k : ℕ). canonical k (record { locals = r .locals; graph = r .graph }) ≡ ok t) (h .keeps .root) q))
 
   -- after a return: nothing is left to do, and nobody gets a state
-  after-ret : (o : ℕ) (is : List Instr) (m : Machine) → empty is ≡ true → empty (b .successors) ≡ true → Ends (Strong l) (runFrom returns b s o is m)
+  after-ret : (o : ℕ) (is : List Instr) (m : Machine) → empty is ≡ true → empty (b .successors) ≡ true → Ends (Strong l) (runFrom returns b o is m)
   unfolding runFrom
   after-ret o (i ∷ is) m p q = absurd (false≢true p)
   after-ret o [] m p q = go (m .stack) (b .successors) q
     where
-      go₁ : (es : List ℕ) → empty es ≡ true → Ends (Strong l) (handOn b es s (m .state))
-      go₁ [] w = ends strong
+      go₁ : (es : List ℕ) → empty es ≡ true → Ends (Strong l) (endOf b es (m .state))
+      go₁ [] w = leaves
       go₁ (e ∷ es) w = absurd (false≢true w)
 
-      go : (vs : List Operand) (es : List ℕ) → empty (b .successors) ≡ true → Ends (Strong l) (finish b s (m .state) vs)
+      go : (vs : List Operand) (es : List ℕ) → empty (b .successors) ≡ true → Ends (Strong l) (finish b (m .state) vs)
       go [] es w = go₁ (b .successors) w
       go (v ∷ vs) es w = bars refl
 
-  runFrom-ends : (o : ℕ) (is : List Instr) (k : ℕ) (m : Machine) → all (withinFrame l) is ≡ true → retsPlaced (b .successors) is ≡ true → Fine l k m → 17 * length is ≤ k → Ends (Strong l) (runFrom returns b s o is m)
+  runFrom-ends : (o : ℕ) (is : List Instr) (k : ℕ) (m : Machine) → all (withinFrame l) is ≡ true → retsPlaced (b .successors) is ≡ true → Fine l k m → 17 * length is ≤ k → Ends (Strong l) (runFrom returns b o is m)
   unfolding runFrom retsPlaced step
   runFrom-ends o [] k m f p h c = finish-ends k (m .state) (m .stack) (h .good)
   runFrom-ends o (i ∷ is) k m f p h c =
@@ -206,9 +207,9 @@ module _ (l : ℕ) (small : l ≤ 16) (returns : ℕ) (b : Block) (s : State) (s
       let e : length (i ∷ is) ≡ suc (length is) = refl in
       decide (isRet i)
       (λ q. let w : empty is && empty (b .successors) ≡ true = subst (λ (x : Bool). not x || (empty is && empty (b .successors)) ≡ true) q p₁ in
-      settle-ends o (λ n. runFrom returns b s (suc o) is n) (any-ret l small returns i q k (m .stack) (m .state) (h .good))
+      settle-ends o (λ n. runFrom returns b (suc o) is n) (any-ret l small returns i q k (m .stack) (m .state) (h .good))
       (λ n u. after-ret (suc o) is n (and-l (empty is) (empty (b .successors)) w) (and-r (empty is) (empty (b .successors)) w)))
-      (λ q. settle-ends o (λ n. runFrom returns b s (suc o) is n)
+      (λ q. settle-ends o (λ n. runFrom returns b (suc o) is n)
       (step-fine l small returns i (m .stack) (17 * length is) (m .state) (and-l (withinFrame l i) (all (withinFrame l) is) f) q (good-less l small k (17 * length is + 17) (m .stack) (m .state) (h .good) (omega arith)) (h .few))
       (λ n u. runFrom-ends (suc o) is (17 * length is) n (and-r (withinFrame l i) (all (withinFrame l) is) f) p₂ u (omega arith)))
 
@@ -265,38 +266,44 @@ exec-ends q h i s strong =
     let most : length (q .code) ≤ 512 = leb-le (and-r (leb (q .locals) 16) (leb (length (q .code)) 512) h₁) in
     let l₁ : length is ≤ length (drop (b .entry) (q .code)) = take-le (suc (b .exit - b .entry)) (drop (b .entry) (q .code)) in
     let l₂ : length (drop (b .entry) (q .code)) ≤ length (q .code) = drop-le (b .entry) (q .code) in
-    runFrom-ends (q .locals) small (q .returns) b s strong (b .entry) is (17 * length is) (startMachine (q .locals) s)
+    runFrom-ends (q .locals) small (q .returns) b (b .entry) is (17 * length is) (startMachine (q .locals) s)
     (all-take (withinFrame (q .locals)) (suc (b .exit - b .entry)) (drop (b .entry) (q .code)) (all-drop (withinFrame (q .locals)) (b .entry) (q .code) (and-l (all (withinFrame (q .locals)) (q .code)) (all f (q .blocks)) h₂)))
     (all-getD f (q .blocks) i noBlock (and-r (all (withinFrame (q .locals)) (q .code)) (all f (q .blocks)) h₂) (no-block (q .code)))
     (record { good = start-good (q .locals) (17 * length is) s (omega arith) strong; few = zero-le }) (omega arith)
 
 abbrev isEnded : Result State → Type 0
 isEnded (Result.ended v) = Unit {0}
+isEnded Result.returned = ⊥
 isEnded (Result.violated c o) = ⊥
 isEnded (Result.refused n o) = ⊥
 
 abbrev isRefused : Result State → Type 0
 isRefused (Result.ended v) = ⊥
+isRefused Result.returned = ⊥
 isRefused (Result.violated c o) = ⊥
 isRefused (Result.refused n o) = Unit {0}
 
 abbrev fromEnded : State → Result State → State
 fromEnded d (Result.ended v) = v
+fromEnded d Result.returned = d
 fromEnded d (Result.violated c o) = d
 fromEnded d (Result.refused n o) = d
 
 abbrev fromRefused : ℕ → Result State → ℕ
 fromRefused d (Result.ended v) = d
+fromRefused d Result.returned = d
 fromRefused d (Result.violated c o) = d
 fromRefused d (Result.refused n o) = n
 
 ends-at : {P : State → Type 0} {a : Result State} → Ends P a → (t : State) → a ≡ Result.ended t → P t
 ends-at {P} (ends {t} p) u e = subst P (ap (fromEnded t) e) p
+ends-at {P} leaves u e = absurd (subst isEnded (sym e) tt)
 ends-at {P} breaks u e = absurd (subst isEnded (sym e) tt)
 ends-at {P} (bars w) u e = absurd (subst isEnded (sym e) tt)
 
 ends-refused : {P : State → Type 0} {a : Result State} → Ends P a → (n o : ℕ) → a ≡ Result.refused n o → ordinary n ≡ true
 ends-refused (ends p) n o e = absurd (subst isRefused (sym e) tt)
+ends-refused leaves n o e = absurd (subst isRefused (sym e) tt)
 ends-refused breaks n o e = absurd (subst isRefused (sym e) tt)
 ends-refused (bars {n = k} w) n o e = subst (λ (j : ℕ). ordinary j ≡ true) (ap (fromRefused n) e) w
 

@@ -407,12 +407,13 @@ pub record Accepted (s : List ℕ) (q : Routine) : Type 0 where
   pub read-so : placesFrom (length s) s 0 noPlaces ≡ read places
   pub routine : q ≡ routineAt s places
   pub some : 0 < length s
+  pub some-block : 0 < length (routineAt s places .blocks)
   pub fine-blocks : ltb (firstOf (faultyBlock (length (routineAt s places .code)) (routineAt s places .blocks)) 0 (length (routineAt s places .blocks))) (length (routineAt s places .blocks)) ≡ false
   pub fine-rets : ltb (firstOf (strayRet (routineAt s places .code) (routineAt s places .blocks)) 0 (length (routineAt s places .code))) (length (routineAt s places .code)) ≡ false
 
-some-bytes : (s : List ℕ) → empty s ≡ false → 0 < length s
-some-bytes [] e = absurd (true≢false e)
-some-bytes (x ∷ xs) e = omega arith
+not-empty : {A : Type 0} (xs : List A) → empty xs ≡ false → 0 < length xs
+not-empty [] e = absurd (true≢false e)
+not-empty (x ∷ xs) e = omega arith
 
 -- the places were read: there are bytes, and each record passed
 pub read-places : (s : List ℕ) (v : Places) → readPlaces s ≡ read v → (0 < length s) × (placesFrom (length s) s 0 noPlaces ≡ read v)
@@ -420,7 +421,7 @@ unfolding readPlaces
 read-places s v e =
     let a = not-read (ltb 65536 (length s)) 6 65536 (ifNot (empty s) 1 0 (placesFrom (length s) s 0 noPlaces)) v e in
     let b = not-read (empty s) 1 0 (placesFrom (length s) s 0 noPlaces) v (a .1) in
-    (some-bytes s (b .0), b .1)
+    (not-empty s (b .0), b .1)
 
 pub accepted : (s : List ℕ) (q : Routine) → readListing s ≡ read q → Accepted s q
 unfolding readListing
@@ -434,7 +435,10 @@ accepted s q e = go (readPlaces s) refl e
         let d = not-read (ltb (firstOf (faultyBlock (length (p .code)) (p .blocks)) 0 (length (p .blocks))) (length (p .blocks))) 5 _ _ q (c .1) in
         let f = not-read (ltb (firstOf (strayRet (p .code) (p .blocks)) 0 (length (p .code))) (length (p .code))) 5 _ _ q (d .1) in
         let g = read-places s v h in
-        record { places = v; read-so = g .1; routine = sym (read-inj (f .1)); some = g .0; fine-blocks = d .0; fine-rets = f .0 }
+        record { places = v; read-so = g .1; routine = sym (read-inj (f .1)); some = g .0; some-block = not-empty (p .blocks) (c .0); fine-blocks = d .0; fine-rets = f .0 }
+
+pub accepted-block : (s : List ℕ) (q : Routine) → readListing s ≡ read q → 0 < length (q .blocks)
+accepted-block s q e = let a : Accepted s q = accepted s q e in subst (λ (r : Routine). 0 < length (r .blocks)) (sym (a .routine)) (a .some-block)
 
 pub accepted-promised : (s : List ℕ) (q : Routine) → readListing s ≡ read q → promised q ≡ true
 unfolding promised

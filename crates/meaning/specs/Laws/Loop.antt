@@ -11,7 +11,7 @@ use lib.Dec.{leb, ltb, eqb}
 use lib.ListN.{length, getD, set, length-set, List·getD-eq-default, length-map}
 use lib.Seq.{getD-set-same, getD-set-other, set-out}
 use Rattle.meaning.specs.Answers.{Ans, ok, refuse}
-use Rattle.meaning.specs.Loop.{Result, ended, violated, refused, Block, Status, fine, failed, Slot, Next, at, stopped, Run, visits, Spread, position, noBlock, blank, afterChange, afterJoin, toKept, toNext, spread, mark, afterBlock, visitBlock, turnAt, turn, turns, startSlots, run, endedAt, hasEnded}
+use Rattle.meaning.specs.Loop.{Result, ended, returned, violated, refused, Block, Status, fine, failed, Slot, Next, at, stopped, Run, visits, Propagation, position, noBlock, blank, afterChange, afterJoin, toKept, toSuccessor, propagate, mark, afterBlock, visitBlock, turnAt, turn, turns, startSlots, run, endedAt, hasEnded}
 use Rattle.meaning.specs.Laws.Base.{decide, not-true, eqb-eq, eqb-ne, leb-le, leb-gt}
 
 module _ (St : Type 0) (join : St → St → Ans St) (changed : St → St → Bool) (exec : ℕ → St → Result St) (blocks : List Block)
@@ -84,13 +84,13 @@ module _ (St : Type 0) (join : St → St → Ans St) (changed : St → St → Bo
   NextFrom ss₀ n₀ ss (at n) = (n ≡ n₀) ⊎ (total ss < total ss₀)
   NextFrom ss₀ n₀ ss (stopped r p) = Unit {0}
 
-  record Handed (ss₀ : List (Slot St)) (n₀ : ℕ) (a : Spread St) : Type 0 where
+  record Propagated (ss₀ : List (Slot St)) (n₀ : ℕ) (a : Propagation St) : Type 0 where
     okay : AllOk (a .slots)
     same : length (a .slots) ≡ length ss₀
     less : total (a .slots) ≤ total ss₀
     next : NextFrom ss₀ n₀ (a .slots) (a .next)
 
-  module _ (ss₀ : List (Slot St)) (n₀ : ℕ) (b : Block) (t : St) (ft : Form t) (e : ℕ) (ss : List (Slot St)) (n : ℕ) (h : Handed ss₀ n₀ (record { slots = ss; next = at n })) where
+  module _ (ss₀ : List (Slot St)) (n₀ : ℕ) (b : Block) (t : St) (ft : Form t) (e : ℕ) (ss : List (Slot St)) (n : ℕ) (h : Propagated ss₀ n₀ (record { slots = ss; next = at n })) where
     j : ℕ
     j = position blocks e
 
@@ -98,7 +98,7 @@ module _ (St : Type 0) (join : St → St → Ans St) (changed : St → St → Bo
     next-weaker ss′ l (inl p) = inl p
     next-weaker ss′ l (inr p) = inr (omega arith)
 
-    taken : getD ss j blank .kept ≡ none → Handed ss₀ n₀ (record { slots = set ss j (record { kept = some t; status = fine; changes = getD ss j blank .changes }); next = at n })
+    taken : getD ss j blank .kept ≡ none → Propagated ss₀ n₀ (record { slots = set ss j (record { kept = some t; status = fine; changes = getD ss j blank .changes }); next = at n })
     taken z =
         let v : Slot St = record { kept = some t; status = fine; changes = getD ss j blank .changes } in
         let c : left (getD ss j blank .kept) ≡ cap = ap left z in
@@ -112,7 +112,7 @@ module _ (St : Type 0) (join : St → St → Ans St) (changed : St → St → Bo
           next = next-weaker (set ss j v) k (h .next);
         }
 
-    moved : (s k : St) → getD ss j blank .kept ≡ some s → join s t ≡ ok k → (d : Bool) → changed s k ≡ d → Handed ss₀ n₀ (afterChange St join changed exec blocks b e j ss n k d)
+    moved : (s k : St) → getD ss j blank .kept ≡ some s → join s t ≡ ok k → (d : Bool) → changed s k ≡ d → Propagated ss₀ n₀ (afterChange St join changed exec blocks b e j ss n k d)
     moved s k z g false c = h
     moved s k z g true c =
         let v : Slot St = record { kept = some k; status = fine; changes = suc (getD ss j blank .changes) } in
@@ -130,25 +130,25 @@ module _ (St : Type 0) (join : St → St → Ans St) (changed : St → St → Bo
           next = inr (omega arith);
         }
 
-    joined : (s : St) → getD ss j blank .kept ≡ some s → (a : Ans St) → join s t ≡ a → Handed ss₀ n₀ (afterJoin St join changed exec blocks b e j ss n s a)
+    joined : (s : St) → getD ss j blank .kept ≡ some s → (a : Ans St) → join s t ≡ a → Propagated ss₀ n₀ (afterJoin St join changed exec blocks b e j ss n s a)
     joined s z (ok k) g = moved s k z g (changed s k) refl
     joined s z (refuse r) g = record { okay = h .okay; same = h .same; less = h .less; next = tt }
 
-    handed-kept : (o : Option St) → getD ss j blank .kept ≡ o → Handed ss₀ n₀ (toKept St join changed exec blocks b t e j ss n o)
-    handed-kept none z = taken z
-    handed-kept (some s) z = joined s z (join s t) refl
+    propagated-kept : (o : Option St) → getD ss j blank .kept ≡ o → Propagated ss₀ n₀ (toKept St join changed exec blocks b t e j ss n o)
+    propagated-kept none z = taken z
+    propagated-kept (some s) z = joined s z (join s t) refl
 
-  handed-next : (ss₀ : List (Slot St)) (n₀ : ℕ) (b : Block) (t : St) → Form t → (e : ℕ) (ss : List (Slot St)) (m : Next) → Handed ss₀ n₀ (record { slots = ss; next = m })
-      → Handed ss₀ n₀ (toNext St join changed exec blocks b t e ss m)
+  propagated-next : (ss₀ : List (Slot St)) (n₀ : ℕ) (b : Block) (t : St) → Form t → (e : ℕ) (ss : List (Slot St)) (m : Next) → Propagated ss₀ n₀ (record { slots = ss; next = m })
+      → Propagated ss₀ n₀ (toSuccessor St join changed exec blocks b t e ss m)
   unfolding j
-  handed-next ss₀ n₀ b t ft e ss (at n) h = handed-kept ss₀ n₀ b t ft e ss n h (getD ss (position blocks e) blank .kept) refl
-  handed-next ss₀ n₀ b t ft e ss (stopped r p) h = h
+  propagated-next ss₀ n₀ b t ft e ss (at n) h = propagated-kept ss₀ n₀ b t ft e ss n h (getD ss (position blocks e) blank .kept) refl
+  propagated-next ss₀ n₀ b t ft e ss (stopped r p) h = h
 
-  handed-all : (ss₀ : List (Slot St)) (n₀ : ℕ) (b : Block) (t : St) → Form t → (es : List ℕ) (a : Spread St) → Handed ss₀ n₀ a → Handed ss₀ n₀ (spread St join changed exec blocks b t es a)
-  unfolding spread
-  handed-all ss₀ n₀ b t ft [] a h = h
-  handed-all ss₀ n₀ b t ft (e ∷ es) a h =
-      handed-all ss₀ n₀ b t ft es (toNext St join changed exec blocks b t e (a .slots) (a .next)) (handed-next ss₀ n₀ b t ft e (a .slots) (a .next) h)
+  propagated-all : (ss₀ : List (Slot St)) (n₀ : ℕ) (b : Block) (t : St) → Form t → (es : List ℕ) (a : Propagation St) → Propagated ss₀ n₀ a → Propagated ss₀ n₀ (propagate St join changed exec blocks b t es a)
+  unfolding propagate
+  propagated-all ss₀ n₀ b t ft [] a h = h
+  propagated-all ss₀ n₀ b t ft (e ∷ es) a h =
+      propagated-all ss₀ n₀ b t ft es (toSuccessor St join changed exec blocks b t e (a .slots) (a .next)) (propagated-next ss₀ n₀ b t ft e (a .slots) (a .next) h)
 
   -- ---- a step
 
@@ -198,11 +198,13 @@ module _ (St : Type 0) (join : St → St → Ans St) (changed : St → St → Bo
     ran : (x : Result St) (s : St) → Form s → exec i s ≡ x → Progress (visits r) p₀ (afterBlock St join changed exec blocks r i x)
     ran (ended t) s fs e =
         let b : Block = getD blocks i noBlock in
-        let z : Spread St = spread St join changed exec blocks b t (b .successors) (record { slots = mark St join changed exec blocks (r .slots) i fine; next = at (suc i) }) in
-        let h : Handed (r .slots) (suc i) z =
-        handed-all (r .slots) (suc i) b t (exec-form i s t e fs) (b .successors) (record { slots = mark St join changed exec blocks (r .slots) i fine; next = at (suc i) })
+        let z : Propagation St = propagate St join changed exec blocks b t (b .successors) (record { slots = mark St join changed exec blocks (r .slots) i fine; next = at (suc i) }) in
+        let h : Propagated (r .slots) (suc i) z =
+        propagated-all (r .slots) (suc i) b t (exec-form i s t e fs) (b .successors) (record { slots = mark St join changed exec blocks (r .slots) i fine; next = at (suc i) })
         (record { okay = mark-ok (r .slots) i fine a; same = length-set (r .slots) i (record { kept = getD (r .slots) i blank .kept; status = fine; changes = getD (r .slots) i blank .changes }); less = mark-less (r .slots) i fine; next = inl refl }) in
         record { okay = h .okay; falls = falls-next (z .slots) (z .next) (h .less) (h .next); seen = le-refl (suc (visits r)) }
+    ran returned s fs e =
+        record { okay = mark-ok (r .slots) i fine a; falls = falls-on (mark St join changed exec blocks (r .slots) i fine) (mark-less (r .slots) i fine); seen = le-refl (suc (visits r)) }
     ran (violated c o) s fs e =
         record { okay = mark-ok (r .slots) i (failed c o) a; falls = falls-on (mark St join changed exec blocks (r .slots) i (failed c o)) (mark-less (r .slots) i (failed c o)); seen = le-refl (suc (visits r)) }
     ran (refused n p) s fs e = record { okay = a; falls = falls-stop (r .slots) (le-refl (total (r .slots))); seen = le-refl (suc (visits r)) }

@@ -1,26 +1,44 @@
 -- The run of a routine: the bounds of demand 3 with no hypothesis but the reader's promise, and no refusal 8, 9 or 23.
-use Prim.Native.Nat.{ℕ, zero, suc, _+_, _*_, _≤_, _<_}
+use Prim.Native.Nat.{ℕ, zero, suc, _+_, _≤_, _<_, zero-le}
 use native.Mathlib.Omega.{arith}
 use mathlib.Core.Bool.{Bool, true, false, _&&_, cond, true≢false}
 use mathlib.Core.List.{List, [], _∷_, map}
 use mathlib.Core.Option.{Option, none, some}
-use mathlib.Core.Path.{_≡_, sym, ap, _∙_, subst}
+use mathlib.Core.Logic.{_≢_}
+use mathlib.Core.Path.{_≡_, refl, sym, ap, _∙_, subst}
 use lib.Dec.{leb, ltb, eqb}
 use lib.ListN.{length, getD, set}
 use lib.Seq.{getD-set-same, getD-set-other, set-out}
+use Rattle.meaning.specs.Limits.{areaWords}
 use Rattle.meaning.specs.Answers.{Ans, ordinary}
 use Rattle.meaning.specs.Lists.{all}
 use Rattle.meaning.specs.AbstractState.{State, join, changed, Token, firstState}
 use Rattle.meaning.specs.Blocks.{Routine, exec, instrsOf}
-use Rattle.meaning.specs.Loop.{Result, Block, Status, fine, failed, Slot, Next, at, stopped, Run, visits, Spread, position, noBlock, blank, afterChange, afterJoin, toKept, toNext, spread, mark, afterBlock, visitBlock as runLoopBlock, turnAt, turn, turns, startSlots, run, hasEnded}
-use Rattle.meaning.specs.Laws.Base.{decide, and-l, eqb-eq, eqb-ne, leb-le, leb-gt}
-use Rattle.meaning.specs.Laws.Block.{Ends, ends, breaks, bars, exec-ends, exec-keeps}
+use Rattle.meaning.specs.Loop.{mostChanges, mostVisits, Result, Block, Status, fine, failed, Slot, Next, at, stopped, Run, visits, Propagation, position, noBlock, blank, afterChange, afterJoin, toKept, toSuccessor, propagate, mark, afterBlock, visitBlock as runLoopBlock, turnAt, turn, turns, startSlots, run, hasEnded, Failure, Verdict, accept, violation, refusal, lowest, verdictFor, verdictAt, verdict}
+use Rattle.meaning.specs.Listing.{read, readListing}
+use Rattle.meaning.specs.Verify.{runWith, runOf, verify}
+use Rattle.meaning.specs.Laws.Base.{decide, both, not-false, and-i, and-l, eqb-no, eqb-eq, eqb-ne, leb-le, leb-gt}
+use Rattle.meaning.specs.Laws.Block.{Ends, ends, leaves, breaks, bars, exec-ends, exec-keeps}
 use Rattle.meaning.specs.Laws.First.{first-strong}
 use Rattle.meaning.specs.Laws.Forms.{Strong}
 use Rattle.meaning.specs.Laws.Join.{Sure, sure, unsure, join-sure, join-strong}
+use Rattle.meaning.specs.Laws.Listing.{accepted-promised}
 use Rattle.meaning.specs.Laws.Promised.{promised, withinFrame, retsPlaced}
 use Rattle.meaning.specs.Laws.State.{rank, rank-le, join-law, change-lt}
 use Rattle.meaning.specs.Laws.Loop as Laws
+
+-- ---- `ordinary` says what it is to say: a number other than 8, 9 and 23
+
+pub ordinary-not : (n : ℕ) → ordinary n ≡ true → (n ≢ 8) × (n ≢ 9) × (n ≢ 23)
+ordinary-not n h = (no 8 refl, no 9 refl, no 23 refl)
+  where
+    no : (k : ℕ) → ordinary k ≡ false → n ≢ k
+    no k f e = both (subst (λ (m : ℕ). ordinary m ≡ true) e h) f
+
+pub not-ordinary : (n : ℕ) → n ≢ 8 → n ≢ 9 → n ≢ 23 → ordinary n ≡ true
+not-ordinary n a b c = and-i (not-false (eqb-no a)) (and-i (not-false (eqb-no b)) (not-false (eqb-no c)))
+
+-- ---- the run of a routine
 
 -- q: a routine that the reader accepted
 module _ (q : Routine) (p : promised q ≡ true) where
@@ -41,43 +59,36 @@ module _ (q : Routine) (p : promised q ≡ true) where
       let z : Bool = all (withinFrame l) (q .code) && all (λ b. retsPlaced (b .successors) (instrsOf b (q .code))) (q .blocks) in
       leb-le (and-l x y (and-l (x && y) z p))
 
-  -- the run with a budget of steps
-  abbrev pub theRun : ℕ → Run State
-  theRun f = run State join changed (exec q) blocks f (firstState l ts)
+  -- the most visits
+  abbrev most : ℕ
+  most = mostVisits (length blocks) l
 
-  -- the most that a kept state changes, and the most visits
-  abbrev pub mostChanges : ℕ
-  mostChanges = 11 * l * l + l
-
-  abbrev pub mostVisits : ℕ
-  mostVisits = length blocks * (1 + length blocks * (11 * l * l + l))
-
-  pub visits-bound : (f : ℕ) → visits (theRun f) ≤ mostVisits
+  pub visits-bound : (f : ℕ) → visits (runWith q f) ≤ most
   unfolding Laws.most
   visits-bound f =
-      Laws.run-visits State join changed (exec q) blocks (Strong l) (rank l) (11 * l * l + l) (rank-le l)
+      Laws.run-visits State join changed (exec q) blocks (Strong l) (rank l) (mostChanges l) (rank-le l)
       (join-strong l) (λ s o t e fs fo. change-lt l s o t (join-law s o t e) (fs .form) (fo .form)) (exec-keeps q p) f (firstState l ts) (first-strong l ts small)
 
-  pub run-changes-bound : (f j : ℕ) → getD (theRun f .slots) j blank .changes ≤ mostChanges
+  pub run-changes-bound : (f j : ℕ) → getD (runWith q f .slots) j blank .changes ≤ mostChanges l
   run-changes-bound f =
-      Laws.run-changes State join changed (exec q) blocks (Strong l) (rank l) (11 * l * l + l) (rank-le l)
+      Laws.run-changes State join changed (exec q) blocks (Strong l) (rank l) (mostChanges l) (rank-le l)
       (join-strong l) (λ s o t e fs fo. change-lt l s o t (join-law s o t e) (fs .form) (fo .form)) (exec-keeps q p) f (firstState l ts) (first-strong l ts small)
 
-  pub kept-strong : (f j : ℕ) (k : State) → getD (theRun f .slots) j blank .kept ≡ some k → Strong l k
+  pub kept-strong : (f j : ℕ) (k : State) → getD (runWith q f .slots) j blank .kept ≡ some k → Strong l k
   kept-strong f =
-      Laws.run-form State join changed (exec q) blocks (Strong l) (rank l) (11 * l * l + l) (rank-le l)
+      Laws.run-form State join changed (exec q) blocks (Strong l) (rank l) (mostChanges l) (rank-le l)
       (join-strong l) (λ s o t e fs fo. change-lt l s o t (join-law s o t e) (fs .form) (fo .form)) (exec-keeps q p) f (firstState l ts) (first-strong l ts small)
 
-  pub ends-itself : (f : ℕ) → mostVisits ≤ f → hasEnded State join changed (exec q) blocks (theRun f) ≡ true
+  pub ends-itself : (f : ℕ) → most ≤ f → hasEnded State join changed (exec q) blocks (runWith q f) ≡ true
   unfolding Laws.most
   ends-itself f =
-      Laws.run-ends State join changed (exec q) blocks (Strong l) (rank l) (11 * l * l + l) (rank-le l)
+      Laws.run-ends State join changed (exec q) blocks (Strong l) (rank l) (mostChanges l) (rank-le l)
       (join-strong l) (λ s o t e fs fo. change-lt l s o t (join-law s o t e) (fs .form) (fo .form)) (exec-keeps q p) f (firstState l ts) (first-strong l ts small)
 
-  pub same-run : (f : ℕ) → mostVisits ≤ f → theRun f ≡ theRun mostVisits
+  pub same-run : (f : ℕ) → most ≤ f → runWith q f ≡ runWith q most
   unfolding Laws.most
   same-run f =
-      Laws.run-same State join changed (exec q) blocks (Strong l) (rank l) (11 * l * l + l) (rank-le l)
+      Laws.run-same State join changed (exec q) blocks (Strong l) (rank l) (mostChanges l) (rank-le l)
       (join-strong l) (λ s o t e fs fo. change-lt l s o t (join-law s o t e) (fs .form) (fo .form)) (exec-keeps q p) f (firstState l ts) (first-strong l ts small)
 
   steps-add : (k f : ℕ) (r : Run State) → turns State join changed (exec q) blocks (k + f) r ≡ turns State join changed (exec q) blocks f (turns State join changed (exec q) blocks k r)
@@ -86,16 +97,16 @@ module _ (q : Routine) (p : promised q ≡ true) where
   steps-add (suc k) f r = let z : suc k + f ≡ suc (k + f) = omega arith in ap (λ (n : ℕ). turns State join changed (exec q) blocks n r) z ∙ steps-add k f (turn State join changed (exec q) blocks r)
 
   -- a run that has ended is the whole run, and one that has not has made fewer steps than the bound
-  pub settled : (k : ℕ) → hasEnded State join changed (exec q) blocks (theRun k) ≡ true → theRun k ≡ theRun mostVisits
+  pub settled : (k : ℕ) → hasEnded State join changed (exec q) blocks (runWith q k) ≡ true → runWith q k ≡ runWith q most
   unfolding run
   settled k e =
       let r : Run State = record { slots = startSlots State join changed (exec q) blocks blocks (firstState l ts); next = at 0; trail = [] } in
-      sym (Laws.steps-still State join changed (exec q) blocks (Strong l) (rank l) (11 * l * l + l) (rank-le l) (join-strong l) (λ s o t e fs fo. change-lt l s o t (join-law s o t e) (fs .form) (fo .form)) (exec-keeps q p) mostVisits (theRun k) e)
-      ∙ sym (steps-add k mostVisits r)
-      ∙ same-run (k + mostVisits) (omega arith)
+      sym (Laws.steps-still State join changed (exec q) blocks (Strong l) (rank l) (mostChanges l) (rank-le l) (join-strong l) (λ s o t e fs fo. change-lt l s o t (join-law s o t e) (fs .form) (fo .form)) (exec-keeps q p) most (runWith q k) e)
+      ∙ sym (steps-add k most r)
+      ∙ same-run (k + most) (omega arith)
 
-  pub unsettled : (k : ℕ) → hasEnded State join changed (exec q) blocks (theRun k) ≡ false → k < mostVisits
-  unsettled k e = decide (leb mostVisits k) (λ h. absurd (true≢false (sym (ends-itself k (leb-le h)) ∙ e))) (λ h. leb-gt h)
+  pub unsettled : (k : ℕ) → hasEnded State join changed (exec q) blocks (runWith q k) ≡ false → k < most
+  unsettled k e = decide (leb most k) (λ h. absurd (true≢false (sym (ends-itself k (leb-le h)) ∙ e))) (λ h. leb-gt h)
 
   -- ---- the refusals of a run
 
@@ -118,30 +129,30 @@ module _ (q : Routine) (p : promised q ≡ true) where
       (λ b. subst (λ (k : ℕ). KeptOk (getD (set ss j v) k blank .kept)) (sym (eqb-eq {m = i} {n = j} e)) (subst (λ (x : Slot State). KeptOk (x .kept)) (sym (getD-set-same ss j v blank (leb-gt b))) h)))
       (λ e. subst (λ (x : Slot State). KeptOk (x .kept)) (sym (getD-set-other ss j i v blank (eqb-ne {m = i} {n = j} e))) (a i))
 
-  abbrev SpreadOk : Spread State → Type 0
-  SpreadOk a = (AllOk (a .slots)) × (NextOk (a .next))
+  abbrev PropagationOk : Propagation State → Type 0
+  PropagationOk a = (AllOk (a .slots)) × (NextOk (a .next))
 
   module _ (b : Block) (t : State) (ht : Strong l t) where
-    change-ok : (e j : ℕ) (ss : List (Slot State)) (n : ℕ) (k : State) (c : Bool) → AllOk ss → Strong l k → SpreadOk (afterChange State join changed (exec q) blocks b e j ss n k c)
+    change-ok : (e j : ℕ) (ss : List (Slot State)) (n : ℕ) (k : State) (c : Bool) → AllOk ss → Strong l k → PropagationOk (afterChange State join changed (exec q) blocks b e j ss n k c)
     change-ok e j ss n k true a h = (set-ok ss j (record { kept = some k; status = fine; changes = suc (getD ss j blank .changes) }) a h, tt)
     change-ok e j ss n k false a h = (a, tt)
 
-    join-ok : (e j : ℕ) (ss : List (Slot State)) (n : ℕ) (s : State) {x : Ans State} → AllOk ss → Sure (Strong l) x → SpreadOk (afterJoin State join changed (exec q) blocks b e j ss n s x)
+    join-ok : (e j : ℕ) (ss : List (Slot State)) (n : ℕ) (s : State) {x : Ans State} → AllOk ss → Sure (Strong l) x → PropagationOk (afterJoin State join changed (exec q) blocks b e j ss n s x)
     join-ok e j ss n s a (sure {a = k} h) = change-ok e j ss n k (changed s k) a h
     join-ok e j ss n s a (unsure w) = (a, w)
 
-    kept-ok : (e j : ℕ) (ss : List (Slot State)) (n : ℕ) (k : Option State) → AllOk ss → KeptOk k → SpreadOk (toKept State join changed (exec q) blocks b t e j ss n k)
+    kept-ok : (e j : ℕ) (ss : List (Slot State)) (n : ℕ) (k : Option State) → AllOk ss → KeptOk k → PropagationOk (toKept State join changed (exec q) blocks b t e j ss n k)
     kept-ok e j ss n none a h = (set-ok ss j (record { kept = some t; status = fine; changes = getD ss j blank .changes }) a ht, tt)
     kept-ok e j ss n (some s) a h = join-ok e j ss n s a (join-sure l s t small h ht)
 
-    next-ok : (e : ℕ) (ss : List (Slot State)) (x : Next) → AllOk ss → NextOk x → SpreadOk (toNext State join changed (exec q) blocks b t e ss x)
+    next-ok : (e : ℕ) (ss : List (Slot State)) (x : Next) → AllOk ss → NextOk x → PropagationOk (toSuccessor State join changed (exec q) blocks b t e ss x)
     next-ok e ss (at n) a h = kept-ok e (position blocks e) ss n (getD ss (position blocks e) blank .kept) a (a (position blocks e))
     next-ok e ss (stopped r o) a h = (a, h)
 
-    spread-ok : (es : List ℕ) (a : Spread State) → SpreadOk a → SpreadOk (spread State join changed (exec q) blocks b t es a)
-    unfolding spread
-    spread-ok [] a h = h
-    spread-ok (e ∷ es) a h = spread-ok es (toNext State join changed (exec q) blocks b t e (a .slots) (a .next)) (next-ok e (a .slots) (a .next) (h .0) (h .1))
+    propagate-ok : (es : List ℕ) (a : Propagation State) → PropagationOk a → PropagationOk (propagate State join changed (exec q) blocks b t es a)
+    unfolding propagate
+    propagate-ok [] a h = h
+    propagate-ok (e ∷ es) a h = propagate-ok es (toSuccessor State join changed (exec q) blocks b t e (a .slots) (a .next)) (next-ok e (a .slots) (a .next) (h .0) (h .1))
 
   abbrev RunOk : Run State → Type 0
   RunOk r = (AllOk (r .slots)) × (NextOk (r .next))
@@ -152,7 +163,8 @@ module _ (q : Routine) (p : promised q ≡ true) where
   block-ok : (r : Run State) (i : ℕ) {x : Result State} → RunOk r → Ends (Strong l) x → RunOk (afterBlock State join changed (exec q) blocks r i x)
   block-ok r i h (ends {t} w) =
       let b : Block = getD blocks i noBlock in
-      spread-ok b t w (b .successors) (record { slots = mark State join changed (exec q) blocks (r .slots) i fine; next = at (suc i) }) (mark-ok (r .slots) i fine (h .0), tt)
+      propagate-ok b t w (b .successors) (record { slots = mark State join changed (exec q) blocks (r .slots) i fine; next = at (suc i) }) (mark-ok (r .slots) i fine (h .0), tt)
+  block-ok r i h leaves = (mark-ok (r .slots) i fine (h .0), tt)
   block-ok r i h (breaks {c} {o}) = (mark-ok (r .slots) i (failed c o) (h .0), tt)
   block-ok r i h (bars w) = (h .0, w)
 
@@ -185,6 +197,36 @@ module _ (q : Routine) (p : promised q ≡ true) where
       go (c ∷ cs) (suc i) = go cs i
 
   -- A run that a refusal ended: not 8, 9 or 23.
-  pub refusals : (f : ℕ) → NextOk (theRun f .next)
+  pub refusals : (f : ℕ) → NextOk (runWith q f .next)
   unfolding run
   refusals f = steps-ok f (record { slots = startSlots State join changed (exec q) blocks blocks (firstState l ts); next = at 0; trail = [] }) (first-ok blocks, tt) .1
+
+-- ---- the answer to a listing that is read as q
+
+abbrev numberIn : Verdict → ℕ
+numberIn accept = 0
+numberIn (violation c o) = 0
+numberIn (refusal n p) = n
+
+module _ (s : List ℕ) (q : Routine) (e : readListing s ≡ read q) where
+  pub answer-visits : (words : ℕ) → verify words s .visits ≤ mostVisits (length (q .blocks)) (q .locals)
+  unfolding verify runOf
+  answer-visits words =
+      decide (ltb words areaWords)
+      (λ d. rw d zero-le)
+      (λ d. rw (d, e) (visits-bound q (accepted-promised s q e) (mostVisits (length (q .blocks)) (q .locals))))
+
+  pub answer-refusals : (words n p : ℕ) → verify words s .verdict ≡ refusal n p → (n ≢ 8) × (n ≢ 9) × (n ≢ 23)
+  unfolding verify verdict runOf
+  answer-refusals words n p h =
+      decide (ltb words areaWords)
+      (λ d. ordinary-not n (subst (λ (k : ℕ). ordinary k ≡ true) (ap numberIn (rw d at h)) refl))
+      (λ d. ordinary-not n (go (runOf q .next) (refusals q (accepted-promised s q e) (mostVisits (length (q .blocks)) (q .locals))) (rw (d, e) at h)))
+    where
+      none-refused : (f : Option Failure) → verdictFor f ≡ refusal n p → ⊥
+      none-refused none z = let y : _≡_ {A = ℕ} 0 1 = cc in omega arith
+      none-refused (some f) z = let y : _≡_ {A = ℕ} 0 1 = cc in omega arith
+
+      go : (x : Next) → NextOk q (accepted-promised s q e) x → verdictAt (q .blocks) (runOf q .slots) x ≡ refusal n p → ordinary n ≡ true
+      go (at i) k z = absurd (none-refused (lowest (q .blocks) (runOf q .slots) none) z)
+      go (stopped m o) k z = subst (λ (j : ℕ). ordinary j ≡ true) (ap numberIn z) k

@@ -7,11 +7,12 @@ use mathlib.Core.Logic.{_⊎_, inl, inr, _≢_}
 use mathlib.Core.Path.{_≡_, sym, subst, ap, refl, _∙_}
 use lib.Dec.{eqb, leb}
 use lib.ListN.{length, getD, List·getD-eq-default}
-use Rattle.meaning.specs.Answers.{ok, andThen, Ans, refuse}
+use Rattle.meaning.specs.Answers.{ok, andThen, Ans, refuse, leaves}
 use Rattle.meaning.specs.Lists.{sum, all}
 use Rattle.meaning.specs.References.{EdgeSet, Edge, emptySet, covered}
 use Rattle.meaning.specs.BorrowGraph.{Graph, held, setAt, onPairs, release, joinGraphs, Name, holds, GEdge, pairOk, wellFormed}
-use Rattle.meaning.specs.AbstractState.{Local, absent, value, ref, Step, joinLocal, Parts, joinLocals, State, join, Form, eqLocal, eqLocals, eqEdges, eqSet, eqSets, changed, count1, kept, did, changes}
+use Rattle.meaning.specs.AbstractState.{Local, absent, value, ref, Step, joinLocal, Parts, joinLocals, State, join, Form, eqLocal, eqLocals, eqEdges, eqSet, eqSets, changed, count1, did, changes}
+use Rattle.meaning.specs.Loop.{mostChanges}
 use Rattle.meaning.specs.Laws.Base.{refuse≢ok, ok-inj, andThen-ok, guard-ok, eqb-self, sum-bound, sum-bound-but, and-l, and-r, and-i, sum-le, sum-lt, both, decide, leb-le, leb-gt, not-true, eqb-ne, all-and}
 use Rattle.meaning.specs.Laws.Call.{endsNot, Released, release-law, Merged, joinGraphs-law}
 use Rattle.meaning.specs.Laws.Graph.{Grows, grows-self, grows-trans, at-or-empty, wf→inv}
@@ -290,7 +291,7 @@ pairRank-self : (g : Graph) (c : ℕ) → pairRank g c c ≡ 0
 unfolding pairRank
 pairRank-self g c = ap (λ (b : Bool). cond b 0 (cond (held g c && held g c) (setRank (setAt c c (g .edges))) 11)) (eqb-self c)
 
-pub rank-le : (l : ℕ) (s : State) → rank l s ≤ 11 * l * l + l
+pub rank-le : (l : ℕ) (s : State) → rank l s ≤ mostChanges l
 unfolding rank
 rank-le l s =
     let a : sum l (λ c. sum (suc l) (λ p. pairRank (s .graph) p c)) ≤ 11 * l * l =
@@ -516,7 +517,7 @@ pub data Forms (l : ℕ) : List State → Type 0 where
   none : Forms l []
   more : {s : State} {os : List State} → Form l s → Forms l os → Forms l (s ∷ os)
 
-count-step : (l : ℕ) (s o : State) (a : Ans State) → join s o ≡ a → Form l s → Form l o → (Form l (kept s a)) × (did s a + rank l s ≤ rank l (kept s a))
+count-step : (l : ℕ) (s o : State) (a : Ans State) → join s o ≡ a → Form l s → Form l o → (Form l (leaves s a)) × (did s a + rank l s ≤ rank l (leaves s a))
 count-step l s o (refuse n) e fs fo = (fs, omega arith)
 count-step l s o (ok t) e fs fo = (join-form l s o t j fs fo, go (changed s t) refl)
   where
@@ -527,18 +528,18 @@ count-step l s o (ok t) e fs fo = (join-form l s o t j fs fo, go (changed s t) r
     go true h = let k : rank l s < rank l t = change-lt l s o t j fs fo h in omega arith
     go false h = let k : rank l s ≤ rank l t = rank-mono s o t j l in omega arith
 
-changes-rank : (l : ℕ) (s : State) (os : List State) → Form l s → Forms l os → changes s os + rank l s ≤ 11 * l * l + l
+changes-rank : (l : ℕ) (s : State) (os : List State) → Form l s → Forms l os → changes s os + rank l s ≤ mostChanges l
 unfolding changes
-changes-rank l s [] fs f = let k : rank l s ≤ 11 * l * l + l = rank-le l s in omega arith
+changes-rank l s [] fs f = let k : rank l s ≤ mostChanges l = rank-le l s in omega arith
 changes-rank l s (o ∷ os) fs (more fo f) =
     let z = count-step l s o (join s o) refl fs fo in
-    let a : did s (join s o) + rank l s ≤ rank l (kept s (join s o)) = z .1 in
-    let b : changes (kept s (join s o)) os + rank l (kept s (join s o)) ≤ 11 * l * l + l = changes-rank l (kept s (join s o)) os (z .0) f in
+    let a : did s (join s o) + rank l s ≤ rank l (leaves s (join s o)) = z .1 in
+    let b : changes (leaves s (join s o)) os + rank l (leaves s (join s o)) ≤ mostChanges l = changes-rank l (leaves s (join s o)) os (z .0) f in
     omega arith
 
--- However many joins a list has, and whichever of them are refused, at most 11 L² + L change the state.
-pub changes-bound : (l : ℕ) (s : State) (os : List State) → Form l s → Forms l os → changes s os ≤ 11 * l * l + l
-changes-bound l s os fs f = let h : changes s os + rank l s ≤ 11 * l * l + l = changes-rank l s os fs f in omega arith
+-- However many joins a list has, and whichever of them are refused, at most 11 × L × L + L change the state.
+pub changes-bound : (l : ℕ) (s : State) (os : List State) → Form l s → Forms l os → changes s os ≤ mostChanges l
+changes-bound l s os fs f = let h : changes s os + rank l s ≤ mostChanges l = changes-rank l s os fs f in omega arith
 
 -- ---- demand 3: covering
 

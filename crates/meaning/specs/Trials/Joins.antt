@@ -9,7 +9,7 @@ use Rattle.meaning.specs.Labels.{fieldLabel}
 use Rattle.meaning.specs.References.{insert, covers, eqEdge, eqPath, prefix, has, put, ltEdge, ltPath, setOk, ordered, short, isBlur, emptySet}
 use Rattle.meaning.specs.BorrowGraph.{between, splice, setAt, release, wellFormed, holds, spliced, without, addAll, addEdge, setTo, limit, ascending, inOrder, unmatched, sameNames, joinGraphs, borrowStrong}
 use Rattle.meaning.specs.AbstractState.{ref, State, absent, join, joinLocal, joinLocals, changed, eqLocals, eqSets, eqSet, eqEdges, changes}
-use Rattle.meaning.specs.Loop.{Block, ended, run, visits, spread, turn, turns, startSlots, position}
+use Rattle.meaning.specs.Loop.{Block, ended, run, visits, propagate, turn, turns, startSlots, position}
 use Rattle.meaning.specs.Marked.{name, strong, weak, single, isSets}
 
 -- L = 2: both locals are references; local 0 borrows the root by field n, local 1 borrows local 0 by field 7
@@ -44,7 +44,7 @@ abbrev two : List Block
 two = record { entry = 0; exit = 0; successors = 1 ∷ [] } ∷ record { entry = 1; exit = 1; successors = 0 ∷ [] } ∷ []
 
 loops : visits (run ℕ top (λ a b. not (eqb a b)) (λ i s. ended (suc s)) two 100 0) ≡ 6
-unfolding run turns turn spread startSlots position
+unfolding run turns turn propagate startSlots position
 loops = refl
 
 -- a strong borrow moves the weak edges below it too

@@ -12,7 +12,7 @@ use Rattle.meaning.specs.AbstractState.{ofRef, canonical, crosses, ownNa
 use Rattle.meaning.specs.EntryPoints.{newRef, addBorrow, addLocalBorrow, releaseName, valueFor, moveLoc, stLoc, borrowLoc, putNumber, ascend, releaseAll, borrowFrom, handOver, notAcquired, returnValues, call, ret, addCopy, addFieldBorrow, addResourceBorrow, releaseValue, copyLoc, freezeRef, comparison, readRef, writeRef, borrowField, borrowGlobal, moveFrom, vectorOp, vectorElementBorrow}
 use Rattle.meaning.specs.Steps.{MoveLoc, StLoc, Ret, Call, popValues, popMany, push, pushAll, pushNew, step, Values, Instr, Pop, CopyLoc, FreezeRef, Compare, ReadRef, WriteRef, BorrowLoc, BorrowField, BorrowGlobal, MoveFrom, MoveTo, VectorOp, BorrowElement}
 use Rattle.meaning.specs.Blocks.{Routine, instrsOf, runFrom, runBlock, exec}
-use Rattle.meaning.specs.Loop.{run, verdict, lowest, accept, spread, turn as loopStep, turns, startSlots, position, refusal, Verdict, violation, Block}
+use Rattle.meaning.specs.Loop.{run, verdict, lowest, accept, propagate, turn as loopStep, turns, startSlots, position, refusal, Verdict, violation, Block}
 
 -- move 0 to local 1, local 1 absent before; then a call that takes it and returns a reference; then return it: accepted
 abbrev moved : Routine
@@ -25,7 +25,7 @@ moved = record {
 }
 
 pub moved-accepted : verdict (moved .blocks) (run State join changed (exec moved) (moved .blocks) 10 (firstState (moved .locals) (moved .params))) ≡ accept
-unfolding firstState firstLocals firstNames run turns loopStep spread startSlots position verdict lowest exec runBlock runFrom instrsOf step popValues popMany push pushAll pushNew valueFor newRef stLoc borrowLoc moveLoc addLocalBorrow addBorrow borrowed mutablyBorrowed isMutable newName borrowStrong borrowWeak putName wellFormed holds ascending setAt setTo setOk ordered short inOrder isBlur addAll addEdge insert limit has put prefix eqEdge eqPath ltEdge ltPath canonical crosses renamed renameNames renameEdges putEdge ownNames newNameOf localHolding call notAcquired handOver returnValues borrowFrom releaseAll releaseName release spliced without splice ascend putNumber ret
+unfolding firstState firstLocals firstNames run turns loopStep propagate startSlots position verdict lowest exec runBlock runFrom instrsOf step popValues popMany push pushAll pushNew valueFor newRef stLoc borrowLoc moveLoc addLocalBorrow addBorrow borrowed mutablyBorrowed isMutable newName borrowStrong borrowWeak putName wellFormed holds ascending setAt setTo setOk ordered short inOrder isBlur addAll addEdge insert limit has put prefix eqEdge eqPath ltEdge ltPath canonical crosses renamed renameNames renameEdges putEdge ownNames newNameOf localHolding call notAcquired handOver returnValues borrowFrom releaseAll releaseName release spliced without splice ascend putNumber ret
 moved-accepted = refl
 
 -- an exchange of two references, which is 16, with an operand left: 14 comes first
@@ -39,7 +39,7 @@ left = record {
 }
 
 pub left-refused : verdict (left .blocks) (run State join changed (exec left) (left .blocks) 10 (firstState (left .locals) (left .params))) ≡ refusal 14 4
-unfolding firstState firstLocals firstNames run turns loopStep spread startSlots position verdict lowest exec runBlock runFrom instrsOf step popValues popMany push pushAll pushNew valueFor newRef stLoc borrowLoc moveLoc addLocalBorrow addBorrow borrowed mutablyBorrowed isMutable newName borrowStrong borrowWeak putName wellFormed holds ascending setAt setTo setOk ordered short inOrder isBlur addAll addEdge insert limit has put prefix eqEdge eqPath ltEdge ltPath canonical crosses renamed renameNames renameEdges putEdge ownNames newNameOf localHolding call notAcquired handOver returnValues borrowFrom releaseAll releaseName release spliced without splice ascend putNumber ret
+unfolding firstState firstLocals firstNames run turns loopStep propagate startSlots position verdict lowest exec runBlock runFrom instrsOf step popValues popMany push pushAll pushNew valueFor newRef stLoc borrowLoc moveLoc addLocalBorrow addBorrow borrowed mutablyBorrowed isMutable newName borrowStrong borrowWeak putName wellFormed holds ascending setAt setTo setOk ordered short inOrder isBlur addAll addEdge insert limit has put prefix eqEdge eqPath ltEdge ltPath canonical crosses renamed renameNames renameEdges putEdge ownNames newNameOf localHolding call notAcquired handOver returnValues borrowFrom releaseAll releaseName release spliced without splice ascend putNumber ret
 left-refused = refl
 
 -- ---- one block without successors, for each number of document 01
@@ -130,5 +130,5 @@ routines =
     ∷ []
 
 pub all-cases : all (λ b. b) routines ≡ true
-unfolding routines whole firstState firstLocals firstNames run turns loopStep spread startSlots position verdict lowest exec runBlock runFrom instrsOf step popValues popMany push pushAll pushNew valueFor releaseValue newRef copyLoc moveLoc stLoc freezeRef comparison readRef writeRef borrowLoc borrowField borrowGlobal moveFrom vectorOp vectorElementBorrow addCopy addBorrow addFieldBorrow addLocalBorrow addResourceBorrow releaseName fullyBorrowed borrowed mutablyBorrowed isMutable newName borrowStrong borrowWeak putName wellFormed holds ascending setAt setTo setOk ordered short inOrder isBlur addAll addEdge insert limit has put prefix eqEdge eqPath ltEdge ltPath canonical crosses call notAcquired handOver returnValues borrowFrom releaseAll release spliced without splice ascend putNumber ret
+unfolding routines whole firstState firstLocals firstNames run turns loopStep propagate startSlots position verdict lowest exec runBlock runFrom instrsOf step popValues popMany push pushAll pushNew valueFor releaseValue newRef copyLoc moveLoc stLoc freezeRef comparison readRef writeRef borrowLoc borrowField borrowGlobal moveFrom vectorOp vectorElementBorrow addCopy addBorrow addFieldBorrow addLocalBorrow addResourceBorrow releaseName fullyBorrowed borrowed mutablyBorrowed isMutable newName borrowStrong borrowWeak putName wellFormed holds ascending setAt setTo setOk ordered short inOrder isBlur addAll addEdge insert limit has put prefix eqEdge eqPath ltEdge ltPath canonical crosses call notAcquired handOver returnValues borrowFrom releaseAll release spliced without splice ascend putNumber ret
 all-cases = refl

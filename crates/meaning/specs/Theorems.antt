@@ -1,0 +1,70 @@
+-- The headline statements about the definitions, in one file. The proofs are in Laws.
+use Prim.Native.Nat.{ℕ, _≤_}
+use native.Mathlib.Omega.{arith}
+use mathlib.Core.Bool.{true}
+use mathlib.Core.List.{List}
+use mathlib.Core.Logic.{_≢_}
+use mathlib.Core.Path.{_≡_}
+use lib.ListN.{length, getD}
+use Rattle.meaning.specs.Answers.{ok}
+use Rattle.meaning.specs.Lists.{all}
+use Rattle.meaning.specs.References.{covered}
+use Rattle.meaning.specs.BorrowGraph.{setAt}
+use Rattle.meaning.specs.AbstractState.{State, Form, Parts, joinLocals, join, changed, changes}
+use Rattle.meaning.specs.Blocks.{Routine, exec}
+use Rattle.meaning.specs.Loop.{mostChanges, mostVisits, visits, blank, hasEnded, refusal}
+use Rattle.meaning.specs.Listing.{read, readListing}
+use Rattle.meaning.specs.Verify.{runWith, runOf, verify}
+use Rattle.meaning.specs.Marked as Marked
+use Rattle.meaning.specs.Laws.Listing.{accepted-promised}
+use Rattle.meaning.specs.Laws.Promised.{promised}
+use Rattle.meaning.specs.Laws.State.{Forms}
+use Rattle.meaning.specs.Laws.State as States
+use Rattle.meaning.specs.Laws.Run as Runs
+
+-- ---- the marked cases
+
+pub marked : all (λ b. b) Marked.cases ≡ true
+marked = Marked.marked
+
+-- ---- demand 3: lists of joins
+
+-- "a single claim about the whole list": whatever states are handed in, and whichever joins are refused
+pub changes-bound : (l : ℕ) (s : State) (os : List State) → Form l s → Forms l os → changes s os ≤ mostChanges l
+changes-bound = States.changes-bound
+
+-- After a join that is not refused each edge of either state, after the releases, is covered by an edge of the answer between the same names.
+pub join-covers : (s o t : State) → join s o ≡ ok t → (r : Parts) → joinLocals (s .locals) (o .locals) (s .graph) (o .graph) ≡ ok r → (p c : ℕ)
+    → (all (covered (setAt p c (t .graph .edges) .edges)) (setAt p c (r .ours .edges) .edges) ≡ true)
+    × (all (covered (setAt p c (t .graph .edges) .edges)) (setAt p c (r .theirs .edges) .edges) ≡ true)
+join-covers = States.join-covers
+
+-- ---- demand 3: from a listing's bytes to the bounds of its run
+
+-- the listing s is read as the routine q
+pub record Bounded (s : List ℕ) (q : Routine) : Type 0 where
+  -- at most B × (1 + B × (11 × L × L + L)) visits, whatever the budget
+  pub few-visits : (budget : ℕ) → visits (runWith q budget) ≤ mostVisits (length (q .blocks)) (q .locals)
+  -- no kept state changes more than 11 × L × L + L times
+  pub few-changes : (budget j : ℕ) → getD (runWith q budget .slots) j blank .changes ≤ mostChanges (q .locals)
+  -- the run ends by itself: no block is next, or a refusal ended it
+  pub ends : hasEnded State join changed (exec q) (q .blocks) (runOf q) ≡ true
+  -- every larger budget gives the same run
+  pub same : (budget : ℕ) → mostVisits (length (q .blocks)) (q .locals) ≤ budget → runWith q budget ≡ runOf q
+  -- the visits that are answered, for an area of any length
+  pub answered : (words : ℕ) → verify words s .visits ≤ mostVisits (length (q .blocks)) (q .locals)
+  -- the caller's refusals 8, 9 and 23 never come out
+  pub refused : (words n p : ℕ) → verify words s .verdict ≡ refusal n p → (n ≢ 8) × (n ≢ 9) × (n ≢ 23)
+
+pub demand3 : (s : List ℕ) (q : Routine) → readListing s ≡ read q → Bounded s q
+unfolding runOf
+demand3 s q e =
+    let p : promised q ≡ true = accepted-promised s q e in
+    record {
+      few-visits = Runs.visits-bound q p;
+      few-changes = Runs.run-changes-bound q p;
+      ends = Runs.ends-itself q p (mostVisits (length (q .blocks)) (q .locals)) (omega arith);
+      same = Runs.same-run q p;
+      answered = Runs.answer-visits s q e;
+      refused = Runs.answer-refusals s q e;
+    }
