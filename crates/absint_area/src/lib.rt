@@ -8,7 +8,7 @@ use meaning::BLOCK_WORDS;
 use meaning::MAX_BLOCKS;
 ghost use mathlib.Core.Path.{_≡_};
 ghost use Prim.Native.Nat.{ℕ};
-ghost use Rattle.meaning.specs.Area.{hasBlock, isKept, keptOf, Stored, Forgotten, cleared};
+ghost use Rattle.meaning.specs.Area.{hasBlock, isKept, keptOf, Stored, forgotten, cleared};
 ghost use Rattle.meaning.specs.Answers.{done};
 ghost use Rattle.meaning.specs.Blocks.{startMachine};
 ghost use Rattle.abstract_state.specs.Models.{stateOf, outcomeOf};
@@ -26,7 +26,8 @@ const EDGES_AT: usize = 64;
 
 const EDGE_WORDS: usize = 10;
 
-// The state from which a block starts, or (`present` false) word that there is none yet.
+// The state from which a block starts, or (`present` false) word that there is none yet. The state is then free but for what `load` says of
+// every one: no violation, no refusal, L locals, and L + 1 the next name.
 pub struct Kept {
     pub present: bool,
     pub state: AbstractState,
@@ -47,9 +48,9 @@ pub fn clear(area: &mut [u32])
     }
 }
 
-// Then no block has a kept state: the words that tell so are zero. The other words stay.
+// Then no block has a kept state: the sixteen words that tell so are zero. The other words stay, and so does a shorter area.
 pub fn forget(area: &mut [u32])
-    ensures { λ _. ⌜ Forgotten (now (area .entry)) (now (area .exit)) ⌝ }
+    ensures { λ _. ⌜ now (area .exit) ≡ forgotten (now (area .entry)) ⌝ }
 {
     if AREA_WORDS <= area.len() {
         write::put_absent(area);

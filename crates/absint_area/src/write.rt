@@ -22,7 +22,7 @@ ghost use mathlib.Core.Path.{_≡_};
 ghost use mathlib.Core.Option.{some};
 ghost use Prim.Native.Nat.{ℕ, _+_, _*_, _≤_, _<_};
 ghost use lib.ListN.{length};
-ghost use Rattle.meaning.specs.Area.{localIn, nameIn, edgeIn, decode, wordAt, wordsFrom, Forgotten};
+ghost use Rattle.meaning.specs.Area.{localIn, nameIn, edgeIn, decode, wordAt, wordsFrom, unkept};
 ghost use Rattle.meaning.specs.Laws.Area.{bit, Frame, Written, WrittenEdges, IsLabel, IsLocal, IsName, IsZero, aboveLocal};
 ghost use Rattle.borrow_graph.specs.Models.{refOf, gedgeOf};
 ghost use Rattle.abstract_state.specs.Models.{localOf, stateOf};
@@ -52,7 +52,7 @@ pub(crate) fn put_zeros(ws: &mut [u32])
 
 pub(crate) fn put_absent(ws: &mut [u32])
     requires { ⌜ 16384 ≤ length (now ws) ⌝ }
-    ensures { λ _. ⌜ Forgotten (now (ws .entry)) (now (ws .exit)) ⌝ }
+    ensures { λ _. ⌜ now (ws .exit) ≡ unkept 16 (now (ws .entry)) ⌝ }
 {
     let mut b: usize = 0;
     while b < MAX_BLOCKS {

@@ -8,14 +8,14 @@ use mathlib.Core.List.{List, [], _∷_, _++_, map, append-nil}
 use lib.Dec.{eqb}
 use lib.ListN.{length, take, set}
 use lib.Seq.{append-snoc}
-use Rattle.meaning.specs.Answers.{Ans, ok, refuse, andThen, guard}
+use Rattle.meaning.specs.Answers.{Ans, ok, refuse, andThen, guard, leaves}
 use Rattle.meaning.specs.Lists.{all, empty}
 use Rattle.meaning.specs.Laws.Base.{and-l, and-i, or-l, or-r, andThen-ok, guard-ok, ok-inj, eqb-self}
 use Rattle.meaning.specs.Laws.Array.{push-map}
 use Rattle.meaning.specs.BorrowGraph.{Name, Graph, holds, held, wellFormed, sameNames, unmatched, release, joinGraphs, covering}
 use Rattle.meaning.specs.Laws.Cover.{covered-at, unmatched-none}
 use Rattle.meaning.specs.AbstractState as S
-use Rattle.meaning.specs.AbstractState.{State, Step, absent, joinLocal, joinLocals, join, kept, eqLocal, eqLocals, changed, Operand, nonRef, reference}
+use Rattle.meaning.specs.AbstractState.{State, Step, absent, joinLocal, joinLocals, join, eqLocal, eqLocals, changed, Operand, nonRef, reference}
 use Rattle.meaning.specs.Laws.State.{Joined, join-law}
 use Rattle.meaning.specs.Laws.Change.{leq, rustChanged, changed-is-rust, eqLocals-eq}
 use Rattle.meaning.specs.EntryPoints as R
@@ -210,7 +210,7 @@ module _ (s o : State) where
 pub joins-refused : (s o : AbstractState) (n : ℕ) → (n ≡ 0 → ⊥) → join (stateOf s) (stateOf o) ≡ refuse n → Joins s o n s
 joins-refused s o n z e = record {
   answer = told-no n (stateOf s) z ∙ sym e;
-  left = ap (kept (stateOf s)) (sym e);
+  left = ap (leaves (stateOf s)) (sym e);
   rest = refl;
   stop = (refl, refl);
 }

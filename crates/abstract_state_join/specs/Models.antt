@@ -3,10 +3,10 @@ use Prim.Native.Nat.{ℕ, suc}
 use mathlib.Core.Path.{_≡_}
 use mathlib.Core.Bool.{Bool, false, cond}
 use mathlib.Core.List.{List, [], _∷_}
-use Rattle.meaning.specs.Answers.{Ans, ok, refuse, andThen, Outcome, done, then, lift}
+use Rattle.meaning.specs.Answers.{Ans, ok, refuse, andThen, Outcome, done, then, lift, leaves}
 use Rattle.meaning.specs.BorrowGraph.{Graph, release, Change}
 use Rattle.meaning.specs.AbstractState as S
-use Rattle.meaning.specs.AbstractState.{State, Step, absent, value, ref, join, kept, changed, canonical, Operand, nonRef, reference, Token, ofValue, ofRef, firstState}
+use Rattle.meaning.specs.AbstractState.{State, Step, absent, value, ref, join, changed, canonical, Operand, nonRef, reference, Token, ofValue, ofRef, firstState}
 use Rattle.meaning.specs.EntryPoints.{Running}
 use Rattle.meaning.specs.Blocks.{startMachine}
 use Rattle.borrow_graph.specs.Models.{graphOf, told}
@@ -76,7 +76,7 @@ withState r s = record { locals = s .locals; graph = s .graph; next = r .next; r
 -- A join with the refusal n (0: none) left the state t. Of both states, stopped or not, only locals and graph count; all else of the first is kept.
 pub record Joins (s o : AbstractState) (n : ℕ) (t : AbstractState) : Type 0 where
   pub answer : told n (stateOf t) ≡ join (stateOf s) (stateOf o)
-  pub left : stateOf t ≡ kept (stateOf s) (join (stateOf s) (stateOf o))
+  pub left : stateOf t ≡ leaves (stateOf s) (join (stateOf s) (stateOf o))
   pub rest : runningOf t ≡ withState (runningOf s) (stateOf t)
   pub stop : (t .violation ≡ s .violation) × (t .refusal ≡ s .refusal)
 

@@ -3,14 +3,14 @@
 --   word 16 + i           name i
 --   words 64 + 10 × i on  edge i: its ends; its marks and how many labels; up to eight labels
 -- A count beyond a limit of document 01 reads as the limit, and words of what is not held are free.
-use Prim.Native.Nat.{ℕ, _/_, _%_, min, _+_, _*_}
+use Prim.Native.Nat.{ℕ, zero, suc, _/_, _%_, min, _+_, _*_}
 use mathlib.Core.Bool.{cond, Bool, true, false, _&&_}
 use mathlib.Core.List.{List, _++_}
 use mathlib.Core.Logic.{_≢_}
 use mathlib.Core.Option.{Option, none, some}
 use mathlib.Core.Path.{_≡_}
 use lib.Dec.{eqb, leb, ltb}
-use lib.ListN.{getD, length, drop, replicate}
+use lib.ListN.{getD, set, length, drop, replicate}
 use Rattle.meaning.specs.Limits.{maxLabels, maxLocals, maxNames, maxEdges, maxBlocks, u16End, areaWords, blockWords}
 use Rattle.meaning.specs.Lists.{upTo}
 use Rattle.meaning.specs.BorrowGraph.{Name, GEdge}
@@ -103,11 +103,15 @@ pub record Stored (l : ℕ) (s : State) (b : ℕ) (ws ws′ : List ℕ) : Type 0
   pub beyond : drop areaWords ws′ ≡ drop areaWords ws
   pub short : hasBlock (length ws) b ≡ false → ws′ ≡ ws
 
--- no block has a kept state; of the blocks' words nothing else is said, and later ones are as they were
-pub record Forgotten (ws ws′ : List ℕ) : Type 0 where
-  pub size : length ws′ ≡ length ws
-  pub kept : (l b : ℕ) → keptOf l ws′ b ≡ none
-  pub beyond : drop areaWords ws′ ≡ drop areaWords ws
+-- the first words of the first n blocks zero: they say that no state is kept
+unfoldable pub unkept : ℕ → List ℕ → List ℕ
+unkept zero ws = ws
+unkept (suc b) ws = set (unkept b ws) (blockWords * b) 0
+
+-- no block has a kept state, and no word but those sixteen is written; a shorter area stays as it is
+unfoldable pub forgotten : List ℕ → List ℕ
+unfolding unkept
+forgotten ws = cond (leb areaWords (length ws)) (unkept maxBlocks ws) ws
 
 -- n words that are zero
 unfoldable pub zeros : ℕ → List ℕ

@@ -15,7 +15,7 @@ use lib.Seq.{getD-set-same, getD-set-other, getD-drop, ext-getD, getD-append-add
 use Rattle.meaning.specs.Lists.{upTo}
 use Rattle.meaning.specs.BorrowGraph.{GEdge, Name}
 use Rattle.meaning.specs.AbstractState.{absent, value, ref, State, Local}
-use Rattle.meaning.specs.Area.{localAs, localIn, nameIn, edgeOf, labelIn, edgeIn, wordAt, wordsFrom, decode, hasBlock, keptOf, Stored, isKept, stateIn, zeros, cleared, Forgotten}
+use Rattle.meaning.specs.Area.{localAs, localIn, nameIn, edgeOf, labelIn, edgeIn, wordAt, wordsFrom, decode, hasBlock, keptOf, Stored, isKept, stateIn, zeros, cleared, unkept, forgotten}
 use Rattle.meaning.specs.Laws.Base.{eqb-no, and-l, and-r, leb-le, decide, leb-gt, both, le-leb}
 
 -- ---- lists given by their elements
@@ -424,20 +424,46 @@ pub record Emptied (i : ℕ) (ws us : List ℕ) : Type 0 where
   pub frame : Frame 0 16384 ws us
   pub firsts : (b : ℕ) → b < i → getD us (1024 * b) 0 ≡ 0
 
-pub emptied-none : (ws : List ℕ) → Emptied 0 ws ws
-emptied-none ws = record { frame = frame-none 0 16384 ws; firsts = below-none (λ b. getD ws (1024 * b) 0 ≡ 0) }
+emptied : (i : ℕ) (ws : List ℕ) → i ≤ 16 → 16384 ≤ length ws → Emptied i ws (unkept i ws)
+unfolding unkept
+emptied zero ws h w = record { frame = frame-none 0 16384 ws; firsts = below-none (λ b. getD ws (1024 * b) 0 ≡ 0) }
+emptied (suc i) ws h w =
+    let p : Emptied i ws (unkept i ws) = emptied i ws (omega arith) w in
+    subst (λ (n : ℕ). Emptied n ws (set (unkept i ws) (1024 * i) 0)) (add-one i)
+    (record {
+      frame = frame-set (1024 * i) 0 (omega arith) (omega arith) (p .frame);
+      firsts = below-more (λ b. getD (set (unkept i ws) (1024 * i) 0) (1024 * b) 0 ≡ 0) i
+          (λ b k. getD-set-other (unkept i ws) (1024 * i) (1024 * b) 0 0 (λ e. omega arith) ∙ p .firsts b k)
+          (getD-set-same (unkept i ws) (1024 * i) 0 0 (omega (arith, p .frame .size)));
+    })
 
-pub emptied-one : (i : ℕ) (ws us : List ℕ) → i < 16 → 1024 * i < length us → Emptied i ws us → Emptied (i + 1) ws (set us (1024 * i) 0)
-emptied-one i ws us h l p = record {
-  frame = frame-set (1024 * i) 0 (omega arith) (omega arith) (p .frame);
-  firsts = below-more (λ b. getD (set us (1024 * i) 0) (1024 * b) 0 ≡ 0) i
-      (λ b k. getD-set-other us (1024 * i) (1024 * b) 0 0 (λ e. omega arith) ∙ p .firsts b k)
-      (getD-set-same us (1024 * i) 0 0 l);
-}
+pub unkept-length : (i : ℕ) (ws : List ℕ) → length (unkept i ws) ≡ length ws
+unfolding unkept
+unkept-length zero ws = refl
+unkept-length (suc i) ws = length-set (unkept i ws) (1024 * i) 0 ∙ unkept-length i ws
 
-pub forgotten : (i : ℕ) (ws us : List ℕ) → 16 ≤ i → Emptied i ws us → Forgotten ws us
+-- the next block's first word
+pub unkept-one : (i : ℕ) (ws us : List ℕ) → us ≡ unkept i ws → set us (1024 * i) 0 ≡ unkept (i + 1) ws
+unfolding unkept
+unkept-one i ws us e = ap (λ (vs : List ℕ). set vs (1024 * i) 0) e ∙ ap (λ (n : ℕ). unkept n ws) (sym (add-one i))
+
+pub forgotten-long : (ws : List ℕ) → 16384 ≤ length ws → forgotten ws ≡ unkept 16 ws
+unfolding forgotten
+forgotten-long ws h = ap (λ (t : Bool). cond t (unkept 16 ws) ws) (le-leb h)
+
+pub forgotten-short : (ws : List ℕ) → length ws < 16384 → forgotten ws ≡ ws
+unfolding forgotten
+forgotten-short ws h = ap (λ (t : Bool). cond t (unkept 16 ws) ws) (lt-leb 16384 (length ws) h)
+
+-- no block has a kept state, and words past the blocks are as they were
+pub record Forgotten (ws us : List ℕ) : Type 0 where
+  pub size : length us ≡ length ws
+  pub kept : (l b : ℕ) → keptOf l us b ≡ none
+  pub beyond : drop 16384 us ≡ drop 16384 ws
+
+none-kept : (i : ℕ) (ws us : List ℕ) → 16 ≤ i → Emptied i ws us → Forgotten ws us
 unfolding keptOf decode
-forgotten i ws us h p = record {
+none-kept i ws us h p = record {
   size = p .frame .size;
   kept = λ l b. gone l b (hasBlock (length us) b) refl;
   beyond = drop-same 0 16384 16384 ws us (omega arith) (p .frame);
@@ -451,10 +477,5 @@ forgotten i ws us h p = record {
         let z : wordsFrom us (1024 * b) 0 ≡ 0 = ap (λ (m : ℕ). getD us m 0) j ∙ p .firsts b (omega arith) in
         ap (λ (x : ℕ). cond (eqb (x / 262144) 0) none (some (stateIn l (wordsFrom us (1024 * b))))) z
 
--- a shorter area has no blocks
-pub forgotten-short : (ws : List ℕ) → length ws < 16384 → Forgotten ws ws
-forgotten-short ws h = record {
-  size = refl;
-  kept = λ l b. kept-out l ws b (ap (λ (t : Bool). t && ltb b 16) (lt-leb 16384 (length ws) h));
-  beyond = refl;
-}
+pub forgotten-law : (ws : List ℕ) → 16384 ≤ length ws → Forgotten ws (forgotten ws)
+forgotten-law ws h = subst (λ (us : List ℕ). Forgotten ws us) (sym (forgotten-long ws h)) (none-kept 16 ws (unkept 16 ws) (omega arith) (emptied 16 ws (omega arith) h))

@@ -1,17 +1,21 @@
-use Prim.Native.Nat.{_-_, _≤_}
-use Rattle.meaning.specs.Laws.Area.{Emptied, emptied-none, emptied-one, forgotten}
+use Prim.Native.Nat.{ℕ, _-_, _≤_}
+use mathlib.Core.Path.{_≡_, refl, ap, _∙_}
+use lib.ListN.{length}
+use Rattle.meaning.specs.Area.{unkept}
+use Rattle.meaning.specs.Laws.Area.{unkept-length, unkept-one}
 use native.Mathlib.Omega.{arith}
 use Rattle.absint_area.proofs.write.put_absent.Statement.{statement}
 use Rattle.absint_area.proofs.write.put_absent.Tie as tie
 
 abbrev Inv-loop : tie.InvT-loop
-Inv-loop ws₀ b₀ ws b = (b ≤ 16) × Emptied b ws₀ ws
+Inv-loop ws₀ b₀ ws b = (b ≤ 16) × (ws ≡ unkept b ws₀)
 
 abbrev μ-loop : tie.MeasureT-loop
 μ-loop ws₀ b₀ ws b = 16 - b
 
 loop-holds : tie.Need-loop-holds Inv-loop μ-loop
-loop-holds c = (omega arith, emptied-none _)
+unfolding unkept
+loop-holds c = (omega arith, refl)
 
 mul-ws : tie.Need-mul-ws Inv-loop μ-loop
 mul-ws c = omega arith
@@ -20,7 +24,7 @@ mul-ws-2 : tie.Need-mul-ws-2 Inv-loop μ-loop
 mul-ws-2 c = omega arith
 
 slice-write-ws : tie.Need-slice-write-ws Inv-loop μ-loop
-slice-write-ws c = omega (arith, (c .before .loop) .inv .1 .frame .size)
+slice-write-ws c = omega (arith, ap length ((c .before .loop) .inv .1) ∙ unkept-length ((c .before .loop) .b) _)
 
 add-b : tie.Need-add-b Inv-loop μ-loop
 add-b c = omega arith
@@ -29,13 +33,13 @@ loop-less : tie.Need-loop-less Inv-loop μ-loop
 loop-less c = omega arith
 
 loop-again : tie.Need-loop-again Inv-loop μ-loop
-loop-again c = (omega arith, emptied-one ((c .before .loop) .b) _ ((c .before .loop) .ws) (omega arith) (omega (arith, (c .before .loop) .inv .1 .frame .size)) ((c .before .loop) .inv .1))
+loop-again c = (omega arith, unkept-one ((c .before .loop) .b) _ ((c .before .loop) .ws) ((c .before .loop) .inv .1))
 
 same-length : tie.Need-same-length Inv-loop μ-loop
-same-length c = (c .before .loop) .inv .1 .frame .size
+same-length c = ap length ((c .before .loop) .inv .1) ∙ unkept-length ((c .before .loop) .b) _
 
 returns : tie.Need-returns Inv-loop μ-loop
-returns c = forgotten ((c .before .loop) .b) _ _ (omega arith) ((c .before .loop) .inv .1)
+returns c = let n : (c .before .loop) .b ≡ 16 = omega arith in (c .before .loop) .inv .1 ∙ ap (λ (k : ℕ). unkept k _) n
 
 pub put-absent-spec : {M : Type 1} → statement M
 put-absent-spec =

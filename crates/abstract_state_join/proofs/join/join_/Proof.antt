@@ -1,6 +1,6 @@
 use mathlib.Core.Path.{_≡_, refl, sym, ap, _∙_}
-use Rattle.meaning.specs.Answers.{ok, refuse}
-use Rattle.meaning.specs.AbstractState.{join, kept}
+use Rattle.meaning.specs.Answers.{ok, refuse, leaves}
+use Rattle.meaning.specs.AbstractState.{join}
 use Rattle.borrow_graph.specs.Models.{graphOf}
 use Rattle.borrow_graph.specs.ModelLaws.{told-yes, told-no}
 use Rattle.abstract_state.specs.Models.{stateOf}
@@ -35,7 +35,7 @@ returns-3 c =
     let p = partsOf ((c .before .before .before .before .before .before .before .before .before .join-locals) .result) (a .s .«num_locals») in
     let g = graphOf ((c .before .before .before .before .join) .result .graph) in
     let e : join (stateOf (a .s)) (stateOf (a .o)) ≡ ok (record { locals = p .locals; graph = g }) = join-late (stateOf (a .s)) (stateOf (a .o)) p (ok g) (sym ((c .before .before .before .before .before .before .before .before .before .join-locals) .ensures) ∙ told-yes _ p ((c .before .before .before .before .before .before .before .if1) .left)) (sym ((c .before .before .before .before .join) .ensures .0) ∙ told-yes _ g ((c .before .before .if2) .left)) in
-    record { answer = sym e; left = ap (kept (stateOf (a .s))) (sym e); rest = refl; stop = (refl, refl) }
+    record { answer = sym e; left = ap (leaves (stateOf (a .s))) (sym e); rest = refl; stop = (refl, refl) }
 
 pub join--spec : {M : Type 1} → statement M
 join--spec = tie.close (tie.spec join-locals-requires returns join-requires returns-2 returns-3)
