@@ -1,5 +1,5 @@
 pub mod Models
 pub mod LoopLaws
-pub mod HandLaws
-pub mod VisitLaws
+pub mod PropagateLaws
+pub mod TurnLaws
 pub mod WholeLaws

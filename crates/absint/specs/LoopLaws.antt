@@ -1,29 +1,30 @@
 -- Blocks and statuses read one by one.
 use Prim.Native.Nat.{ℕ, zero, suc, _+_, _≤_, _<_}
 use native.Mathlib.Omega.{arith}
-use mathlib.Core.Path.{_≡_, refl, ap}
+use mathlib.Core.Path.{_≡_, refl, sym, ap, _∙_}
 use mathlib.Core.Bool.{true, false}
 use mathlib.Core.List.{List, [], _∷_, map}
+use mathlib.Core.Option.{Option, none, some}
 use lib.Dec.{eqb, ltb}
 use native.Mathlib.Numerals.{add-one}
 use lib.Seq.{drop-cons}
 use lib.ListN.{length, drop, getD, set, replicate, length-map, length-take, drop-of-length-le}
 use Rattle.meaning.specs.Laws.Array.{front-map-step, map-step}
 use Rattle.meaning.specs.Loop as M
-use Rattle.meaning.specs.Loop.{Status, fine, position, Verdict, violation, entryOf, lowestOf}
+use Rattle.meaning.specs.Loop.{Status, fine, position, Failure, lower, accept, violation, verdictFor}
 use Rattle.meaning.specs.Laws.Fit.{lowestBy}
 use Rattle.listing.specs.Models.{blockOf, blocksIn}
 use Rattle.listing.specs.declared.Block.{Block}
-use Rattle.absint.specs.Models.{statusOf, statusesOf, lowestVerdict}
-use Rattle.absint.specs.declared.tally.BlockStatus.{BlockStatus}
-use Rattle.absint.specs.declared.tally.Tally.{Tally}
-use Rattle.absint.specs.declared.error.Lowest.{Lowest}
+use Rattle.absint.specs.Models.{statusOf, statusesOf, failureOf, verdictIn}
+use Rattle.absint.specs.declared.run_state.BlockPostcondition.{BlockPostcondition}
+use Rattle.absint.specs.declared.run_state.RunState.{RunState}
+use Rattle.absint.specs.declared.failure.LowestFailure.{LowestFailure}
 
 -- what lies past the end of an array
 abbrev pub past-block : Block
 past-block = record { entry = record { 0 = 0 }; exit = record { 0 = 0 }; count = 0; first = record { 0 = 0 }; second = record { 0 = 0 } }
 
-abbrev pub past-status : BlockStatus
+abbrev pub past-status : BlockPostcondition
 past-status = record { failed = false; code = 0; offset = record { 0 = 0 } }
 
 module _ (xs : List Block) (n : ℕ) (w : length xs ≡ 16) (h : n ≤ 16) where
@@ -50,44 +51,55 @@ pub position-none : (e i r : ℕ) → i + position [] e ≡ r → i ≡ r
 unfolding position
 position-none e i r h = omega (arith, h)
 
-pub statuses-count : (t : Tally) → length (t .statuses) ≡ 16 → length (statusesOf t) ≡ 16
+pub statuses-count : (t : RunState) → length (t .statuses) ≡ 16 → length (statusesOf t) ≡ 16
 unfolding statusesOf
 statuses-count t w = simp length-map w
 
-pub statuses-step : (t : Tally) (i : ℕ) → i < length (t .statuses) → drop i (statusesOf t) ≡ statusOf (getD (t .statuses) i past-status) ∷ drop (i + 1) (statusesOf t)
+pub statuses-step : (t : RunState) (i : ℕ) → i < length (t .statuses) → drop i (statusesOf t) ≡ statusOf (getD (t .statuses) i past-status) ∷ drop (i + 1) (statusesOf t)
 unfolding statusesOf
 statuses-step t i h = map-step statusOf (t .statuses) i (getD (t .statuses) i past-status) (rw add-one (drop-cons (t .statuses) i past-status h))
 
-pub statuses-set : (t : Tally) (j : ℕ) (x : BlockStatus) → map statusOf (set (t .statuses) j x) ≡ set (statusesOf t) j (statusOf x)
+pub statuses-set : (t : RunState) (j : ℕ) (x : BlockPostcondition) → map statusOf (set (t .statuses) j x) ≡ set (statusesOf t) j (statusOf x)
 unfolding statusesOf
 statuses-set t j x = go (t .statuses) j
   where
-    go : (l : List BlockStatus) (i : ℕ) → map statusOf (set l i x) ≡ set (map statusOf l) i (statusOf x)
+    go : (l : List BlockPostcondition) (i : ℕ) → map statusOf (set l i x) ≡ set (map statusOf l) i (statusOf x)
     go [] i = refl
     go (y ∷ l) zero = refl
     go (y ∷ l) (suc i) = ap (λ (r : List Status). statusOf y ∷ r) (go l i)
 
-pub lowest-step : (b : M.Block) (bs : List M.Block) (y : Status) (xs : List Status) (e : ℕ) (v : Verdict) → lowestBy (b ∷ bs) (y ∷ xs) e v ≡ lowestBy bs xs (entryOf (b .entry) y e v) (lowestOf (b .entry) y e v)
+pub lowest-step : (b : M.Block) (bs : List M.Block) (y : Status) (xs : List Status) (f : Option Failure) → lowestBy (b ∷ bs) (y ∷ xs) f ≡ lowestBy bs xs (lower (b .entry) y f)
 unfolding lowestBy
-lowest-step b bs y xs e v = refl
+lowest-step b bs y xs f = refl
 
-pub lowest-end : (xs : List Status) (e : ℕ) (v : Verdict) → lowestBy [] xs e v ≡ v
+-- no block is left: the lowest so far is that of all
+pub lowest-all : (bs : List M.Block) (xs : List Status) (i : ℕ) (f : Option Failure) → drop i bs ≡ [] → lowestBy (drop i bs) (drop i xs) f ≡ lowestBy bs xs none → f ≡ lowestBy bs xs none
 unfolding lowestBy
-lowest-end xs e v = refl
+lowest-all bs xs i f z e = ap (λ (ys : List M.Block). lowestBy ys (drop i xs) f) (sym z) ∙ e
 
--- the error of a block against the lowest one so far
-module _ (l : Lowest) (e : ℕ) (x : BlockStatus) (f : x .failed ≡ true) where
-  pub lower-first : l .found ≡ false → (violation (x .code) (x .offset .0) ≡ lowestOf e (statusOf x) (l .entry .0) (lowestVerdict l)) × (e ≡ entryOf e (statusOf x) (l .entry .0) (lowestVerdict l))
-  lower-first g = rw (f, g) (refl, refl)
+module _ (bs : List M.Block) (t : RunState) (on : t .stopped ≡ false) (l : LowestFailure) (all : failureOf l ≡ lowestBy bs (statusesOf t) none) where
+  pub verdict-found : l .found ≡ true → violation (l .code) (l .offset .0) ≡ verdictIn bs t
+  verdict-found h = rw on (ap verdictFor (rw h at all))
 
-  pub lower-new : l .found ≡ true → ltb e (l .entry .0) ≡ true → (violation (x .code) (x .offset .0) ≡ lowestOf e (statusOf x) (l .entry .0) (lowestVerdict l)) × (e ≡ entryOf e (statusOf x) (l .entry .0) (lowestVerdict l))
-  lower-new g h = rw (f, g, h) (refl, refl)
+  pub verdict-none : l .found ≡ false → accept ≡ verdictIn bs t
+  verdict-none h = rw on (ap verdictFor (rw h at all))
 
-  pub lower-old : l .found ≡ true → ltb e (l .entry .0) ≡ false → (lowestVerdict l ≡ lowestOf e (statusOf x) (l .entry .0) (lowestVerdict l)) × (l .entry .0 ≡ entryOf e (statusOf x) (l .entry .0) (lowestVerdict l))
-  lower-old g h = rw (f, g, h) (refl, refl)
+-- the failure of a block against the lowest one so far
+module _ (l : LowestFailure) (e : ℕ) (x : BlockPostcondition) where
+  abbrev new : Option Failure
+  new = some (record { entry = e; code = x .code; offset = x .offset .0 })
 
-pub lower-none : (l : Lowest) (e : ℕ) (x : BlockStatus) → x .failed ≡ false → (lowestVerdict l ≡ lowestOf e (statusOf x) (l .entry .0) (lowestVerdict l)) × (l .entry .0 ≡ entryOf e (statusOf x) (l .entry .0) (lowestVerdict l))
-lower-none l e x f = rw f (refl, refl)
+  pub lower-first : x .failed ≡ true → l .found ≡ false → new ≡ lower e (statusOf x) (failureOf l)
+  lower-first f g = rw (f, g) refl
+
+  pub lower-new : x .failed ≡ true → l .found ≡ true → ltb e (l .entry .0) ≡ true → new ≡ lower e (statusOf x) (failureOf l)
+  lower-new f g h = rw (f, g, h) refl
+
+  pub lower-old : x .failed ≡ true → l .found ≡ true → ltb e (l .entry .0) ≡ false → failureOf l ≡ lower e (statusOf x) (failureOf l)
+  lower-old f g h = rw (f, g, h) refl
+
+  pub lower-none : x .failed ≡ false → failureOf l ≡ lower e (statusOf x) (failureOf l)
+  lower-none f = rw f refl
 
 -- no error yet
 pub all-fine : (n : ℕ) (x : Status) (j : ℕ) → x ≡ fine → getD (replicate n x) j fine ≡ fine

@@ -4,25 +4,27 @@ use native.Mathlib.Omega.{arith}
 use mathlib.Core.Path.{_≡_, refl, sym, ap, _∙_, subst}
 use mathlib.Core.Bool.{Bool, true, false, cond, true≢false}
 use mathlib.Core.List.{List, map, _++_}
+use mathlib.Core.Option.{none}
 use borrow.Author.Tests.{lt-ltb, le-ltb, eq-eqb, ne-eqb}
 use lib.Dec.{leb}
-use lib.ListN.{length, take, getD, length-take}
+use lib.ListN.{length, take, length-take}
 use Rattle.meaning.specs.Laws.Base.{decide, leb-le, leb-gt}
 use Rattle.meaning.specs.Laws.Array.{front-all}
+use Rattle.meaning.specs.Limits.{areaWords}
 use Rattle.meaning.specs.Area.{keptOf, cleared, zeros}
 use Rattle.meaning.specs.Laws.Area.{cleared-long}
 use Rattle.meaning.specs.Blocks.{Routine}
-use Rattle.meaning.specs.Loop.{at, stopped, blank, visits, Verdict, accept, refusal, verdict, verdictAt}
+use Rattle.meaning.specs.Loop.{at, stopped, visits, Verdict, refusal, verdictFor, verdict, verdictAt}
 use Rattle.meaning.specs.Laws.Fit.{lowestBy, lowest-by}
 use Rattle.meaning.specs.Listing.{Listed, read, refused, readListing}
 use Rattle.meaning.specs.Verify as Whole
-use Rattle.meaning.specs.Verify.{runOf}
+use Rattle.meaning.specs.Verify.{runOf, keptBy}
 use Rattle.listing.specs.Models.{blockOf, blocksIn, routineOf, listedOf, pickListed}
 use Rattle.listing.specs.declared.Block.{Block}
 use Rattle.listing.specs.declared.Listed as D
 use Rattle.listing.specs.declared.Routine as Made
 use Rattle.absint.specs.Models.{statusesOf, verdictIn, Analyzed, Left}
-use Rattle.absint.specs.declared.tally.Tally.{Tally}
+use Rattle.absint.specs.declared.run_state.RunState.{RunState}
 
 -- ---- the routine that was read
 
@@ -43,51 +45,51 @@ unfolding listedOf
 was-refused s l e z = sym e ∙ ap (λ (b : Bool). pickListed b (routineOf s (l .routine)) (l .number) (l .place)) (ne-eqb (l .number) 0 z)
 
 -- more than 16 blocks read as 16
-pub clipped : (xs : List Block) (n : ℕ) → length xs ≡ 16 → 16 < n → blocksIn xs 16 ≡ blocksIn xs n
+pub sixteen : (xs : List Block) (n : ℕ) → length xs ≡ 16 → 16 < n → blocksIn xs 16 ≡ blocksIn xs n
 unfolding blocksIn
-clipped xs n w h =
+sixteen xs n w h =
     let z : length (take n xs) ≡ 16 = simp length-take (omega (arith, w, h)) in
     ap (map blockOf) (ap (λ (k : ℕ). take k xs) (sym z) ∙ front-all n xs)
 
 -- ---- the answer
 
 module _ (words : ℕ) (s : List ℕ) where
-  pub verify-short : words < 16384 → record { verdict = refusal 7 0; visits = 0 } ≡ Whole.verify words s
+  pub verify-short : words < areaWords → record { verdict = refusal 7 0; visits = 0 } ≡ Whole.verify words s
   unfolding Whole.verify
-  verify-short h = rw (lt-ltb words 16384 h) refl
+  verify-short h = rw (lt-ltb words areaWords h) refl
 
-  module _ (h : 16384 ≤ words) where
+  module _ (h : areaWords ≤ words) where
     pub verify-refused : (n p : ℕ) → readListing s ≡ refused n p → record { verdict = refusal n p; visits = 0 } ≡ Whole.verify words s
     unfolding Whole.verify
-    verify-refused n p e = rw (le-ltb words 16384 h) (ap Whole.answerTo (sym e))
+    verify-refused n p e = rw (le-ltb words areaWords h) (ap Whole.answerTo (sym e))
 
     pub verify-read : (q : Routine) (v : Verdict) (n : ℕ) → readListing s ≡ read q → v ≡ verdict (q .blocks) (runOf q) → n ≡ visits (runOf q) → record { verdict = v; visits = n } ≡ Whole.verify words s
     unfolding Whole.verify
-    verify-read q v n e a b = rw (le-ltb words 16384 h) ((λ k. record { verdict = a k; visits = b k }) ∙ ap Whole.answerTo (sym e))
+    verify-read q v n e a b = rw (le-ltb words areaWords h) ((λ k. record { verdict = a k; visits = b k }) ∙ ap Whole.answerTo (sym e))
 
 -- the statuses give the verdict
-pub ruled : (s : List ℕ) (d : Made.Routine) (ws₀ ws : List ℕ) (t : Tally) → length (statusesOf t) ≡ 16 → d .«block_count» ≤ 16 → length (routineOf s d .blocks) ≡ d .«block_count» → Analyzed s d ws₀ ws t
+pub ruled : (s : List ℕ) (d : Made.Routine) (ws₀ ws : List ℕ) (t : RunState) → length (statusesOf t) ≡ 16 → d .«block_count» ≤ 16 → length (routineOf s d .blocks) ≡ d .«block_count» → Analyzed s d ws₀ ws t
     → verdictIn (routineOf s d .blocks) t ≡ verdict (routineOf s d .blocks) (runOf (routineOf s d))
 unfolding verdict
 ruled s d ws₀ ws t w few count a = go (t .stopped) ∙ ap (verdictAt (routineOf s d .blocks) (runOf (routineOf s d) .slots)) (a .end .next)
   where
-    go : (b : Bool) → cond b (refusal (t .number) (t .place .0)) (lowestBy (routineOf s d .blocks) (statusesOf t) 0 accept)
+    go : (b : Bool) → cond b (refusal (t .number) (t .place .0)) (verdictFor (lowestBy (routineOf s d .blocks) (statusesOf t) none))
         ≡ verdictAt (routineOf s d .blocks) (runOf (routineOf s d) .slots) (cond b (stopped (t .number) (t .place .0)) (at (t .next)))
     go true = refl
-    go false = lowest-by (routineOf s d .blocks) (statusesOf t) (runOf (routineOf s d) .slots) 0 accept (let z = a .end .same-length in omega (arith, z, w, few, count)) (a .end .fits .status) (a .end .same-length)
+    go false = ap verdictFor (lowest-by (routineOf s d .blocks) (statusesOf t) (runOf (routineOf s d) .slots) none (let z = a .end .same-length in omega (arith, z, w, few, count)) (a .end .fits .status) (a .end .same-length))
 
 -- ---- what is left in the area
 
-pub left-short : (s ws : List ℕ) → length ws < 16384 → Left s ws ws
-left-short s ws h = record { kept = λ a q e j m. absurd (omega (arith, a, h)); unread = λ n p e. refl; short = λ z. refl; beyond = refl }
+pub left-short : (s ws : List ℕ) → length ws < areaWords → Left s ws ws
+left-short s ws h = record { kept = λ a q e j. absurd (omega (arith, a, h)); unread = λ n p e. refl; short = λ z. refl; beyond = refl }
 
 pub left-refused : (s ws : List ℕ) (n p : ℕ) → readListing s ≡ refused n p → Left s ws ws
-left-refused s ws n p e = record { kept = λ a q f j m. absurd (true≢false (ap isRead (sym f ∙ e))); unread = λ m o f. refl; short = λ z. refl; beyond = refl }
+left-refused s ws n p e = record { kept = λ a q f j. absurd (true≢false (ap isRead (sym f ∙ e))); unread = λ m o f. refl; short = λ z. refl; beyond = refl }
 
-pub left-read : (s : List ℕ) (d : Made.Routine) (ws₀ ws : List ℕ) (t : Tally) → 16384 ≤ length ws₀ → readListing s ≡ read (routineOf s d) → Analyzed s d ws₀ ws t → Left s ws₀ ws
+pub left-read : (s : List ℕ) (d : Made.Routine) (ws₀ ws : List ℕ) (t : RunState) → areaWords ≤ length ws₀ → readListing s ≡ read (routineOf s d) → Analyzed s d ws₀ ws t → Left s ws₀ ws
 left-read s d ws₀ ws t h e a =
     record {
-      kept = λ z q f j m. subst (λ (r : Routine). keptOf (r .locals) ws j ≡ getD (runOf r .slots) j blank .kept) (same q f) (a .end .fits .kept j (let y = a .end .same-length in let x : j < length (routineOf s d .blocks) = subst (λ (r : Routine). j < length (r .blocks)) (sym (same q f)) m in omega (arith, y, x)));
+      kept = λ z q f j. subst (λ (r : Routine). keptOf (r .locals) ws j ≡ keptBy (read r) j) (same q f) (a .end .fits .kept j);
       unread = λ n p f. absurd (true≢false (ap isRead (sym e ∙ f)));
       short = λ z. absurd (omega (arith, z, h));
       beyond = a .beyond;
@@ -97,6 +99,6 @@ left-read s d ws₀ ws t h e a =
     same q f = ap (routineIn (routineOf s d)) (sym e ∙ f)
 
 pub cleared-left : (s ws ws′ : List ℕ) → length ws′ ≡ length ws → Left s ws ws′ → cleared ws′ ≡ cleared ws
-cleared-left s ws ws′ e l = decide (leb 16384 (length ws))
-    (λ h. let z : 16384 ≤ length ws = leb-le h in cleared-long ws′ (omega (arith, z, e)) ∙ ap (λ (us : List ℕ). zeros 16384 ++ us) (l .beyond) ∙ sym (cleared-long ws z))
-    (λ h. let z : length ws < 16384 = leb-gt h in ap cleared (l .short z))
+cleared-left s ws ws′ e l = decide (leb areaWords (length ws))
+    (λ h. let z : areaWords ≤ length ws = leb-le h in cleared-long ws′ (omega (arith, z, e)) ∙ ap (λ (us : List ℕ). zeros areaWords ++ us) (l .beyond) ∙ sym (cleared-long ws z))
+    (λ h. let z : length ws < areaWords = leb-gt h in ap cleared (l .short z))

@@ -1,19 +1,24 @@
 // The block loop (absint.rs) over the lent work area, and the check of a listing from its bytes to the verdict.
-mod error;
-mod hand;
-mod tally;
-mod visit;
+//   verify    verify   mod.rs 47
+//   analyze   verify, with the kept states left to be looked at
+mod failure;
+mod interpreter;
+mod propagate;
+mod run_state;
 
-use crate::error::rule;
-use crate::visit::visit_all;
+use crate::failure::verdict_of;
+use crate::interpreter::analyze_function;
 use absint_area::clear;
 use file_format::CodeOffset;
 use listing::Routine;
 use listing::read_listing;
+use meaning::AREA_WORDS;
+use meaning::MAX_BLOCKS;
 ghost use mathlib.Core.Path.{_≡_};
 ghost use Prim.Native.Nat.{ℕ, _≤_};
 ghost use mathlib.Core.List.{List};
 ghost use lib.ListN.{length};
+ghost use Rattle.meaning.specs.Limits.{maxBlocks};
 ghost use Rattle.meaning.specs.Area.{cleared};
 ghost use Rattle.meaning.specs.Loop.{refusal};
 ghost use Rattle.listing.specs.Models.{blocksIn, routineOf};
@@ -37,7 +42,7 @@ pub struct Verdict {
 pub fn analyze(listing: &[u8], area: &mut [u32]) -> Verdict
     ensures { λ r. ⌜ (verdictOf r ≡ Whole.verify (length (now (area .entry))) (now (listing .entry))) × Left (now (listing .entry)) (now (area .entry)) (now (area .exit)) ⌝ }
 {
-    if area.len() < 16384 {
+    if area.len() < AREA_WORDS {
         return refused(7, 0);
     }
     let l = read_listing(listing);
@@ -45,11 +50,11 @@ pub fn analyze(listing: &[u8], area: &mut [u32]) -> Verdict
         return refused(l.number, l.place);
     }
     let all = l.routine;
-    let q = clip(all);
-    let t = visit_all(listing, q, area);
+    let q = within_blocks(all);
+    let t = analyze_function(listing, q, area);
     let blocks = q.blocks;
     Verdict {
-        ruling: rule(blocks, q.block_count, t),
+        ruling: verdict_of(blocks, q.block_count, t),
         visits: t.visits,
     }
 }
@@ -64,12 +69,12 @@ pub fn verify(listing: &[u8], area: &mut [u32]) -> Verdict
 }
 
 // The same routine, its blocks counted as they are read: 16 at most.
-fn clip(routine: Routine) -> Routine
-    ensures { λ r. ⌜ ((s : List ℕ) → routineOf s r ≡ routineOf s routine) × (r .«block_count» ≤ 16) × (length (blocksIn (r .blocks) (r .«block_count»)) ≡ r .«block_count») ⌝ }
+fn within_blocks(routine: Routine) -> Routine
+    ensures { λ r. ⌜ ((s : List ℕ) → routineOf s r ≡ routineOf s routine) × (r .«block_count» ≤ maxBlocks) × (length (blocksIn (r .blocks) (r .«block_count»)) ≡ r .«block_count») ⌝ }
 {
     let mut q = routine;
-    if 16 < routine.block_count {
-        q.block_count = 16;
+    if MAX_BLOCKS < routine.block_count {
+        q.block_count = MAX_BLOCKS;
         return q;
     }
     q

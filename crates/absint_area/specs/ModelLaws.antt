@@ -10,7 +10,7 @@ use lib.Pow.{pow-mono, pow-add}
 use lib.ListN.{length, take, getD, set, length-take, length-set}
 use lib.Seq.{take-suc-set}
 use Rattle.meaning.specs.Lists.{upTo}
-use Rattle.meaning.specs.Area.{labelIn}
+use Rattle.meaning.specs.Area.{labelIn, unkept}
 use Rattle.meaning.specs.Laws.Area.{upTo-ext, upTo-more, upTo-front, Filled, filled-front}
 use Rattle.meaning.specs.BorrowGraph.{Name, GEdge, Graph}
 use Rattle.meaning.specs.AbstractState as S
@@ -147,3 +147,7 @@ edges-filled f xs m n i e h k p = filled-front gedgeOf no-gedge f 96 i m n xs (o
 pub locals-filled : (f : ℕ → S.Local) (xs : List Local) (l i : ℕ) → min l 16 ≤ i → Filled localOf past-local f 16 i xs → localsIn xs l ≡ upTo (min l 16) f
 unfolding localsIn
 locals-filled f xs l i h p = filled-front localOf past-local f 16 i l (min l 16) xs refl h p
+
+-- the words of all blocks are written
+pub unkept-all : (b : ℕ) (ws us : List ℕ) → b ≡ 16 → us ≡ unkept b ws → us ≡ unkept 16 ws
+unkept-all b ws us n e = e ∙ ap (λ (k : ℕ). unkept k ws) n

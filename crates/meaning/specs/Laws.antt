@@ -13,7 +13,6 @@ pub mod Chain
 pub mod Change
 pub mod Cover
 pub mod Cut
-pub mod Demand3
 pub mod First
 pub mod Fit
 pub mod Forms

@@ -42,6 +42,15 @@ module _ (v n : ℕ) (r : Running) (vs : List Operand) (returns : ℕ) (d : Deco
 pub going : (v n : ℕ) → v ≡ 0 → n ≡ 0 → (eqb v 0 && eqb n 0) ≡ true
 going v n e f = ap (λ (x : ℕ). eqb x 0 && eqb n 0) e ∙ ap (λ (x : ℕ). eqb 0 0 && eqb x 0) f
 
+-- a state without a number goes on
+pub not-halted : {A : Type 0} (v n : ℕ) (a : A) → (eqb v 0 && eqb n 0) ≡ true → halted v n a ≡ done a
+not-halted {A} v n a e = go (eqb v 0) (eqb n 0) e
+  where
+    go : (x y : Bool) → (x && y) ≡ true → cond x (cond y (done a) (refused n)) (violated v) ≡ done a
+    go true true z = refl
+    go true false z = absurd (true≢false (sym z))
+    go false y z = absurd (true≢false (sym z))
+
 module _ {A : Type 0} where
   take-min : (xs : List A) (m : ℕ) → take (min (length xs) m) xs ≡ take m xs
   take-min [] m = take-nil (min 0 m) ∙ sym (take-nil m)
@@ -52,14 +61,14 @@ module _ {A : Type 0} where
 
 -- a block ends behind its exit, or with the code
 pub block-start : (q : Routine) (b : Block) (s : State) (end : ℕ) (r : Running) (vs : List Operand) → r ≡ startMachine (q .locals) s .state → vs ≡ [] → end ≡ min (length (q .code)) (b .entry + suc (b .exit - b .entry))
-    → runFrom (q .returns) b s (b .entry) (take (end - b .entry) (drop (b .entry) (q .code))) (with vs r) ≡ runBlock q b s
+    → runFrom (q .returns) b (b .entry) (take (end - b .entry) (drop (b .entry) (q .code))) (with vs r) ≡ runBlock q b s
 unfolding runBlock instrsOf
 block-start q b s end r vs e f g =
     let n : end - b .entry ≡ min (length (drop (b .entry) (q .code))) (suc (b .exit - b .entry)) = omega (arith, length-drop (b .entry) (q .code)) in
-    ap (λ (k : ℕ). runFrom (q .returns) b s (b .entry) (take k (drop (b .entry) (q .code))) (with vs r)) n
-    ∙ ap (λ (is : List Instr). runFrom (q .returns) b s (b .entry) is (with vs r)) (take-min (drop (b .entry) (q .code)) (suc (b .exit - b .entry)))
-    ∙ ap (λ (ws : List Operand). runFrom (q .returns) b s (b .entry) (take (suc (b .exit - b .entry)) (drop (b .entry) (q .code))) (with ws r)) f
-    ∙ ap (λ (t : Running). runFrom (q .returns) b s (b .entry) (take (suc (b .exit - b .entry)) (drop (b .entry) (q .code))) (with [] t)) e
+    ap (λ (k : ℕ). runFrom (q .returns) b (b .entry) (take k (drop (b .entry) (q .code))) (with vs r)) n
+    ∙ ap (λ (is : List Instr). runFrom (q .returns) b (b .entry) is (with vs r)) (take-min (drop (b .entry) (q .code)) (suc (b .exit - b .entry)))
+    ∙ ap (λ (ws : List Operand). runFrom (q .returns) b (b .entry) (take (suc (b .exit - b .entry)) (drop (b .entry) (q .code))) (with ws r)) f
+    ∙ ap (λ (t : Running). runFrom (q .returns) b (b .entry) (take (suc (b .exit - b .entry)) (drop (b .entry) (q .code))) (with [] t)) e
 
 -- the instruction at k, and the others up to the end
 pub next-instr : (f : ℕ → Instr) (code : List ℕ) (count end k : ℕ) → k < end → end ≤ length (map f (take count code))
@@ -72,13 +81,13 @@ pub code-length : (f : ℕ → Instr) (code : List ℕ) (count : ℕ) → length
 code-length f code count = simp (length-map, length-take)
 
 -- what the block comes to, once the instruction at k has this outcome
-pub block-next : (returns : ℕ) (b : Block) (s : State) (k : ℕ) (i j : Instr) (is js : List Instr) (v n : ℕ) (m : Machine) (o : Result State) → js ≡ i ∷ is → j ≡ i → (eqb v 0 && eqb n 0) ≡ true → runFrom returns b s k js m ≡ o
-    → (q : Outcome Machine) → q ≡ then (halted v n m) (step returns j) → settle k q (λ x. runFrom returns b s (k + 1) is x) ≡ o
+pub block-next : (returns : ℕ) (b : Block) (k : ℕ) (i j : Instr) (is js : List Instr) (v n : ℕ) (m : Machine) (o : Result State) → js ≡ i ∷ is → j ≡ i → (eqb v 0 && eqb n 0) ≡ true → runFrom returns b k js m ≡ o
+    → (q : Outcome Machine) → q ≡ then (halted v n m) (step returns j) → settle k q (λ x. runFrom returns b (k + 1) is x) ≡ o
 unfolding runFrom
-block-next returns b s k i j is js v n m o l d e h q p =
-    ap (λ (a : ℕ). settle k q (λ x. runFrom returns b s a is x)) (add-one k)
-    ∙ ap (λ (x : Outcome Machine). settle k x (λ y. runFrom returns b s (suc k) is y)) (p ∙ sym (goes v n m (step returns j) e) ∙ ap (λ (x : Instr). step returns x m) d)
-    ∙ ap (λ (xs : List Instr). runFrom returns b s k xs m) (sym l)
+block-next returns b k i j is js v n m o l d e h q p =
+    ap (λ (a : ℕ). settle k q (λ x. runFrom returns b a is x)) (add-one k)
+    ∙ ap (λ (x : Outcome Machine). settle k x (λ y. runFrom returns b (suc k) is y)) (p ∙ sym (goes v n m (step returns j) e) ∙ ap (λ (x : Instr). step returns x m) d)
+    ∙ ap (λ (xs : List Instr). runFrom returns b k xs m) (sym l)
     ∙ h
 
 module _ (k v n : ℕ) (r : Running) (vs : List Operand) (f : Machine → Result State) (o : Result State) (h : settle k (halted v n (with vs r)) f ≡ o) where
@@ -90,28 +99,28 @@ module _ (k v n : ℕ) (r : Running) (vs : List Operand) (f : Machine → Result
       go true false z = absurd (true≢false (sym z))
       go false y z = absurd (true≢false (sym z))
 
-  pub block-stop : (eqb v 0 && eqb n 0) ≡ false → placed k (halted v n r) ≡ o
-  block-stop z = go (eqb v 0) (eqb n 0) z ∙ h
+  pub block-stop : (es : List ℕ) → (eqb v 0 && eqb n 0) ≡ false → placed es k (halted v n r) ≡ o
+  block-stop es z = go (eqb v 0) (eqb n 0) z ∙ h
     where
-      go : (x y : Bool) → (x && y) ≡ false → placed k (cond x (cond y (done r) (refused n)) (violated v)) ≡ settle k (cond x (cond y (done (with vs r)) (refused n)) (violated v)) f
+      go : (x y : Bool) → (x && y) ≡ false → placed es k (cond x (cond y (done r) (refused n)) (violated v)) ≡ settle k (cond x (cond y (done (with vs r)) (refused n)) (violated v)) f
       go true true z = absurd (true≢false z)
       go true false z = refl
       go false y z = refl
 
-pub block-end : (returns : ℕ) (b : Block) (s : State) (k n : ℕ) (is : List Instr) (m : Machine) (o : Result State) → n ≡ 0 → runFrom returns b s k (take n is) m ≡ o → finish b s (m .state) (m .stack) ≡ o
+pub block-end : (returns : ℕ) (b : Block) (k n : ℕ) (is : List Instr) (m : Machine) (o : Result State) → n ≡ 0 → runFrom returns b k (take n is) m ≡ o → finish b (m .state) (m .stack) ≡ o
 unfolding runFrom
-block-end returns b s k n is m o z h = ap (λ (j : ℕ). runFrom returns b s k (take j is) m) (sym z) ∙ h
+block-end returns b k n is m o z h = ap (λ (j : ℕ). runFrom returns b k (take j is) m) (sym z) ∙ h
 
 -- ---- the end
 
-module _ (entry exit n a c : ℕ) (s : State) (r : Running) (vs : List Operand) where
+module _ (entry exit n a c : ℕ) (r : Running) (vs : List Operand) where
   abbrev block : Block
   block = record { entry = entry; exit = exit; successors = take n (a ∷ c ∷ []) }
 
-  pub finish-left : (length vs ≡ 0 → ⊥) → Result.refused 14 exit ≡ finish block s r vs
+  pub finish-left : (length vs ≡ 0 → ⊥) → Result.refused 14 exit ≡ finish block r vs
   finish-left h = go vs h
     where
-      go : (ws : List Operand) → (length ws ≡ 0 → ⊥) → Result.refused 14 exit ≡ finish block s r ws
+      go : (ws : List Operand) → (length ws ≡ 0 → ⊥) → Result.refused 14 exit ≡ finish block r ws
       go [] h = absurd (h refl)
       go (w ∷ ws) h = refl
 
@@ -123,17 +132,22 @@ module _ (entry exit n a c : ℕ) (s : State) (r : Running) (vs : List Operand) 
         go [] e = refl
         go (w ∷ ws) e = absurd (omega arith)
 
-    pub finish-none : n ≡ 0 → Result.ended s ≡ finish block s r vs
-    finish-none e = sym (ap (λ (k : ℕ). finish (record { entry = entry; exit = exit; successors = take k (a ∷ c ∷ []) }) s r []) e) ∙ nothing (finish block s r)
-
-    pub finish-some : (n ≡ 0 → ⊥) → placed exit (canonicalEnd r) ≡ finish block s r vs
-    unfolding canonicalEnd
-    finish-some e = named (canonical (r .root) (record { locals = r .locals; graph = r .graph })) ∙ go n e ∙ nothing (finish block s r)
+    -- whatever state it ended in
+    pub finish-none : n ≡ 0 → placed (take n (a ∷ c ∷ [])) exit (done r) ≡ finish block r vs
+    finish-none e = go n e ∙ nothing (finish block r)
       where
-        named : (t : Ans State) → placed exit (then (lift t) (λ x. done (startMachine (r .root) x .state))) ≡ renamedEnd exit t
-        named (ok t) = refl
-        named (refuse k) = refl
+        go : (k : ℕ) → k ≡ 0 → placed (take k (a ∷ c ∷ [])) exit (done r) ≡ finish (record { entry = entry; exit = exit; successors = take k (a ∷ c ∷ []) }) r []
+        go zero e = refl
+        go (suc k) e = absurd (omega arith)
 
-        go : (k : ℕ) → (k ≡ 0 → ⊥) → renamedEnd exit (canonical (r .root) (record { locals = r .locals; graph = r .graph })) ≡ finish (record { entry = entry; exit = exit; successors = take k (a ∷ c ∷ []) }) s r []
+    pub finish-some : (n ≡ 0 → ⊥) → placed (take n (a ∷ c ∷ [])) exit (canonicalEnd r) ≡ finish block r vs
+    unfolding canonicalEnd
+    finish-some e = go n e ∙ nothing (finish block r)
+      where
+        named : (es : List ℕ) (t : Ans State) → placed (a ∷ es) exit (then (lift t) (λ x. done (startMachine (r .root) x .state))) ≡ renamedEnd exit t
+        named es (ok t) = refl
+        named es (refuse k) = refl
+
+        go : (k : ℕ) → (k ≡ 0 → ⊥) → placed (take k (a ∷ c ∷ [])) exit (canonicalEnd r) ≡ finish (record { entry = entry; exit = exit; successors = take k (a ∷ c ∷ []) }) r []
         go zero e = absurd (e refl)
-        go (suc k) e = refl
+        go (suc k) e = named (take k (c ∷ [])) (canonical (r .root) (record { locals = r .locals; graph = r .graph }))

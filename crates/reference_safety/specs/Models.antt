@@ -2,14 +2,14 @@
 use Prim.Native.Nat.{ℕ, _<_}
 use mathlib.Core.Path.{_≡_}
 use mathlib.Core.Bool.{true}
-use mathlib.Core.List.{List}
+use mathlib.Core.List.{List, [], _∷_}
 use lib.ListN.{set, replicate}
 use Rattle.meaning.specs.AbstractState.{State, Operand, nonRef}
 use Rattle.meaning.specs.Answers.{Outcome, done, violated, refused, then}
 use Rattle.meaning.specs.EntryPoints.{Running}
 use Rattle.meaning.specs.Steps as T
 use Rattle.meaning.specs.Steps.{Instr}
-use Rattle.meaning.specs.Loop.{Result}
+use Rattle.meaning.specs.Loop.{Result, Block}
 use Rattle.borrow_graph.specs.Models.{graphOf}
 use Rattle.abstract_state.specs.Models.{localsIn, halted, runningOf, outcomeOf}
 use Rattle.abstract_state.specs.declared.state.AbstractState.{AbstractState}
@@ -29,14 +29,20 @@ machineOf m = halted (m .state .violation) (m .state .refusal) (with (stackOf (m
 abbrev pub stateIn : ℕ → AbstractState → State
 stateIn l s = record { locals = localsIn (s .locals) l; graph = graphOf (s .«borrow_graph») }
 
--- an outcome at a place
-abbrev pub placed : ℕ → Outcome Running → Result State
-placed p (done r) = Result.ended (record { locals = r .locals; graph = r .graph })
-placed p (violated c) = Result.violated c p
-placed p (refused n) = Result.refused n p
+-- the end of a block with these successors: its state is for them
+abbrev pub endFor : List ℕ → Running → Result State
+endFor [] r = Result.returned
+endFor (e ∷ es) r = Result.ended (record { locals = r .locals; graph = r .graph })
 
-abbrev pub ranOf : Ran → Result State
-ranOf r = placed (r .place .0) (outcomeOf (r .state))
+-- an outcome at a place
+abbrev pub placed : List ℕ → ℕ → Outcome Running → Result State
+placed es p (done r) = endFor es r
+placed es p (violated c) = Result.violated c p
+placed es p (refused n) = Result.refused n p
+
+-- what a run of block b came to
+abbrev pub ranOf : Block → Ran → Result State
+ranOf b r = placed (b .successors) (r .place .0) (outcomeOf (r .state))
 
 -- ---- instructions on values alone
 

@@ -24,11 +24,12 @@ ghost use Rattle.meaning.specs.Answers.{then};
 ghost use Rattle.meaning.specs.Steps.{step};
 ghost use Rattle.meaning.specs.Blocks as Q;
 ghost use Rattle.listing.specs.Models.{decodedOf, blockOf, routineOf};
-ghost use Rattle.abstract_state.specs.Models.{runningOf, stateOf};
+ghost use Rattle.abstract_state.specs.Models.{runningOf};
 ghost use Rattle.operand_stack.specs.Models.{stackOf};
 ghost use Rattle.reference_safety.specs.Models.{machineOf, stateIn, ranOf};
 
-// A block's end: the state that stands for it, or the violation or refusal in that state's numbers, with its place.
+// A block's end: the state that its successors get, or the violation or refusal in that state's numbers, with its place. Without successors,
+// and beside a number, the rest of the state is free; the place is free where no number is.
 pub struct Ran {
     pub place: CodeOffset,
     pub state: AbstractState,
@@ -113,9 +114,9 @@ fn begin(state: AbstractState, locals: u8) -> AbstractState
 }
 
 // The end of a block whose instructions are done: 14, then, with successors, 16 or the names changed.
-fn finish(b: Block, first: AbstractState, m: Machine) -> Ran
-    requires { ⌜ (first .violation ≡ 0) × (first .refusal ≡ 0) × ((eqb (m .state .violation) 0 && eqb (m .state .refusal) 0) ≡ true) ⌝ }
-    ensures { λ r. ⌜ ranOf r ≡ Q.finish (blockOf b) (stateOf first) (runningOf (m .state)) (stackOf (m .stack)) ⌝ }
+fn finish(b: Block, m: Machine) -> Ran
+    requires { ⌜ (eqb (m .state .violation) 0 && eqb (m .state .refusal) 0) ≡ true ⌝ }
+    ensures { λ r. ⌜ ranOf (blockOf b) r ≡ Q.finish (blockOf b) (runningOf (m .state)) (stackOf (m .stack)) ⌝ }
 {
     let stack = m.stack;
     let state = m.state;
@@ -127,10 +128,7 @@ fn finish(b: Block, first: AbstractState, m: Machine) -> Ran
         };
     }
     if b.count == 0 {
-        return Ran {
-            place,
-            state: first,
-        };
+        return Ran { place, state };
     }
     Ran {
         place,
@@ -140,12 +138,11 @@ fn finish(b: Block, first: AbstractState, m: Machine) -> Ran
 
 // A state's locals are read as many as the routine has.
 pub fn run_block(listing: &[u8], routine: Routine, b: Block, state: AbstractState) -> Ran
-    ensures { λ r. ⌜ ranOf r ≡ Q.runBlock (routineOf (now (listing .entry)) routine) (blockOf b) (stateIn (routine .locals) state) ⌝ }
+    ensures { λ r. ⌜ ranOf (blockOf b) r ≡ Q.runBlock (routineOf (now (listing .entry)) routine) (blockOf b) (stateIn (routine .locals) state) ⌝ }
 {
-    let first = begin(state, routine.locals);
+    let mut state = begin(state, routine.locals);
     let n = code_len(routine);
     let end = lesser(n, past(b));
-    let mut state = first;
     let mut stack = empty();
     let mut k = b.entry.0 as usize;
     while k < end {
@@ -174,5 +171,5 @@ pub fn run_block(listing: &[u8], routine: Routine, b: Block, state: AbstractStat
             }
         }
     }
-    finish(b, first, Machine { state, stack })
+    finish(b, Machine { state, stack })
 }

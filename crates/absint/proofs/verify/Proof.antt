@@ -14,7 +14,11 @@ same-length : tie.Need-same-length
 same-length c = search needs
 
 returns : tie.Need-returns
-returns c = ((c .before .before .before .before .before .before .analyze) .ensures .0, (c .before .before .clear) .ensures ∙ cleared-left ((c .before .before .before .before .before .before .before .before .before .before .args) .listing .now) ((c .before .before .before .before .before .before .before .before .before .before .args) .area .now) _ ((c .before .before .before .before .before .before .analyze) .kept .1 .0) ((c .before .before .before .before .before .before .analyze) .ensures .1))
+returns c =
+    let clear = c .before .before .clear in
+    let analyze = c .before .before .before .before .before .before .analyze in
+    let args = c .before .before .before .before .before .before .before .before .before .before .args in
+    (analyze .ensures .0, clear .ensures ∙ cleared-left (args .listing .now) (args .area .now) _ (analyze .kept .1 .0) (analyze .ensures .1))
 
 pub verify-spec : {M : Type 1} → statement M
 verify-spec = tie.close (tie.spec analyze-requires clear-requires same-length returns)

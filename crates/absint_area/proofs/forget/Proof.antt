@@ -11,7 +11,7 @@ same-length : tie.Need-same-length
 same-length c = search needs
 
 returns : tie.Need-returns
-returns c = c .put-absent .ensures ∙ sym (forgotten-long _ (c .before .if1 .taken))
+returns c = c .before .before .put-absent .ensures ∙ sym (forgotten-long _ (c .before .before .before .before .if1 .taken))
 
 returns-2 : tie.Need-returns-2
 returns-2 c = sym (forgotten-short _ (c .if1 .left))

@@ -42,10 +42,18 @@ read-full-requires-2 : tie.Need-read-full-requires-2
 read-full-requires-2 c κs = search needs
 
 array-share-prefix-listing : tie.Need-array-share-prefix-listing
-array-share-prefix-listing c = whole (c .before .before .before .before .before .before .before .before .read-word .result) (c .before .before .before .before .before .before .before .large-buffer .result) (c .before .before .before .before .read-full .last .1 .0) (c .before .before .before .before .read-full .kept .1 .0) (omega (arith, c .before .before .before .before .before .before .before .large-buffer .ensures)) .0
+array-share-prefix-listing c =
+    let read-full = c .before .before .before .before .read-full in
+    let large-buffer = c .before .before .before .before .before .before .before .large-buffer in
+    let read-word = c .before .before .before .before .before .before .before .before .read-word in
+    whole (read-word .result) (large-buffer .result) (read-full .last .1 .0) (read-full .kept .1 .0) (omega (arith, large-buffer .ensures)) .0
 
 slice-aggregate-agrees : tie.Need-slice-aggregate-agrees
-slice-aggregate-agrees c = whole (c .before .before .before .before .before .before .before .before .before .read-word .result) (c .before .before .before .before .before .before .before .before .large-buffer .result) (c .before .before .before .before .before .read-full .last .1 .0) (c .before .before .before .before .before .read-full .kept .1 .0) (omega (arith, c .before .before .before .before .before .before .before .before .large-buffer .ensures)) .1
+slice-aggregate-agrees c =
+    let read-full = c .before .before .before .before .before .read-full in
+    let large-buffer = c .before .before .before .before .before .before .before .before .large-buffer in
+    let read-word = c .before .before .before .before .before .before .before .before .before .read-word in
+    whole (read-word .result) (large-buffer .result) (read-full .last .1 .0) (read-full .kept .1 .0) (omega (arith, large-buffer .ensures)) .1
 
 agrees-requires : tie.Need-agrees-requires
 agrees-requires c κs = search needs

@@ -56,10 +56,16 @@ count-requires : tie.Need-count-requires Inv-loop μ-loop
 count-requires c κs = tt
 
 same-length : tie.Need-same-length Inv-loop μ-loop
-same-length c = same (c .before .before .before .before .before .before .before .before .before .loop .done) (c .before .before .before .before .before .before .before .before .before .loop .buf) (c .before .before .before .before .before .before .read .last .1 .0) (c .before .before .before .before .before .before .read .kept .1 .0) ∙ c .before .before .before .before .before .before .before .before .before .loop .inv .1
+same-length c =
+    let read = c .before .before .before .before .before .before .read in
+    let loop = c .before .before .before .before .before .before .before .before .before .loop in
+    same (loop .done) (loop .buf) (read .last .1 .0) (read .kept .1 .0) ∙ loop .inv .1
 
 returns : tie.Need-returns Inv-loop μ-loop
-returns c = here (c .before .before .before .before .before .before .before .before .before .loop .done) (c .before .before .before .before .before .before .before .before .before .loop .buf) (c .before .before .before .before .before .before .read .last .1 .0) (c .before .before .before .before .before .before .read .kept .1 .0) (c .before .before .before .before .before .before .before .before .before .loop .inv .0)
+returns c =
+    let read = c .before .before .before .before .before .before .read in
+    let loop = c .before .before .before .before .before .before .before .before .before .loop in
+    here (loop .done) (loop .buf) (read .last .1 .0) (read .kept .1 .0) (loop .inv .0)
 
 add-done : tie.Need-add-done Inv-loop μ-loop
 add-done c = omega arith

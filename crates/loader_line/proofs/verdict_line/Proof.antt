@@ -59,13 +59,19 @@ returns c =
 
 returns-2 : tie.Need-returns-2
 returns-2 c =
-    let word = c .before .before .put2 .ensures .0 ∙ ap (λ (t : List ℕ). t ++ violated) (c .before .before .before .before .no-text2 .ensures .0) in
-    (c .put-numbers .ensures .0 ∙ ap (λ (t : List ℕ). t ++ numbersOf (c .before .before .before .before .before .before .ruling .given .0 .0) (c .before .before .before .before .before .before .ruling .given .0 .1 .0 .0)) word ∙ ap verdictLine (sym (ap rulingOf (c .before .before .before .before .before .before .ruling .given .1))), c .put-numbers .ensures .1)
+    let put2 = c .before .before .put2 in
+    let no-text2 = c .before .before .before .before .no-text2 in
+    let ruling = c .before .before .before .before .before .before .ruling in
+    let word = put2 .ensures .0 ∙ ap (λ (t : List ℕ). t ++ violated) (no-text2 .ensures .0) in
+    (c .put-numbers .ensures .0 ∙ ap (λ (t : List ℕ). t ++ numbersOf (ruling .given .0 .0) (ruling .given .0 .1 .0 .0)) word ∙ ap verdictLine (sym (ap rulingOf (ruling .given .1))), c .put-numbers .ensures .1)
 
 returns-3 : tie.Need-returns-3
 returns-3 c =
-    let word = c .before .put3 .ensures .0 ∙ ap (λ (t : List ℕ). t ++ refused) (c .before .before .before .no-text3 .ensures .0) in
-    (c .put-numbers2 .ensures .0 ∙ ap (λ (t : List ℕ). t ++ numbersOf (c .before .before .before .before .before .ruling2 .given .0 .0) (c .before .before .before .before .before .ruling2 .given .0 .1 .0)) word ∙ ap verdictLine (sym (ap rulingOf (c .before .before .before .before .before .ruling2 .given .1))), c .put-numbers2 .ensures .1)
+    let put3 = c .before .put3 in
+    let no-text3 = c .before .before .before .no-text3 in
+    let ruling2 = c .before .before .before .before .before .ruling2 in
+    let word = put3 .ensures .0 ∙ ap (λ (t : List ℕ). t ++ refused) (no-text3 .ensures .0) in
+    (c .put-numbers2 .ensures .0 ∙ ap (λ (t : List ℕ). t ++ numbersOf (ruling2 .given .0 .0) (ruling2 .given .0 .1 .0)) word ∙ ap verdictLine (sym (ap rulingOf (ruling2 .given .1))), c .put-numbers2 .ensures .1)
 
 pub verdict-line-spec : {M : Type 1} → statement M
 verdict-line-spec =

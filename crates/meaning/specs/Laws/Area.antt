@@ -1,7 +1,7 @@
 -- Words written one by one, and what is read where they were written.
 use Prim.Native.Nat.{ℕ, zero, suc, _+_, _<_, min, _≤_, _/_, _%_, _*_, _-_}
 use native.Mathlib.Omega.{arith}
-use mathlib.Core.Bool.{Bool, true, false, cond, not, _&&_}
+use mathlib.Core.Bool.{Bool, true, false, cond, not}
 use mathlib.Core.List.{List, [], _∷_, _++_, map}
 use mathlib.Core.Logic.{_≢_}
 use mathlib.Core.Option.{none, some, Option}

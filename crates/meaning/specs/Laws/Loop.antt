@@ -14,6 +14,22 @@ use Rattle.meaning.specs.Answers.{Ans, ok, refuse}
 use Rattle.meaning.specs.Loop.{Result, ended, returned, violated, refused, Block, Status, fine, failed, Slot, Next, at, stopped, Run, visits, Propagation, position, noBlock, blank, afterChange, afterJoin, toKept, toSuccessor, propagate, mark, afterBlock, visitBlock, turnAt, turn, turns, startSlots, run, endedAt, hasEnded}
 use Rattle.meaning.specs.Laws.Base.{decide, not-true, eqb-eq, eqb-ne, leb-le, leb-gt}
 
+-- a pass over b blocks, and one more for each change of a kept state
+abbrev pub passes : ℕ → ℕ → ℕ
+passes b cap = b * (1 + b * cap)
+
+-- What holds of the runs from s, whatever their budget f. Form: what every kept state has; cap: the most that one is changed.
+pub record Bounds (St : Type 0) (join : St → St → Ans St) (changed : St → St → Bool) (exec : ℕ → St → Result St) (blocks : List Block) (Form : St → Type 0) (cap : ℕ) (s : St) : Type 0 where
+  pub few-visits : (f : ℕ) → visits (run St join changed exec blocks f s) ≤ passes (length blocks) cap
+  pub few-changes : (f j : ℕ) → getD (run St join changed exec blocks f s .slots) j blank .changes ≤ cap
+  pub forms : (f j : ℕ) (k : St) → getD (run St join changed exec blocks f s .slots) j blank .kept ≡ some k → Form k
+  -- with a budget of that many turns, or any larger one, the run ends by itself,
+  pub ends : (f : ℕ) → passes (length blocks) cap ≤ f → hasEnded St join changed exec blocks (run St join changed exec blocks f s) ≡ true
+  -- and is the same run: the same kept states, statuses, counts, visits, and the same end
+  pub same : (f : ℕ) → passes (length blocks) cap ≤ f → run St join changed exec blocks f s ≡ run St join changed exec blocks (passes (length blocks) cap) s
+  -- a run that has ended is the whole run
+  pub settled : (f : ℕ) → hasEnded St join changed exec blocks (run St join changed exec blocks f s) ≡ true → run St join changed exec blocks f s ≡ run St join changed exec blocks (passes (length blocks) cap) s
+
 module _ (St : Type 0) (join : St → St → Ans St) (changed : St → St → Bool) (exec : ℕ → St → Result St) (blocks : List Block)
     (Form : St → Type 0) (rank : St → ℕ) (cap : ℕ)
     (rank-cap : (s : St) → rank s ≤ cap)
@@ -243,7 +259,7 @@ module _ (St : Type 0) (join : St → St → Ans St) (changed : St → St → Bo
   unfolding turn
   step-still r e = still-at r (r .next) e
 
-  pub steps-still : (f : ℕ) (r : Run St) → hasEnded St join changed exec blocks r ≡ true → turns St join changed exec blocks f r ≡ r
+  steps-still : (f : ℕ) (r : Run St) → hasEnded St join changed exec blocks r ≡ true → turns St join changed exec blocks f r ≡ r
   unfolding turns
   steps-still zero r e = refl
   steps-still (suc f) r e = ap (turns St join changed exec blocks f) (step-still r e) ∙ steps-still f r e
@@ -313,9 +329,8 @@ module _ (St : Type 0) (join : St → St → Ans St) (changed : St → St → Bo
   length-start [] s = refl
   length-start (b ∷ bs) s = ap suc (length-map bs (λ c. blank))
 
-  -- the most visits: a pass over the blocks, and one more for each change
-  unfoldable pub most : ℕ
-  most = size * (1 + size * cap)
+  unfoldable most : ℕ
+  most = passes size cap
 
   start : St → Run St
   unfolding startSlots
@@ -333,45 +348,34 @@ module _ (St : Type 0) (join : St → St → Ans St) (changed : St → St → Bo
       le-of-both : (x y z : ℕ) → x ≤ y → y ≡ z → x ≤ z
       le-of-both x y z p q = omega arith
 
-  -- A run makes at most B (1 + B K) visits, whatever its budget.
-  pub run-visits : (f : ℕ) (s : St) → Form s → visits (run St join changed exec blocks f s) ≤ most
-  unfolding run start
-  run-visits f s fs =
-      let h : pot (start s) ≤ most = start-pot s in
-      let b : Bounded most (turns St join changed exec blocks f (start s)) =
-      steps-bounded f (start s) most (record { okay = start-ok blocks s fs; sum = omega arith }) in
-      let c : visits (turns St join changed exec blocks f (start s)) + pot (turns St join changed exec blocks f (start s)) ≤ most = b .sum in
-      omega arith
+  module _ (s : St) (fs : Form s) where
+    first-pot : pot (start s) ≤ most
+    first-pot = start-pot s
 
-  -- No kept state is changed more than K times.
-  pub run-changes : (f : ℕ) (s : St) → Form s → (j : ℕ) → getD (run St join changed exec blocks f s .slots) j blank .changes ≤ cap
-  unfolding run start
-  run-changes f s fs j =
-      let h : pot (start s) ≤ most = start-pot s in
-      let b : Bounded most (turns St join changed exec blocks f (start s)) =
-      steps-bounded f (start s) most (record { okay = start-ok blocks s fs; sum = omega arith }) in
-      let c : getD (turns St join changed exec blocks f (start s) .slots) j blank .changes + left (getD (turns St join changed exec blocks f (start s) .slots) j blank .kept) ≤ cap = b .okay j .spent in
-      omega arith
+    bounded : (f : ℕ) → Bounded most (turns St join changed exec blocks f (start s))
+    unfolding start
+    bounded f = steps-bounded f (start s) most (record { okay = start-ok blocks s fs; sum = omega (arith, first-pot) })
 
-  -- Every kept state has the form.
-  pub run-form : (f : ℕ) (s : St) → Form s → (j : ℕ) (k : St) → getD (run St join changed exec blocks f s .slots) j blank .kept ≡ some k → Form k
-  unfolding run start
-  run-form f s fs j k e =
-      let h : pot (start s) ≤ most = start-pot s in
-      let b : Bounded most (turns St join changed exec blocks f (start s)) =
-      steps-bounded f (start s) most (record { okay = start-ok blocks s fs; sum = omega arith }) in
-      subst KeptOk e (b .okay j .form)
+    run-ends : (f : ℕ) → most ≤ f → hasEnded St join changed exec blocks (turns St join changed exec blocks f (start s)) ≡ true
+    unfolding start
+    run-ends f h = steps-end f (start s) (start-ok blocks s fs) (omega (arith, first-pot, h))
 
-  -- With a budget of that many steps, or any larger one, it ends by itself,
-  pub run-ends : (f : ℕ) (s : St) → Form s → most ≤ f → hasEnded St join changed exec blocks (run St join changed exec blocks f s) ≡ true
-  unfolding run start
-  run-ends f s fs h = let k : pot (start s) ≤ most = start-pot s in steps-end f (start s) (start-ok blocks s fs) (omega arith)
+    run-same : (f : ℕ) → most ≤ f → turns St join changed exec blocks f (start s) ≡ turns St join changed exec blocks most (start s)
+    run-same f h =
+        ap (λ (n : ℕ). turns St join changed exec blocks n (start s)) (sym (add-sub-of-le h))
+        ∙ steps-add most (f - most) (start s)
+        ∙ steps-still (f - most) (turns St join changed exec blocks most (start s)) (run-ends most (le-refl most))
 
-  -- and is the same run: the same kept states, statuses, counts, visits, and the same end.
-  pub run-same : (f : ℕ) (s : St) → Form s → most ≤ f → run St join changed exec blocks f s ≡ run St join changed exec blocks most s
-  unfolding run start
-  run-same f s fs h =
-      let k : pot (start s) ≤ most = start-pot s in
-      ap (λ (n : ℕ). turns St join changed exec blocks n (start s)) (sym (add-sub-of-le h))
-      ∙ steps-add most (f - most) (start s)
-      ∙ steps-still (f - most) (turns St join changed exec blocks most (start s)) (steps-end most (start s) (start-ok blocks s fs) k)
+    run-settled : (f : ℕ) → hasEnded St join changed exec blocks (turns St join changed exec blocks f (start s)) ≡ true → turns St join changed exec blocks f (start s) ≡ turns St join changed exec blocks most (start s)
+    run-settled f e = sym (steps-still most (turns St join changed exec blocks f (start s)) e) ∙ sym (steps-add f most (start s)) ∙ run-same (f + most) (omega arith)
+
+    pub bounds : Bounds St join changed exec blocks Form cap s
+    unfolding run start most
+    bounds = record {
+      few-visits = λ f. omega (arith, bounded f .sum);
+      few-changes = λ f j. omega (arith, bounded f .okay j .spent);
+      forms = λ f j k e. subst KeptOk e (bounded f .okay j .form);
+      ends = run-ends;
+      same = run-same;
+      settled = run-settled;
+    }

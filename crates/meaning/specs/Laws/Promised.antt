@@ -3,6 +3,7 @@ use mathlib.Core.Bool.{Bool, true, not, _&&_, _||_}
 use mathlib.Core.List.{List, [], _∷_}
 use lib.Dec.{leb, ltb}
 use lib.ListN.{length}
+use Rattle.meaning.specs.Limits.{maxLocals, maxReturns, maxInstructions}
 use Rattle.meaning.specs.Lists.{empty, all}
 use Rattle.meaning.specs.Steps.{Instr, Pop, CopyLoc, MoveLoc, StLoc, FreezeRef, Compare, ReadRef, WriteRef, BorrowLoc, BorrowField, BorrowGlobal, MoveFrom, Call, Ret, Values, MoveTo, VectorOp, BorrowElement, isRet}
 use Rattle.meaning.specs.Blocks.{Routine, instrsOf}
@@ -22,7 +23,7 @@ withinFrame l (BorrowLoc a b) = true
 withinFrame l (BorrowField a b) = true
 withinFrame l (BorrowGlobal a b) = true
 withinFrame l (MoveFrom a) = true
-withinFrame l (Call a b c) = leb (length c) 8
+withinFrame l (Call a b c) = leb (length c) maxReturns
 withinFrame l Ret = true
 withinFrame l (Values a b c) = true
 withinFrame l MoveTo = true
@@ -37,6 +38,6 @@ retsPlaced es (i ∷ is) = (not (isRet i) || (empty is && empty es)) && retsPlac
 unfoldable pub promised : Routine → Bool
 unfolding retsPlaced instrsOf
 promised q =
-    (leb (q .locals) 16 && leb (length (q .code)) 512)
+    (leb (q .locals) maxLocals && leb (length (q .code)) maxInstructions)
     && (all (withinFrame (q .locals)) (q .code)
     && all (λ b. retsPlaced (b .successors) (instrsOf b (q .code))) (q .blocks))

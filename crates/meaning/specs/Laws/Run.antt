@@ -1,5 +1,5 @@
 -- The run of a routine: the bounds of demand 3 with no hypothesis but the reader's promise, and no refusal 8, 9 or 23.
-use Prim.Native.Nat.{ℕ, zero, suc, _+_, _≤_, _<_, zero-le}
+use Prim.Native.Nat.{ℕ, zero, suc, _≤_, _<_, zero-le}
 use native.Mathlib.Omega.{arith}
 use mathlib.Core.Bool.{Bool, true, false, _&&_, cond, true≢false}
 use mathlib.Core.List.{List, [], _∷_, map}
@@ -25,6 +25,7 @@ use Rattle.meaning.specs.Laws.Join.{Sure, sure, unsure, join-sure, join-
 use Rattle.meaning.specs.Laws.Listing.{accepted-promised}
 use Rattle.meaning.specs.Laws.Promised.{promised, withinFrame, retsPlaced}
 use Rattle.meaning.specs.Laws.State.{rank, rank-le, join-law, change-lt}
+use Rattle.meaning.specs.Laws.Loop.{Bounds}
 use Rattle.meaning.specs.Laws.Loop as Laws
 
 -- ---- `ordinary` says what it is to say: a number other than 8, 9 and 23
@@ -63,47 +64,29 @@ module _ (q : Routine) (p : promised q ≡ true) where
   abbrev most : ℕ
   most = mostVisits (length blocks) l
 
+  bounds : Bounds State join changed (exec q) blocks (Strong l) (mostChanges l) (firstState l ts)
+  bounds =
+      Laws.bounds State join changed (exec q) blocks (Strong l) (rank l) (mostChanges l) (rank-le l)
+      (join-strong l) (λ s o t e fs fo. change-lt l s o t (join-law s o t e) (fs .form) (fo .form)) (exec-keeps q p) (firstState l ts) (first-strong l ts small)
+
   pub visits-bound : (f : ℕ) → visits (runWith q f) ≤ most
-  unfolding Laws.most
-  visits-bound f =
-      Laws.run-visits State join changed (exec q) blocks (Strong l) (rank l) (mostChanges l) (rank-le l)
-      (join-strong l) (λ s o t e fs fo. change-lt l s o t (join-law s o t e) (fs .form) (fo .form)) (exec-keeps q p) f (firstState l ts) (first-strong l ts small)
+  visits-bound = bounds .few-visits
 
   pub run-changes-bound : (f j : ℕ) → getD (runWith q f .slots) j blank .changes ≤ mostChanges l
-  run-changes-bound f =
-      Laws.run-changes State join changed (exec q) blocks (Strong l) (rank l) (mostChanges l) (rank-le l)
-      (join-strong l) (λ s o t e fs fo. change-lt l s o t (join-law s o t e) (fs .form) (fo .form)) (exec-keeps q p) f (firstState l ts) (first-strong l ts small)
+  run-changes-bound = bounds .few-changes
 
   pub kept-strong : (f j : ℕ) (k : State) → getD (runWith q f .slots) j blank .kept ≡ some k → Strong l k
-  kept-strong f =
-      Laws.run-form State join changed (exec q) blocks (Strong l) (rank l) (mostChanges l) (rank-le l)
-      (join-strong l) (λ s o t e fs fo. change-lt l s o t (join-law s o t e) (fs .form) (fo .form)) (exec-keeps q p) f (firstState l ts) (first-strong l ts small)
+  kept-strong = bounds .forms
 
   pub ends-itself : (f : ℕ) → most ≤ f → hasEnded State join changed (exec q) blocks (runWith q f) ≡ true
-  unfolding Laws.most
-  ends-itself f =
-      Laws.run-ends State join changed (exec q) blocks (Strong l) (rank l) (mostChanges l) (rank-le l)
-      (join-strong l) (λ s o t e fs fo. change-lt l s o t (join-law s o t e) (fs .form) (fo .form)) (exec-keeps q p) f (firstState l ts) (first-strong l ts small)
+  ends-itself = bounds .ends
 
   pub same-run : (f : ℕ) → most ≤ f → runWith q f ≡ runWith q most
-  unfolding Laws.most
-  same-run f =
-      Laws.run-same State join changed (exec q) blocks (Strong l) (rank l) (mostChanges l) (rank-le l)
-      (join-strong l) (λ s o t e fs fo. change-lt l s o t (join-law s o t e) (fs .form) (fo .form)) (exec-keeps q p) f (firstState l ts) (first-strong l ts small)
-
-  steps-add : (k f : ℕ) (r : Run State) → turns State join changed (exec q) blocks (k + f) r ≡ turns State join changed (exec q) blocks f (turns State join changed (exec q) blocks k r)
-  unfolding turns
-  steps-add zero f r = let z : 0 + f ≡ f = omega arith in ap (λ (n : ℕ). turns State join changed (exec q) blocks n r) z
-  steps-add (suc k) f r = let z : suc k + f ≡ suc (k + f) = omega arith in ap (λ (n : ℕ). turns State join changed (exec q) blocks n r) z ∙ steps-add k f (turn State join changed (exec q) blocks r)
+  same-run = bounds .same
 
   -- a run that has ended is the whole run, and one that has not has made fewer steps than the bound
-  pub settled : (k : ℕ) → hasEnded State join changed (exec q) blocks (runWith q k) ≡ true → runWith q k ≡ runWith q most
-  unfolding run
-  settled k e =
-      let r : Run State = record { slots = startSlots State join changed (exec q) blocks blocks (firstState l ts); next = at 0; trail = [] } in
-      sym (Laws.steps-still State join changed (exec q) blocks (Strong l) (rank l) (mostChanges l) (rank-le l) (join-strong l) (λ s o t e fs fo. change-lt l s o t (join-law s o t e) (fs .form) (fo .form)) (exec-keeps q p) most (runWith q k) e)
-      ∙ sym (steps-add k most r)
-      ∙ same-run (k + most) (omega arith)
+  pub settled : (f : ℕ) → hasEnded State join changed (exec q) blocks (runWith q f) ≡ true → runWith q f ≡ runWith q most
+  settled = bounds .settled
 
   pub unsettled : (k : ℕ) → hasEnded State join changed (exec q) blocks (runWith q k) ≡ false → k < most
   unsettled k e = decide (leb most k) (λ h. absurd (true≢false (sym (ends-itself k (leb-le h)) ∙ e))) (λ h. leb-gt h)

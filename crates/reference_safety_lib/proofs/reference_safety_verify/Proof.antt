@@ -19,7 +19,10 @@ verify-requires : tie.Need-verify-requires
 verify-requires c κs = search needs
 
 verdict-words-requires : tie.Need-verdict-words-requires
-verdict-words-requires c κs = subst (λ (a : Answered). Low (a .verdict)) (sym (c .before .before .verify .ensures .0)) (low-answer (length (c .before .before .before .before .before .before .before .before .args .area .now)) (c .before .before .before .before .before .before .before .before .args .listing .now))
+verdict-words-requires c κs =
+    let checked = c .before .before .verify in
+    let args = c .before .before .before .before .before .before .before .before .args in
+    subst (λ (a : Answered). Low (a .verdict)) (sym (checked .ensures .0)) (low-answer (length (args .area .now)) (args .listing .now))
 
 put-words-requires : tie.Need-put-words-requires
 put-words-requires c κs = search needs
@@ -32,10 +35,14 @@ same-length-2 c = search needs
 
 returns-2 : tie.Need-returns-2
 returns-2 c =
-    let v = c .before .before .before .before .before .before .before .verify .ensures in
-    let words = c .before .before .before .before .verdict-words .ensures ∙ ap wordsOf (v .0) in
-    let put = c .before .before .put-words .ensures ∙ ap (λ (xs : List ℕ). putWords xs (c .before .before .before .before .before .before .before .before .before .before .before .before .before .args .answer .now)) words in
-    room (verify (length (c .before .before .before .before .before .before .before .before .before .before .before .before .before .args .area .now)) (c .before .before .before .before .before .before .before .before .before .before .before .before .before .args .listing .now)) (c .before .before .before .before .before .before .before .before .before .before .before .before .before .args .answer .now) (c .before .before .before .before .before .before .before .before .before .before .before .before .before .args .area .now) _ _ (omega arith) put (v .1)
+    let put-words = c .before .before .put-words in
+    let verdict-words = c .before .before .before .before .verdict-words in
+    let checked = c .before .before .before .before .before .before .before .verify in
+    let args = c .before .before .before .before .before .before .before .before .before .before .before .before .before .args in
+    let v = checked .ensures in
+    let words = verdict-words .ensures ∙ ap wordsOf (v .0) in
+    let put = put-words .ensures ∙ ap (λ (xs : List ℕ). putWords xs (args .answer .now)) words in
+    room (verify (length (args .area .now)) (args .listing .now)) (args .answer .now) (args .area .now) _ _ (omega arith) put (v .1)
 
 pub reference-safety-verify-spec : {M : Type 1} → statement M
 reference-safety-verify-spec =

@@ -43,7 +43,11 @@ cast-c : tie.Need-cast-c
 cast-c c = search needs
 
 returns : tie.Need-returns
-returns c = edge-read (wordAt (c .before .before .before .before .before .args .ws .now)) (c .before .before .before .before .before .args .at) _ (c .get-path .ensures ∙ ap (λ (k : ℕ). upTo k (λ i. labelIn (getD (c .before .before .before .before .before .args .ws .now) (c .before .before .before .before .before .args .at + 2 + i) 0))) (c .before .lesser .ensures))
+returns c =
+    let lesser = c .before .lesser in
+    let args = c .before .before .before .before .before .args in
+    edge-read (wordAt (args .ws .now)) (args .at) _
+    (c .get-path .ensures ∙ ap (λ (k : ℕ). upTo k (λ i. labelIn (getD (args .ws .now) (args .at + 2 + i) 0))) (lesser .ensures))
 
 pub get-edge-spec : {M : Type 1} → statement M
 get-edge-spec =

@@ -48,8 +48,11 @@ loop-again c = (omega arith, c .before .before .loop .inv .1, c .before .before 
 
 returns : tie.Need-returns Inv-loop μ-loop
 returns c =
-    let a = c .before .loop .inv .1 in
-    let e = edges-filled (λ j. edgeIn (wordAt (c .before .before .before .args .ws .now)) (c .before .before .before .args .at + 10 * j)) (c .before .loop .g .edges) (c .before .loop .g .len) (c .before .before .before .args .n) (c .before .loop .i) (c .before .loop .inv .2) (omega arith) (omega arith) (c .before .loop .inv .3) in
+    let loop = c .before .loop in
+    let args = c .before .before .before .args in
+    let a = loop .inv .1 in
+    let e = edges-filled (λ j. edgeIn (wordAt (args .ws .now)) (args .at + 10 * j)) (loop .g .edges) (loop .g .len) (args .n) (loop .i) (loop .inv .2)
+    (omega arith) (omega arith) (loop .inv .3) in
     λ j. record { names = refsOf (a j); edges = e j }
 
 pub get-graph-spec : {M : Type 1} → statement M

@@ -68,9 +68,16 @@ state-at-requires c κs = search needs
 
 returns : tie.Need-returns
 returns c =
-    let ws = c .before .before .before .before .before .before .before .before .before .before .args .ws .now in (
-      ap (λ (x : State). cond (not (eqb (getD ws (c .before .before .before .before .before .before .before .before .before .before .args .at) 0 / 262144) 0)) (some x) none) (state-parts (c .state-at .ensures .0) (c .before .before .before .get-locals .ensures) (c .before .get-graph .ensures) (c .before .before .get-refs .ensures))
-          ∙ kept-read (c .before .before .before .before .before .before .before .before .before .before .args .num-locals) (c .before .before .before .before .before .before .before .before .before .before .args .at) (c .before .before .before .before .before .before .lesser .result) (c .before .before .before .before .lesser2 .result) ws (c .before .before .before .before .before .before .lesser .ensures) (c .before .before .before .before .lesser2 .ensures),
+    let get-graph = c .before .get-graph in
+    let get-refs = c .before .before .get-refs in
+    let get-locals = c .before .before .before .get-locals in
+    let lesser2 = c .before .before .before .before .lesser2 in
+    let lesser = c .before .before .before .before .before .before .lesser in
+    let args = c .before .before .before .before .before .before .before .before .before .before .args in
+    let ws = args .ws .now in (
+      ap (λ (x : State). cond (not (eqb (getD ws (args .at) 0 / 262144) 0)) (some x) none)
+      (state-parts (c .state-at .ensures .0) (get-locals .ensures) (get-graph .ensures) (get-refs .ensures))
+          ∙ kept-read (args .num-locals) (args .at) (lesser .result) (lesser2 .result) ws (lesser .ensures) (lesser2 .ensures),
       c .state-at .ensures .1,
     )
 

@@ -51,7 +51,10 @@ loop-less : tie.Need-loop-less Inv-loop μ-loop
 loop-less c = omega arith
 
 loop-again : tie.Need-loop-again Inv-loop μ-loop
-loop-again c = (omega arith, labels-one _ ((c .before .before .loop) .i) ((c .before .before .loop) .kinds) ((c .before .before .loop) .unit) (getD ((c .before .before .before .args) .ws .now) ((c .before .before .before .args) .at + (c .before .before .loop) .i) 0) ((c .before .before .loop) .labels) (omega arith) refl ((c .before .before .loop) .inv .1))
+loop-again c =
+    let loop = c .before .before .loop in
+    let args = c .before .before .before .args in
+    (omega arith, labels-one _ (loop .i) (loop .kinds) (loop .unit) (getD (args .ws .now) (args .at + loop .i) 0) (loop .labels) (omega arith) refl (loop .inv .1))
 
 cast-t20 : tie.Need-cast-t20 Inv-loop μ-loop
 cast-t20 c = omega (arith, (c .before .loop) .inv .1 .few, (c .before .loop) .inv .1 .unit-is, unit-le ((c .before .loop) .i) (omega arith))

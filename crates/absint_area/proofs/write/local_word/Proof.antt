@@ -20,7 +20,11 @@ enum-told : tie.Need-enum-told
 enum-told c = search needs
 
 returns : tie.Need-returns
-returns c = (omega arith, λ n. local-word (131072 + (c .before .before .v .given .0 .0 .0) + n * 262144) 2 (c .before .before .v .given .0 .0 .0) (omega arith) (omega arith) ∙ sym (local-present (c .before .before .before .before .before .args .x) _ (c .before .before .before .before .if1 .taken) (c .before .before .v .given .1)))
+returns c =
+    let v = c .before .before .v in
+    let if1 = c .before .before .before .before .if1 in
+    let args = c .before .before .before .before .before .args in
+    (omega arith, λ n. local-word (131072 + (v .given .0 .0 .0) + n * 262144) 2 (v .given .0 .0 .0) (omega arith) (omega arith) ∙ sym (local-present (args .x) _ (if1 .taken) (v .given .1)))
 
 returns-2 : tie.Need-returns-2
 returns-2 c = (omega arith, λ n. local-word (65536 + n * 262144) 1 0 (omega arith) (omega arith) ∙ sym (local-present (c .before .before .before .args .x) _ (c .before .before .if1 .taken) (c .enum-told .given .1)))

@@ -1,8 +1,9 @@
-use Prim.Native.Nat.{ℕ, _-_, _≤_}
+use Prim.Native.Nat.{_-_, _≤_}
 use mathlib.Core.Path.{_≡_, refl, ap, _∙_}
 use lib.ListN.{length}
 use Rattle.meaning.specs.Area.{unkept}
 use Rattle.meaning.specs.Laws.Area.{unkept-length, unkept-one}
+use Rattle.absint_area.specs.ModelLaws.{unkept-all}
 use native.Mathlib.Omega.{arith}
 use Rattle.absint_area.proofs.write.put_absent.Statement.{statement}
 use Rattle.absint_area.proofs.write.put_absent.Tie as tie
@@ -39,7 +40,7 @@ same-length : tie.Need-same-length Inv-loop μ-loop
 same-length c = ap length ((c .before .loop) .inv .1) ∙ unkept-length ((c .before .loop) .b) _
 
 returns : tie.Need-returns Inv-loop μ-loop
-returns c = let n : (c .before .loop) .b ≡ 16 = omega arith in (c .before .loop) .inv .1 ∙ ap (λ (k : ℕ). unkept k _) n
+returns c = unkept-all (c .before .loop .b) _ (c .before .loop .ws) (omega arith) (c .before .loop .inv .1)
 
 pub put-absent-spec : {M : Type 1} → statement M
 put-absent-spec =

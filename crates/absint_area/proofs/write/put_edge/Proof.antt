@@ -74,13 +74,18 @@ same-length c = c .before .before .put-labels .ensures .frame .size ∙ simp len
 returns : tie.Need-returns
 returns c =
     let x = c .before .before .before .before .before .before .before .before .before .before .before .before .before .before .before .before .args .x in
-    let u : ℕ = x .parent .0 * 65536 + x .child .0 in
-    let v : ℕ = c .before .before .before .before .before .before .before .bit-of .result * 32 + c .before .before .before .before .before .before .bit-of2 .result * 16 + c .before .before .before .before .before .before .before .before .lesser .result in
-    let f = labelAt (x .edge .path .kinds) (x .edge .path .labels) in
     let h : length (x .edge .path .labels) ≡ 8 = search needs in
-    let d = path-made (x .edge .path) (c .before .before .before .before .before .before .before .before .lesser .result) h (c .before .before .before .before .before .before .before .before .lesser .ensures) in (
-      edge-frame (c .before .before .before .before .before .before .before .before .before .before .before .before .before .before .before .before .args .ws .now) _ (c .before .before .before .before .before .before .before .before .before .before .before .before .before .before .before .before .args .at) u v (c .before .before .before .before .before .before .before .before .lesser .result) f (omega arith) (omega arith) (c .before .before .put-labels .ensures),
-      edge-put (c .before .before .before .before .before .before .before .before .before .before .before .before .before .before .before .before .args .ws .now) _ (c .before .before .before .before .before .before .before .before .before .before .before .before .before .before .before .before .args .at) u v (c .before .before .before .before .before .before .before .before .lesser .result) f (omega arith) (omega arith) (c .before .before .put-labels .ensures) (x .parent .0) (x .child .0) (x .blurred) (x .edge .strong) refl (omega arith) (omega arith)
+    let ws = c .before .before .before .before .before .before .before .before .before .before .before .before .before .before .before .before .args .ws .now in
+    let at = c .before .before .before .before .before .before .before .before .before .before .before .before .before .before .before .before .args .at in
+    let lesser = c .before .before .before .before .before .before .before .before .lesser in
+    let put = c .before .before .put-labels .ensures in
+    let n = lesser .result in
+    let u : ℕ = x .parent .0 * 65536 + x .child .0 in
+    let v : ℕ = c .before .before .before .before .before .before .before .bit-of .result * 32 + c .before .before .before .before .before .before .bit-of2 .result * 16 + n in
+    let f = labelAt (x .edge .path .kinds) (x .edge .path .labels) in
+    let d = path-made (x .edge .path) n h (lesser .ensures) in (
+      edge-frame ws _ at u v n f (omega arith) (omega arith) put,
+      edge-put ws _ at u v n f (omega arith) (omega arith) put (x .parent .0) (x .child .0) (x .blurred) (x .edge .strong) refl (omega arith) (omega arith)
           ∙ (λ i. record { parent = x .parent .0; child = x .child .0; blurred = x .blurred; edge = record { strong = x .edge .strong; path = d i } }),
     )
 

@@ -50,7 +50,10 @@ loop-less : tie.Need-loop-less Inv-loop μ-loop
 loop-less c = omega arith
 
 loop-again : tie.Need-loop-again Inv-loop μ-loop
-loop-again c = (omega arith, written-one _ _ _ _ (c .before .before .before .before .loop .i) _ (c .before .before .before .before .loop .ws) (omega arith) (omega (arith, c .before .before .before .before .loop .inv .1 .frame .size)) (c .local-word .ensures .1 (c .before .above-local .result), omega (arith, c .local-word .ensures .0, c .before .above-local .ensures .0)) (c .before .before .before .before .loop .inv .1))
+loop-again c =
+    let above-local = c .before .above-local in
+    let loop = c .before .before .before .before .loop in
+    (omega arith, written-one _ _ _ _ (loop .i) _ (loop .ws) (omega arith) (omega (arith, loop .inv .1 .frame .size)) (c .local-word .ensures .1 (above-local .result), omega (arith, c .local-word .ensures .0, above-local .ensures .0)) (loop .inv .1))
 
 same-length : tie.Need-same-length Inv-loop μ-loop
 same-length c = c .before .loop .inv .1 .frame .size

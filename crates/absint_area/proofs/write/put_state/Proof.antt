@@ -40,16 +40,23 @@ same-length c = search needs
 
 returns : tie.Need-returns
 returns c =
-    let s = c .before .before .before .before .before .before .before .before .before .before .before .before .before .before .before .before .before .before .before .before .before .args .s in
+    let put-edges = c .before .before .put-edges in
+    let put-refs = c .before .before .before .before .before .before .put-refs in
+    let put-locals = c .before .before .before .before .before .before .before .before .before .before .put-locals in
+    let lesser2 = c .before .before .before .before .before .before .before .before .before .before .before .before .lesser2 in
+    let lesser = c .before .before .before .before .before .before .before .before .before .before .before .before .before .before .lesser in
+    let args = c .before .before .before .before .before .before .before .before .before .before .before .before .before .before .before .before .before .before .before .before .before .args in
+    let s = args .s in
     let g = s .«borrow_graph» in
-    let n = c .before .before .before .before .before .before .before .before .before .before .before .before .before .before .lesser .result in
-    let m = c .before .before .before .before .before .before .before .before .before .before .before .before .lesser2 .result in
-    let p = c .before .before .before .before .before .before .before .before .before .before .put-locals .ensures in
-    let q = c .before .before .before .before .before .before .put-refs .ensures in
-    let r = c .before .before .put-edges .ensures in (
-      put-frame (localAt (s .locals)) (refAt (g .refs .list)) (edgeAt (g .edges)) (c .before .before .before .before .before .before .before .before .before .before .before .before .before .before .before .before .before .before .before .before .before .args .at) n m (c .before .before .before .before .before .before .before .before .before .before .before .before .before .before .before .before .before .before .before .before .before .args .ws .now) _ _ _ (omega arith) (omega arith) (p .0) (q .0) (r .0),
-      put-decode (localAt (s .locals)) (refAt (g .refs .list)) (edgeAt (g .edges)) (c .before .before .before .before .before .before .before .before .before .before .before .before .before .before .before .before .before .before .before .before .before .args .at) n m (c .before .before .before .before .before .before .before .before .before .before .before .before .before .before .before .before .before .before .before .before .before .args .ws .now) _ _ _ (omega arith) (omega arith) (p .0) (q .0) (r .0) (s .«num_locals»)
-          ∙ ap {B = Option State} some (state-made s n m (p .1) (q .1) (r .1) (c .before .before .before .before .before .before .before .before .before .before .before .before .before .before .lesser .ensures) (c .before .before .before .before .before .before .before .before .before .before .before .before .lesser2 .ensures)),
+    let n = lesser .result in
+    let m = lesser2 .result in
+    let p = put-locals .ensures in
+    let q = put-refs .ensures in
+    let r = put-edges .ensures in (
+      put-frame (localAt (s .locals)) (refAt (g .refs .list)) (edgeAt (g .edges)) (args .at) n m (args .ws .now) _ _ _ (omega arith) (omega arith) (p .0) (q .0) (r .0),
+      put-decode (localAt (s .locals)) (refAt (g .refs .list)) (edgeAt (g .edges)) (args .at) n m (args .ws .now) _ _ _ (omega arith) (omega arith)
+      (p .0) (q .0) (r .0) (s .«num_locals»)
+          ∙ ap {B = Option State} some (state-made s n m (p .1) (q .1) (r .1) (lesser .ensures) (lesser2 .ensures)),
     )
 
 pub put-state-spec : {M : Type 1} → statement M

@@ -23,22 +23,22 @@ use Rattle.reference_safety.proofs.block.run_block.Statement.{statement
 use Rattle.reference_safety.proofs.block.run_block.Tie as tie
 
 abbrev Inv-loop : tie.InvT-loop
-Inv-loop listing b routine first n end state₀ stack₀ k₀ state stack k = ((eqb (state .violation) 0 && eqb (state .refusal) 0) ≡ true) × (runFrom (routine .returns) (blockOf b) (stateOf first) k (take (end - k) (drop k (map (decodedAt listing) (take (routine .«code_count») (routine .code))))) (with (stackOf stack) (runningOf state)) ≡ runBlock (routineOf listing routine) (blockOf b) (stateOf first))
+Inv-loop listing b routine state₀ n end stack₀ k₀ state stack k = ((eqb (state .violation) 0 && eqb (state .refusal) 0) ≡ true) × (runFrom (routine .returns) (blockOf b) k (take (end - k) (drop k (map (decodedAt listing) (take (routine .«code_count») (routine .code))))) (with (stackOf stack) (runningOf state)) ≡ runBlock (routineOf listing routine) (blockOf b) (stateOf state₀))
 
 abbrev μ-loop : tie.MeasureT-loop
-μ-loop listing b routine first n end state₀ stack₀ k₀ state stack k = end - k
+μ-loop listing b routine state₀ n end stack₀ k₀ state stack k = end - k
 
 -- the machine before the instruction, and what the block does from the machine behind it on
 abbrev here : (c : tie.After-on-values Inv-loop μ-loop) → Machine
 here c = with (stackOf ((c .before .before .before .before .before .loop) .stack)) (runningOf ((c .before .before .before .before .before .loop) .state))
 
 abbrev after : (c : tie.After-on-values Inv-loop μ-loop) → Machine → Result State
-after c x = runFrom ((c .before .before .before .before .before .before .before .before .before .before .before .before .before .args) .t2 .returns) (blockOf ((c .before .before .before .before .before .before .before .before .before .before .before .before .before .args) .b)) (stateOf ((c .before .before .before .before .before .before .before .before .before .before .before .begin) .result)) ((c .before .before .before .before .before .loop) .k + 1) (take ((c .before .before .before .before .before .before .before .before .lesser) .result - ((c .before .before .before .before .before .loop) .k + 1)) (drop ((c .before .before .before .before .before .loop) .k + 1) (map (decodedAt ((c .before .before .before .before .before .before .before .before .before .before .before .before .before .args) .listing .now)) (take ((c .before .before .before .before .before .before .before .before .before .before .before .before .before .args) .t2 .«code_count») ((c .before .before .before .before .before .before .before .before .before .before .before .before .before .args) .t2 .code))))) x
+after c x = runFrom ((c .before .before .before .before .before .before .before .before .before .before .before .before .before .args) .t2 .returns) (blockOf ((c .before .before .before .before .before .before .before .before .before .before .before .before .before .args) .b)) ((c .before .before .before .before .before .loop) .k + 1) (take ((c .before .before .before .before .before .before .before .before .lesser) .result - ((c .before .before .before .before .before .loop) .k + 1)) (drop ((c .before .before .before .before .before .loop) .k + 1) (map (decodedAt ((c .before .before .before .before .before .before .before .before .before .before .before .before .before .args) .listing .now)) (take ((c .before .before .before .before .before .before .before .before .before .before .before .before .before .args) .t2 .«code_count») ((c .before .before .before .before .before .before .before .before .before .before .before .before .before .args) .t2 .code))))) x
 
 next : (c : tie.After-on-values Inv-loop μ-loop) (q : Outcome Machine) → q ≡ then (halted ((c .before .before .before .before .before .loop) .state .violation) ((c .before .before .before .before .before .loop) .state .refusal) (here c)) (step ((c .before .before .before .before .before .before .before .before .before .before .before .before .before .args) .t2 .returns) (decodedOf ((c .before .before .decode) .result)))
     → settle ((c .before .before .before .before .before .loop) .k) q (after c) ≡ runBlock (routineOf ((c .before .before .before .before .before .before .before .before .before .before .before .before .before .args) .listing .now) ((c .before .before .before .before .before .before .before .before .before .before .before .before .before .args) .t2)) (blockOf ((c .before .before .before .before .before .before .before .before .before .before .before .before .before .args) .b)) (stateOf ((c .before .before .before .before .before .before .before .before .before .before .before .begin) .result))
 next c =
-    block-next ((c .before .before .before .before .before .before .before .before .before .before .before .before .before .args) .t2 .returns) (blockOf ((c .before .before .before .before .before .before .before .before .before .before .before .before .before .args) .b)) (stateOf ((c .before .before .before .before .before .before .before .before .before .before .before .begin) .result)) ((c .before .before .before .before .before .loop) .k) (decodedAt ((c .before .before .before .before .before .before .before .before .before .before .before .before .before .args) .listing .now) (getD ((c .before .before .before .before .before .before .before .before .before .before .before .before .before .args) .t2 .code) ((c .before .before .before .before .before .loop) .k) 0)) (decodedOf ((c .before .before .decode) .result))
+    block-next ((c .before .before .before .before .before .before .before .before .before .before .before .before .before .args) .t2 .returns) (blockOf ((c .before .before .before .before .before .before .before .before .before .before .before .before .before .args) .b)) ((c .before .before .before .before .before .loop) .k) (decodedAt ((c .before .before .before .before .before .before .before .before .before .before .before .before .before .args) .listing .now) (getD ((c .before .before .before .before .before .before .before .before .before .before .before .before .before .args) .t2 .code) ((c .before .before .before .before .before .loop) .k) 0)) (decodedOf ((c .before .before .decode) .result))
     (take ((c .before .before .before .before .before .before .before .before .lesser) .result - ((c .before .before .before .before .before .loop) .k + 1)) (drop ((c .before .before .before .before .before .loop) .k + 1) (map (decodedAt ((c .before .before .before .before .before .before .before .before .before .before .before .before .before .args) .listing .now)) (take ((c .before .before .before .before .before .before .before .before .before .before .before .before .before .args) .t2 .«code_count») ((c .before .before .before .before .before .before .before .before .before .before .before .before .before .args) .t2 .code)))))
     (take ((c .before .before .before .before .before .before .before .before .lesser) .result - (c .before .before .before .before .before .loop) .k) (drop ((c .before .before .before .before .before .loop) .k) (map (decodedAt ((c .before .before .before .before .before .before .before .before .before .before .before .before .before .args) .listing .now)) (take ((c .before .before .before .before .before .before .before .before .before .before .before .before .before .args) .t2 .«code_count») ((c .before .before .before .before .before .before .before .before .before .before .before .before .before .args) .t2 .code)))))
     ((c .before .before .before .before .before .loop) .state .violation) ((c .before .before .before .before .before .loop) .state .refusal) (here c) (runBlock (routineOf ((c .before .before .before .before .before .before .before .before .before .before .before .before .before .args) .listing .now) ((c .before .before .before .before .before .before .before .before .before .before .before .before .before .args) .t2)) (blockOf ((c .before .before .before .before .before .before .before .before .before .before .before .before .before .args) .b)) (stateOf ((c .before .before .before .before .before .before .before .before .before .before .before .begin) .result)))
@@ -122,15 +122,15 @@ cast-t40 : tie.Need-cast-t40 Inv-loop μ-loop
 cast-t40 c = omega (arith, (c .before .before .before .before .before .before .before .before .before .loop-test) .taken, (c .before .before .before .before .before .before .before .before .before .before .before .before .before .before .before .code-len) .ensures .0, (c .before .before .before .before .before .before .before .before .before .before .before .before .before .lesser) .ensures)
 
 returns : tie.Need-returns Inv-loop μ-loop
-returns c = block-stop ((c .before .before .before .before .before .before .before .before .before .before .loop) .k) ((c .before .before .before .execute) .result .state .violation) ((c .before .before .before .execute) .result .state .refusal) (runningOf ((c .before .before .before .execute) .result .state)) (stackOf ((c .before .before .before .execute) .result .stack)) (after ((c .before .before .before .before .before))) _ (next ((c .before .before .before .before .before)) _ ((c .before .before .before .execute) .ensures)) ((c .if2) .left) ∙ begun ((c .before .before .before .before .before .before .before .before .before .before .before .before .before .before .before .before))
+returns c = block-stop ((c .before .before .before .before .before .before .before .before .before .before .loop) .k) ((c .before .before .before .execute) .result .state .violation) ((c .before .before .before .execute) .result .state .refusal) (runningOf ((c .before .before .before .execute) .result .state)) (stackOf ((c .before .before .before .execute) .result .stack)) (after ((c .before .before .before .before .before))) _ (next ((c .before .before .before .before .before)) _ ((c .before .before .before .execute) .ensures)) (blockOf ((c .before .before .before .before .before .before .before .before .before .before .before .before .before .before .before .before .before .before .args) .b) .successors) ((c .if2) .left) ∙ begun ((c .before .before .before .before .before .before .before .before .before .before .before .before .before .before .before .before))
 
 finish-requires : tie.Need-finish-requires Inv-loop μ-loop
-finish-requires c κs = ((c .before .before .before .before .before .before .before .begin) .ensures .0, (c .before .before .before .before .before .before .before .begin) .ensures .1, (c .before .loop) .inv .0)
+finish-requires c κs = c .before .loop .inv .0
 
 returns-2 : tie.Need-returns-2 Inv-loop μ-loop
 returns-2 c =
     let z : (c .before .before .before .before .before .lesser) .result - (c .before .before .loop) .k ≡ 0 = omega arith in
-    (c .finish) .ensures ∙ block-end ((c .before .before .before .before .before .before .before .before .before .before .args) .t2 .returns) (blockOf ((c .before .before .before .before .before .before .before .before .before .before .args) .b)) (stateOf ((c .before .before .before .before .before .before .before .before .begin) .result)) ((c .before .before .loop) .k) ((c .before .before .before .before .before .lesser) .result - (c .before .before .loop) .k) (drop ((c .before .before .loop) .k) (map (decodedAt ((c .before .before .before .before .before .before .before .before .before .before .args) .listing .now)) (take ((c .before .before .before .before .before .before .before .before .before .before .args) .t2 .«code_count») ((c .before .before .before .before .before .before .before .before .before .before .args) .t2 .code)))) (with (stackOf ((c .before .before .loop) .stack)) (runningOf ((c .before .before .loop) .state))) _ z ((c .before .before .loop) .inv .1) ∙ begun ((c .before .before .before .before .before .before .before .before))
+    (c .finish) .ensures ∙ block-end ((c .before .before .before .before .before .before .before .before .before .before .args) .t2 .returns) (blockOf ((c .before .before .before .before .before .before .before .before .before .before .args) .b)) ((c .before .before .loop) .k) ((c .before .before .before .before .before .lesser) .result - (c .before .before .loop) .k) (drop ((c .before .before .loop) .k) (map (decodedAt ((c .before .before .before .before .before .before .before .before .before .before .args) .listing .now)) (take ((c .before .before .before .before .before .before .before .before .before .before .args) .t2 .«code_count») ((c .before .before .before .before .before .before .before .before .before .before .args) .t2 .code)))) (with (stackOf ((c .before .before .loop) .stack)) (runningOf ((c .before .before .loop) .state))) _ z ((c .before .before .loop) .inv .1) ∙ begun ((c .before .before .before .before .before .before .before .before))
 
 pub run-block-spec : {M : Type 1} → statement M
 run-block-spec =

@@ -13,13 +13,18 @@ use Rattle.reference_safety_lib.proofs.kept.reference_safety_analyze.St
 use Rattle.reference_safety_lib.proofs.kept.reference_safety_analyze.Tie as tie
 
 returns : tie.Need-returns
-returns c = no-room-kept (verify (length (c .before .before .before .before .args .area .now)) (c .before .before .before .before .args .listing .now)) (c .before .before .before .before .args .answer .now) (c .before .before .before .before .args .listing .now) (c .before .before .before .before .args .area .now) (omega arith)
+returns c =
+    let args = c .before .before .before .before .args in
+    no-room-kept (verify (length (args .area .now)) (args .listing .now)) (args .answer .now) (args .listing .now) (args .area .now) (omega arith)
 
 analyze-requires : tie.Need-analyze-requires
 analyze-requires c κs = search needs
 
 verdict-words-requires : tie.Need-verdict-words-requires
-verdict-words-requires c κs = subst (λ (a : Answered). Low (a .verdict)) (sym (c .before .before .analyze .ensures .0)) (low-answer (length (c .before .before .before .before .before .before .before .before .args .area .now)) (c .before .before .before .before .before .before .before .before .args .listing .now))
+verdict-words-requires c κs =
+    let analyze = c .before .before .analyze in
+    let args = c .before .before .before .before .before .before .before .before .args in
+    subst (λ (a : Answered). Low (a .verdict)) (sym (analyze .ensures .0)) (low-answer (length (args .area .now)) (args .listing .now))
 
 put-words-requires : tie.Need-put-words-requires
 put-words-requires c κs = search needs
@@ -32,10 +37,14 @@ same-length-2 c = search needs
 
 returns-2 : tie.Need-returns-2
 returns-2 c =
-    let v = c .before .before .before .before .before .before .before .analyze .ensures in
-    let words = c .before .before .before .before .verdict-words .ensures ∙ ap wordsOf (v .0) in
-    let put = c .before .before .put-words .ensures ∙ ap (λ (xs : List ℕ). putWords xs (c .before .before .before .before .before .before .before .before .before .before .before .before .before .args .answer .now)) words in
-    room-kept (verify (length (c .before .before .before .before .before .before .before .before .before .before .before .before .before .args .area .now)) (c .before .before .before .before .before .before .before .before .before .before .before .before .before .args .listing .now)) (c .before .before .before .before .before .before .before .before .before .before .before .before .before .args .answer .now) (c .before .before .before .before .before .before .before .before .before .before .before .before .before .args .listing .now) (c .before .before .before .before .before .before .before .before .before .before .before .before .before .args .area .now) _ _ (omega arith) put (v .1)
+    let put-words = c .before .before .put-words in
+    let verdict-words = c .before .before .before .before .verdict-words in
+    let analyze = c .before .before .before .before .before .before .before .analyze in
+    let args = c .before .before .before .before .before .before .before .before .before .before .before .before .before .args in
+    let v = analyze .ensures in
+    let words = verdict-words .ensures ∙ ap wordsOf (v .0) in
+    let put = put-words .ensures ∙ ap (λ (xs : List ℕ). putWords xs (args .answer .now)) words in
+    room-kept (verify (length (args .area .now)) (args .listing .now)) (args .answer .now) (args .listing .now) (args .area .now) _ _ (omega arith) put (v .1)
 
 pub reference-safety-analyze-spec : {M : Type 1} → statement M
 reference-safety-analyze-spec =

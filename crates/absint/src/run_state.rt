@@ -1,0 +1,83 @@
+// What a run has by value. The Rust's inv_map (absint.rs 80) is in two parts: each block's `pre` stands in the area, its `post` here.
+//   BlockPostcondition   BlockPostcondition   absint.rs 24
+//   RunState             analyze_function's locals   absint.rs 80 to 82
+use file_format::CodeOffset;
+use meaning::MAX_BLOCKS;
+ghost use mathlib.Core.Path.{_≡_};
+ghost use Prim.Native.Nat.{_<_};
+ghost use lib.ListN.{length, set};
+ghost use Rattle.meaning.specs.Limits.{maxBlocks};
+ghost use Rattle.meaning.specs.Loop.{fine, failed, stopped};
+ghost use Rattle.absint.specs.Models.{statusOf, statusesOf, nextOf, Started, SameCounts};
+
+// Code and offset are free where the block has not failed.
+pub(crate) struct BlockPostcondition {
+    pub failed: bool,
+    pub code: u8,
+    pub offset: CodeOffset,
+}
+
+// `next` counts until the run is stopped, `number` and `place` from then on; the others are free. `turns` counts visits and blocks passed
+// over.
+pub(crate) struct RunState {
+    pub next: usize,
+    pub stopped: bool,
+    pub number: u8,
+    pub place: CodeOffset,
+    pub visits: u32,
+    pub turns: u32,
+    pub statuses: [BlockPostcondition; MAX_BLOCKS],
+}
+
+impl RunState {
+    pub(crate) fn start() -> Self
+        ensures { λ r. ⌜ Started r ⌝ }
+    {
+        let x = BlockPostcondition {
+            failed: false,
+            code: 0,
+            offset: CodeOffset(0),
+        };
+        Self {
+            next: 0,
+            stopped: false,
+            number: 0,
+            place: CodeOffset(0),
+            visits: 0,
+            turns: 0,
+            statuses: [x; MAX_BLOCKS],
+        }
+    }
+
+    pub(crate) fn stop(self, number: u8, place: CodeOffset) -> Self
+        ensures { λ r. ⌜ (nextOf r ≡ stopped number (place .0)) × (statusesOf r ≡ statusesOf self) × SameCounts self r × (length (statusesOf self) ≡ maxBlocks) ⌝ }
+    {
+        let mut t = self;
+        t.stopped = true;
+        t.number = number;
+        t.place = place;
+        t
+    }
+
+    pub(crate) fn mark(self, j: usize, x: BlockPostcondition) -> Self
+        requires { ⌜ j < maxBlocks ⌝ }
+        ensures { λ r. ⌜ (nextOf r ≡ nextOf self) × (statusesOf r ≡ set (statusesOf self) j (statusOf x)) × SameCounts self r × (length (statusesOf self) ≡ maxBlocks) ⌝ }
+    {
+        let mut t = self;
+        t.statuses[j] = x;
+        t
+    }
+
+    // An error vanishes.
+    pub(crate) fn clear(self, j: usize) -> Self
+        requires { ⌜ j < maxBlocks ⌝ }
+        ensures { λ r. ⌜ (nextOf r ≡ nextOf self) × (statusesOf r ≡ set (statusesOf self) j fine) × SameCounts self r × (length (statusesOf self) ≡ maxBlocks) ⌝ }
+    {
+        let x = BlockPostcondition {
+            failed: false,
+            code: 0,
+            offset: CodeOffset(0),
+        };
+        self.mark(j, x)
+    }
+}
