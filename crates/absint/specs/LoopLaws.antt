@@ -2,7 +2,7 @@
 use Prim.Native.Nat.{ℕ, zero, suc, _+_, _≤_, _<_}
 use native.Mathlib.Omega.{arith}
 use mathlib.Core.Path.{_≡_, refl, sym, ap, _∙_}
-use mathlib.Core.Bool.{true, false}
+use mathlib.Core.Bool.{Bool, true, false, cond}
 use mathlib.Core.List.{List, [], _∷_, map}
 use mathlib.Core.Option.{Option, none, some}
 use lib.Dec.{eqb, ltb}
@@ -11,7 +11,7 @@ use lib.Seq.{drop-cons}
 use lib.ListN.{length, drop, getD, set, replicate, length-map, length-take, drop-of-length-le}
 use Rattle.meaning.specs.Laws.Array.{front-map-step, map-step}
 use Rattle.meaning.specs.Loop as M
-use Rattle.meaning.specs.Loop.{Status, fine, position, Failure, lower, accept, violation, verdictFor}
+use Rattle.meaning.specs.Loop.{Status, fine, position, Failure, lower, Verdict, accept, violation, refusal, verdictFor}
 use Rattle.meaning.specs.Laws.Fit.{lowestBy}
 use Rattle.listing.specs.Models.{blockOf, blocksIn}
 use Rattle.listing.specs.declared.Block.{Block}
@@ -78,11 +78,17 @@ unfolding lowestBy
 lowest-all bs xs i f z e = ap (λ (ys : List M.Block). lowestBy ys (drop i xs) f) (sym z) ∙ e
 
 module _ (bs : List M.Block) (t : RunState) (on : t .stopped ≡ false) (l : LowestFailure) (all : failureOf l ≡ lowestBy bs (statusesOf t) none) where
+  going : {v : Verdict} → v ≡ verdictFor (lowestBy bs (statusesOf t) none) → v ≡ verdictIn bs t
+  going e = e ∙ sym (ap (λ (b : Bool). cond b (refusal (t .number) (t .place .0)) (verdictFor (lowestBy bs (statusesOf t) none))) on)
+
+  abbrev worst : Failure
+  worst = record { entry = l .entry .0; code = l .code; offset = l .offset .0 }
+
   pub verdict-found : l .found ≡ true → violation (l .code) (l .offset .0) ≡ verdictIn bs t
-  verdict-found h = rw on (ap verdictFor (rw h at all))
+  verdict-found h = going (ap verdictFor (sym (ap {B = Option Failure} (λ (b : Bool). cond b (some worst) none) h) ∙ all))
 
   pub verdict-none : l .found ≡ false → accept ≡ verdictIn bs t
-  verdict-none h = rw on (ap verdictFor (rw h at all))
+  verdict-none h = going (ap verdictFor (sym (ap {B = Option Failure} (λ (b : Bool). cond b (some worst) none) h) ∙ all))
 
 -- the failure of a block against the lowest one so far
 module _ (l : LowestFailure) (e : ℕ) (x : BlockPostcondition) where

@@ -53,8 +53,8 @@ given d (A.violated c) = d
 given d (A.refused n) = d
 
 -- a state whose outcome is known goes on with it
-pub done-inv : {A : Type 0} (v n : ℕ) (a b : A) → halted v n a ≡ done b → a ≡ b
-done-inv {A} v n a b e = go (eqb v 0) (eqb n 0) e
+pub done-inv : {T : Type 0} (v n : ℕ) (a b : T) → halted v n a ≡ done b → a ≡ b
+done-inv {T} v n a b e = go (eqb v 0) (eqb n 0) e
   where
     go : (x y : Bool) → cond x (cond y (done a) (A.refused n)) (A.violated v) ≡ done b → a ≡ b
     go true true e = ap (given a) e

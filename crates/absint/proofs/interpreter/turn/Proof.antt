@@ -147,21 +147,47 @@ same-length-3 c = search needs
 
 returns-3 : tie.Need-returns-3
 unfolding statusesOf
-returns-3 c = ?
+returns-3 c =
+    let r = c .before .before .before .before .before .before .before .before .before .before in
+    let s = start r in
+    let b = r .before .before .before .before .before .block-at in
+    let clear = c .before .before .clear in
+    let none = ap {B = List ℕ} (λ (n : ℕ). take n (b .result .first .0 ∷ b .result .second .0 ∷ [])) (c .if4 .taken) in
+    Law.turned-returned (s .args .listing .now) (s .args .routine) (b .ensures .1) (s .args .area .now) (s .args .t) (s .pre) (kept r) (old r) (clear .ensures .3) (clear .result)
+    (ended r (c .before .before .before .before .before .if2 .left) (c .before .before .before .if3 .left) ∙ ap {B = Result State} (λ (es : List ℕ). endFor es (runningOf (r .run-block .result .state))) none)
+    (clear .ensures .1) (clear .ensures .0 ∙ after s) (clear .ensures .2 .visits ∙ add-one (s .args .t .visits)) (clear .ensures .2 .turns)
 
 with-locals-requires : tie.Need-with-locals-requires
 unfolding statusesOf
-with-locals-requires c κs = ?
+with-locals-requires c κs =
+    let r = c .before .before .before .before .before .before .before .before .before .before in
+    let s = start r in
+    Law.ended-count (s .args .listing .now) (s .args .routine) (r .before .before .before .before .before .block-at .ensures .1) (s .args .area .now) (s .args .t) (s .pre)
+    (kept r) (old r) (c .before .before .clear .ensures .3) (stateOf (r .run-block .result .state))
+    (ended-some r (c .before .before .before .before .before .if2 .left) (c .before .before .before .if3 .left) (c .if4 .left))
 
 propagate-requires : tie.Need-propagate-requires
-propagate-requires c κs = ?
+propagate-requires c κs =
+    let s = start (c .before .before .before .before .before .before .before .before .before .before .before .before) in
+    let e = c .before .with-locals in
+    (s .pre .blocks, s .pre .area, Law.kept-root (e .result .«num_locals») (s .args .routine .locals) (e .ensures .1), Law.positive _ (c .before .before .if4 .left))
 
 same-length-4 : tie.Need-same-length-4
 same-length-4 c = search needs
 
 returns-4 : tie.Need-returns-4
 unfolding statusesOf
-returns-4 c = ?
+returns-4 c =
+    let r = c .before .before .before .before .before .before .before .before .before .before .before .before .before .before .before in
+    let s = start r in
+    let b = r .before .before .before .before .before .block-at in
+    let clear = c .before .before .before .before .before .before .before .clear in
+    let e = c .before .before .before .before .with-locals in
+    let propagate = c .before .before .propagate in
+    Law.turned-ended (s .args .listing .now) (s .args .routine) (b .ensures .1) (s .args .area .now) (s .args .t) (s .pre) (kept r) (old r) (clear .ensures .3)
+    (stateOf (e .result)) (block r) (propagate .last .0) (clear .result) (propagate .result)
+    (ended-some r (c .before .before .before .before .before .before .before .before .before .before .if2 .left) (c .before .before .before .before .before .before .before .before .if3 .left) (c .before .before .before .before .before .if4 .left) ∙ ap {B = Result State} Result.ended (sym (e .ensures .0)))
+    (b .ensures .0) (clear .ensures .1) (clear .ensures .0 ∙ after s) (clear .ensures .2 .visits ∙ add-one (s .args .t .visits)) (clear .ensures .2 .turns) (propagate .ensures)
 
 same-length-5 : tie.Need-same-length-5
 same-length-5 c = search needs
