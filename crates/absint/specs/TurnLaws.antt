@@ -141,7 +141,8 @@ module _ (s : List ℕ) (d : D.Routine) (count : length (routineOf s d .blocks) 
     pub turned-violated : (r : RunState) (c o : ℕ) → exec q i k ≡ Result.violated c o → statusesOf r ≡ set (statusesOf t) i (failed c o) → nextOf r ≡ at (suc i) → r .visits ≡ suc (t .visits) → r .turns ≡ t .turns + 1 → Turned s d ws ws t r
     turned-violated r c o e a b v m =
         record {
-          step = λ x h. moved (turn State join changed (exec q) (q .blocks) x) ws r (set (statusesOf t) i (failed c o)) (at (suc i)) (suc (t .visits)) a b v (F.step-violated State join changed (exec q) (q .blocks) x (keptOf (d .locals) ws) (statusesOf t) i (t .visits) (at-next x h) inside k old c o room e);
+          step = λ x h. moved (turn State join changed (exec q) (q .blocks) x) ws r (set (statusesOf t) i (failed c o)) (at (suc i)) (suc (t .visits)) a b v
+              (F.step-violated State join changed (exec q) (q .blocks) x (keptOf (d .locals) ws) (statusesOf t) i (t .visits) (at-next x h) inside k old c o room e);
           turns = m;
           fewer = let z : t .visits ≤ t .turns = p .fewer in omega (arith, v, m, z);
           beyond = refl;

@@ -76,15 +76,7 @@ fn turn(listing: &[u8], routine: Routine, area: &mut [u32], t: RunState) -> RunS
             return v;
         }
         let e = with_locals(s, routine.locals);
-        return propagate(
-            area,
-            blocks,
-            routine.block_count,
-            routine.locals,
-            b,
-            e,
-            v,
-        );
+        return propagate(area, blocks, routine.block_count, routine.locals, b, e, v);
     }
     u
 }

@@ -22,6 +22,7 @@ use references::RefID;
 ghost use mathlib.Core.Path.{_≡_};
 ghost use Prim.Native.Nat.{_+_, _*_, _≤_, min};
 ghost use lib.ListN.{length};
+ghost use Rattle.meaning.specs.Limits.{maxNames, maxEdges, maxLabels, blockWords};
 ghost use Rattle.meaning.specs.Lists.{upTo};
 ghost use Rattle.meaning.specs.Area.{localIn, nameIn, labelIn, edgeIn, decode, wordAt, wordsFrom};
 ghost use Rattle.meaning.specs.Answers.{done};
@@ -104,7 +105,7 @@ fn get_ref(w: u32) -> Ref
 }
 
 fn get_refs(ws: &[u32], at: usize, n: usize) -> Refs
-    requires { ⌜ (at + 48 ≤ length (now ws)) × (n ≤ 48) ⌝ }
+    requires { ⌜ (at + maxNames ≤ length (now ws)) × (n ≤ maxNames) ⌝ }
     ensures { λ r. ⌜ refsOf r ≡ upTo n (λ i. nameIn (wordsFrom (now (ws .entry)) at i)) ⌝ }
 {
     let mut out = NO_REFS;
@@ -121,7 +122,7 @@ fn get_refs(ws: &[u32], at: usize, n: usize) -> Refs
 }
 
 fn get_path(ws: &[u32], at: usize, n: usize) -> Path
-    requires { ⌜ (at + 8 ≤ length (now ws)) × (n ≤ 8) ⌝ }
+    requires { ⌜ (at + maxLabels ≤ length (now ws)) × (n ≤ maxLabels) ⌝ }
     ensures { λ r. ⌜ pathOf r ≡ upTo n (λ i. labelIn (wordsFrom (now (ws .entry)) at i)) ⌝ }
 {
     let mut labels = [0u16; MAX_LABELS];
@@ -165,7 +166,7 @@ fn get_edge(ws: &[u32], at: usize) -> GraphEdge
 }
 
 fn get_graph(ws: &[u32], at: usize, refs: Refs, n: usize) -> BorrowGraph
-    requires { ⌜ (at + 960 ≤ length (now ws)) × (n ≤ 96) ⌝ }
+    requires { ⌜ (at + 960 ≤ length (now ws)) × (n ≤ maxEdges) ⌝ }
     ensures { λ r. ⌜ graphOf r ≡ record { names = refsOf refs; edges = upTo n (λ i. edgeIn (wordAt (now (ws .entry))) (at + 10 * i)) } ⌝ }
 {
     let mut g = BorrowGraph {
@@ -213,7 +214,7 @@ pub(crate) fn no_state(num_locals: u8) -> AbstractState
 }
 
 pub(crate) fn get_kept(ws: &[u32], at: usize, num_locals: u8) -> Kept
-    requires { ⌜ at + 1024 ≤ length (now ws) ⌝ }
+    requires { ⌜ at + blockWords ≤ length (now ws) ⌝ }
     ensures { λ r. ⌜ (loadedOf r ≡ decode «num_locals» (wordsFrom (now (ws .entry)) at)) × (outcomeOf (r .state) ≡ done (startMachine «num_locals» (stateOf (r .state)) .state)) ⌝ }
 {
     let w = ws[at];

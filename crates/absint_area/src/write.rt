@@ -22,6 +22,7 @@ ghost use mathlib.Core.Path.{_≡_};
 ghost use mathlib.Core.Option.{some};
 ghost use Prim.Native.Nat.{ℕ, _+_, _*_, _≤_, _<_};
 ghost use lib.ListN.{length};
+ghost use Rattle.meaning.specs.Limits.{maxNames, maxEdges, maxLabels, maxBlocks, areaWords, blockWords};
 ghost use Rattle.meaning.specs.Area.{localIn, nameIn, edgeIn, decode, wordAt, wordsFrom, unkept};
 ghost use Rattle.meaning.specs.Laws.Area.{bit, Frame, Written, WrittenEdges, IsLabel, IsLocal, IsName, IsZero, aboveLocal};
 ghost use Rattle.borrow_graph.specs.Models.{refOf, gedgeOf};
@@ -40,8 +41,8 @@ fn bit_of(b: bool) -> u32
 }
 
 pub(crate) fn put_zeros(ws: &mut [u32])
-    requires { ⌜ 16384 ≤ length (now ws) ⌝ }
-    ensures { λ _. ⌜ Written IsZero 0 16384 16384 (now (ws .entry)) (now (ws .exit)) ⌝ }
+    requires { ⌜ areaWords ≤ length (now ws) ⌝ }
+    ensures { λ _. ⌜ Written IsZero 0 areaWords areaWords (now (ws .entry)) (now (ws .exit)) ⌝ }
 {
     let mut i: usize = 0;
     while i < AREA_WORDS {
@@ -51,8 +52,8 @@ pub(crate) fn put_zeros(ws: &mut [u32])
 }
 
 pub(crate) fn put_absent(ws: &mut [u32])
-    requires { ⌜ 16384 ≤ length (now ws) ⌝ }
-    ensures { λ _. ⌜ now (ws .exit) ≡ unkept 16 (now (ws .entry)) ⌝ }
+    requires { ⌜ areaWords ≤ length (now ws) ⌝ }
+    ensures { λ _. ⌜ now (ws .exit) ≡ unkept maxBlocks (now (ws .entry)) ⌝ }
 {
     let mut b: usize = 0;
     while b < MAX_BLOCKS {
@@ -75,8 +76,8 @@ fn local_word(x: Local) -> u32
 }
 
 fn above_local(i: usize, names: usize, edges: usize) -> u32
-    requires { ⌜ (names ≤ 48) × (edges ≤ 96) ⌝ }
-    ensures { λ r. ⌜ (r ≡ aboveLocal names edges i) × (r ≤ 96) ⌝ }
+    requires { ⌜ (names ≤ maxNames) × (edges ≤ maxEdges) ⌝ }
+    ensures { λ r. ⌜ (r ≡ aboveLocal names edges i) × (r ≤ maxEdges) ⌝ }
 {
     if i == 0 {
         return 1;
@@ -91,7 +92,7 @@ fn above_local(i: usize, names: usize, edges: usize) -> u32
 }
 
 fn put_locals(ws: &mut [u32], at: usize, locals: [Local; 16], names: usize, edges: usize)
-    requires { ⌜ (at + 16 ≤ length (now ws)) × (names ≤ 48) × (edges ≤ 96) ⌝ }
+    requires { ⌜ (at + 16 ≤ length (now ws)) × (names ≤ maxNames) × (edges ≤ maxEdges) ⌝ }
     ensures { λ _. ⌜ Written (IsLocal (localAt locals) names edges) at 16 16 (now (ws .entry)) (now (ws .exit)) × (length locals ≡ 16) ⌝ }
 {
     let mut i: usize = 0;
@@ -112,8 +113,8 @@ fn ref_word(x: Ref) -> u32
 }
 
 fn put_refs(ws: &mut [u32], at: usize, list: [Ref; 48], n: usize)
-    requires { ⌜ (at + 48 ≤ length (now ws)) × (n ≤ 48) ⌝ }
-    ensures { λ _. ⌜ Written (IsName (refAt list)) at 48 n (now (ws .entry)) (now (ws .exit)) × (length list ≡ 48) ⌝ }
+    requires { ⌜ (at + maxNames ≤ length (now ws)) × (n ≤ maxNames) ⌝ }
+    ensures { λ _. ⌜ Written (IsName (refAt list)) at 48 n (now (ws .entry)) (now (ws .exit)) × (length list ≡ maxNames) ⌝ }
 {
     let mut i: usize = 0;
     while i < n {
@@ -124,7 +125,7 @@ fn put_refs(ws: &mut [u32], at: usize, list: [Ref; 48], n: usize)
 }
 
 fn put_labels(ws: &mut [u32], at: usize, labels: [u16; 8], kinds: u16, n: usize)
-    requires { ⌜ (at + 8 ≤ length (now ws)) × (n ≤ 8) ⌝ }
+    requires { ⌜ (at + maxLabels ≤ length (now ws)) × (n ≤ maxLabels) ⌝ }
     ensures { λ _. ⌜ Written (IsLabel (labelAt kinds labels)) at 8 n (now (ws .entry)) (now (ws .exit)) ⌝ }
 {
     let mut k = kinds;
@@ -155,8 +156,8 @@ fn put_edge(ws: &mut [u32], at: usize, x: GraphEdge)
 }
 
 fn put_edges(ws: &mut [u32], at: usize, g: BorrowGraph, n: usize)
-    requires { ⌜ (at + 960 ≤ length (now ws)) × (n ≤ 96) ⌝ }
-    ensures { λ _. ⌜ WrittenEdges (edgeAt (g .edges)) at 96 n (now (ws .entry)) (now (ws .exit)) × (length (g .edges) ≡ 96) ⌝ }
+    requires { ⌜ (at + 960 ≤ length (now ws)) × (n ≤ maxEdges) ⌝ }
+    ensures { λ _. ⌜ WrittenEdges (edgeAt (g .edges)) at 96 n (now (ws .entry)) (now (ws .exit)) × (length (g .edges) ≡ maxEdges) ⌝ }
 {
     let mut i: usize = 0;
     while i < n {
@@ -167,8 +168,8 @@ fn put_edges(ws: &mut [u32], at: usize, g: BorrowGraph, n: usize)
 }
 
 pub(crate) fn put_state(ws: &mut [u32], at: usize, s: AbstractState)
-    requires { ⌜ at + 1024 ≤ length (now ws) ⌝ }
-    ensures { λ _. ⌜ Frame at 1024 (now (ws .entry)) (now (ws .exit)) × (decode (s .«num_locals») (wordsFrom (now (ws .exit)) at) ≡ some (stateOf s)) ⌝ }
+    requires { ⌜ at + blockWords ≤ length (now ws) ⌝ }
+    ensures { λ _. ⌜ Frame at blockWords (now (ws .entry)) (now (ws .exit)) × (decode (s .«num_locals») (wordsFrom (now (ws .exit)) at) ≡ some (stateOf s)) ⌝ }
 {
     let locals = s.locals;
     let g = s.borrow_graph;

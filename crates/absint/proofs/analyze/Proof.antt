@@ -48,8 +48,11 @@ analyze-function-requires c κs =
     let args = c .before .before .before .before .before .before .before .before .before .args in
     let e : readListing (args .listing .now) ≡ read (routineOf (args .listing .now) (within-blocks .result)) = Law.was-read (args .listing .now)
     (read-listing .result) (read-listing .ensures) (if2 .left) ∙ ap {B = Listed Routine} read (sym (within-blocks .ensures .0 (args .listing .now)))
-    in
-    (record { promise = accepted-promised (args .listing .now) (routineOf (args .listing .now) (within-blocks .result)) e; blocks = within-blocks .ensures .1; count = within-blocks .ensures .2; some = accepted-block (args .listing .now) (routineOf (args .listing .now) (within-blocks .result)) e }, if1 .left)
+    in (
+      record
+          { promise = accepted-promised (args .listing .now) (routineOf (args .listing .now) (within-blocks .result)) e; blocks = within-blocks .ensures .1; count = within-blocks .ensures .2; some = accepted-block (args .listing .now) (routineOf (args .listing .now) (within-blocks .result)) e },
+      if1 .left,
+    )
 
 verdict-of-requires : tie.Need-verdict-of-requires
 verdict-of-requires c κs = (c .before .before .before .before .before .within-blocks) .ensures .1
@@ -68,8 +71,13 @@ returns-3 c =
     let args = c .before .before .before .before .before .before .before .before .before .before .before .before .before .before .args in
     let e : readListing (args .listing .now) ≡ read (routineOf (args .listing .now) (within-blocks .result)) = Law.was-read (args .listing .now)
     (read-listing .result) (read-listing .ensures) (if2 .left) ∙ ap {B = Listed Routine} read (sym (within-blocks .ensures .0 (args .listing .now)))
-    in
-    (Law.verify-read (length (args .area .now)) (args .listing .now) (if1 .left) (routineOf (args .listing .now) (within-blocks .result)) (rulingOf (verdict-of .result)) (analyze-function .result .visits) e (verdict-of .ensures .0 ∙ Law.ruled (args .listing .now) (within-blocks .result) (args .area .now) _ (analyze-function .result) (verdict-of .ensures .1) (within-blocks .ensures .1) (within-blocks .ensures .2) (analyze-function .ensures)) (analyze-function .ensures .end .visited), Law.left-read (args .listing .now) (within-blocks .result) (args .area .now) _ (analyze-function .result) (if1 .left) e (analyze-function .ensures))
+    in (
+      Law.verify-read (length (args .area .now)) (args .listing .now) (if1 .left) (routineOf (args .listing .now) (within-blocks .result)) (rulingOf (verdict-of .result))
+          (analyze-function .result .visits) e (verdict-of .ensures .0 ∙ Law.ruled (args .listing .now) (within-blocks .result) (args .area .now) _ (analyze-function .result) (verdict-of .ensures .1)
+          (within-blocks .ensures .1) (within-blocks .ensures .2) (analyze-function .ensures)) (analyze-function .ensures .end .visited),
+      Law.left-read (args .listing .now) (within-blocks .result)
+          (args .area .now) _ (analyze-function .result) (if1 .left) e (analyze-function .ensures),
+    )
 
 pub analyze-spec : {M : Type 1} → statement M
 analyze-spec =

@@ -13,8 +13,11 @@ returns c =
     let if1 = c .if1 in
     let args = c .before .before .args in
     let full : length (args .routine .blocks) ≡ 16 = search length-of-map in
-    let h = if1 .taken in
-    ((λ s z. record { params = routineOf s (args .routine) .params; locals = args .routine .locals; returns = args .routine .returns; blocks = sixteen (args .routine .blocks) (args .routine .«block_count») full h z; code = routineOf s (args .routine) .code }), omega arith, blocks-count (args .routine .blocks) 16 full (omega arith))
+    let h = if1 .taken in (
+      (λ s z. record { params = routineOf s (args .routine) .params; locals = args .routine .locals; returns = args .routine .returns; blocks = sixteen (args .routine .blocks) (args .routine .«block_count») full h z; code = routineOf s (args .routine) .code }),
+      omega arith,
+      blocks-count (args .routine .blocks) 16 full (omega arith),
+    )
 
 returns-2 : tie.Need-returns-2
 returns-2 c =

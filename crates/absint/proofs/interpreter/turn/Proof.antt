@@ -186,7 +186,8 @@ returns-4 c =
     let propagate = c .before .before .propagate in
     Law.turned-ended (s .args .listing .now) (s .args .routine) (b .ensures .1) (s .args .area .now) (s .args .t) (s .pre) (kept r) (old r) (clear .ensures .3)
     (stateOf (e .result)) (block r) (propagate .last .0) (clear .result) (propagate .result)
-    (ended-some r (c .before .before .before .before .before .before .before .before .before .before .if2 .left) (c .before .before .before .before .before .before .before .before .if3 .left) (c .before .before .before .before .before .if4 .left) ∙ ap {B = Result State} Result.ended (sym (e .ensures .0)))
+    (ended-some r (c .before .before .before .before .before .before .before .before .before .before .if2 .left) (c .before .before .before .before .before .before .before .before .if3 .left)
+    (c .before .before .before .before .before .if4 .left) ∙ ap {B = Result State} Result.ended (sym (e .ensures .0)))
     (b .ensures .0) (clear .ensures .1) (clear .ensures .0 ∙ after s) (clear .ensures .2 .visits ∙ add-one (s .args .t .visits)) (clear .ensures .2 .turns) (propagate .ensures)
 
 same-length-5 : tie.Need-same-length-5

@@ -32,8 +32,11 @@ returns c =
     let loop = c .before .before .before .before .before .loop in
     let args = c .before .before .before .before .before .before .args in
     let pre = c .before .before .before .before .before .before .pre in
-    let full : length (args .t1) ≡ 16 = search length-of-map in
-    (position-found (args .e .0) (loop .i) (blockOf (getD (args .t1) (loop .i) past-block)) (drop (loop .i + 1) (blocksIn (args .t1) (args .n))) _ (eq-eqb _ _ (if1 .taken)) (rw (blocks-step (args .t1) (args .n) full pre (loop .i) (loop-test .taken)) at (loop .inv)), blocks-count (args .t1) (args .n) full pre)
+    let full : length (args .t1) ≡ 16 = search length-of-map in (
+      position-found (args .e .0) (loop .i) (blockOf (getD (args .t1) (loop .i) past-block)) (drop (loop .i + 1) (blocksIn (args .t1) (args .n))) _ (eq-eqb _ _ (if1 .taken))
+          (rw (blocks-step (args .t1) (args .n) full pre (loop .i) (loop-test .taken)) at (loop .inv)),
+      blocks-count (args .t1) (args .n) full pre,
+    )
 
 add-i : tie.Need-add-i Inv-loop μ-loop
 add-i c = omega arith

@@ -76,7 +76,7 @@ returns c =
     let args = c .before .before .before .before .before .before .before .before .before .before .args in
     let ws = args .ws .now in (
       ap (λ (x : State). cond (not (eqb (getD ws (args .at) 0 / 262144) 0)) (some x) none)
-      (state-parts (c .state-at .ensures .0) (get-locals .ensures) (get-graph .ensures) (get-refs .ensures))
+          (state-parts (c .state-at .ensures .0) (get-locals .ensures) (get-graph .ensures) (get-refs .ensures))
           ∙ kept-read (args .num-locals) (args .at) (lesser .result) (lesser2 .result) ws (lesser .ensures) (lesser2 .ensures),
       c .state-at .ensures .1,
     )

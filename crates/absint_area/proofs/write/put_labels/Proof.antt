@@ -46,8 +46,12 @@ loop-less c = omega arith
 loop-again : tie.Need-loop-again Inv-loop μ-loop
 loop-again c =
     let loop = c .before .before .loop in
-    let args = c .before .before .before .before .args in
-    (omega arith, ap (λ (m : ℕ). m / 4) (loop .inv .1) ∙ kinds-next (loop .i) (args .kinds), written-one _ _ _ _ (loop .i) _ (loop .ws) (omega arith) (omega (arith, loop .inv .2 .frame .size)) (label-word _ _ _ _ (loop .inv .1) ((c .first-number) .ensures .0) ((c .first-number) .ensures .1)) (loop .inv .2))
+    let args = c .before .before .before .before .args in (
+      omega arith,
+      ap (λ (m : ℕ). m / 4) (loop .inv .1) ∙ kinds-next (loop .i) (args .kinds),
+      written-one _ _ _ _ (loop .i) _ (loop .ws) (omega arith) (omega (arith, loop .inv .2 .frame .size))
+          (label-word _ _ _ _ (loop .inv .1) ((c .first-number) .ensures .0) ((c .first-number) .ensures .1)) (loop .inv .2),
+    )
 
 same-length : tie.Need-same-length Inv-loop μ-loop
 same-length c = (c .before .loop) .inv .2 .frame .size

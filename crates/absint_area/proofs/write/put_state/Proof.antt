@@ -55,7 +55,7 @@ returns c =
     let r = put-edges .ensures in (
       put-frame (localAt (s .locals)) (refAt (g .refs .list)) (edgeAt (g .edges)) (args .at) n m (args .ws .now) _ _ _ (omega arith) (omega arith) (p .0) (q .0) (r .0),
       put-decode (localAt (s .locals)) (refAt (g .refs .list)) (edgeAt (g .edges)) (args .at) n m (args .ws .now) _ _ _ (omega arith) (omega arith)
-      (p .0) (q .0) (r .0) (s .«num_locals»)
+          (p .0) (q .0) (r .0) (s .«num_locals»)
           ∙ ap {B = Option State} some (state-made s n m (p .1) (q .1) (r .1) (lesser .ensures) (lesser2 .ensures)),
     )
 
