@@ -2,6 +2,7 @@
 use Prim.Native.Nat.{ℕ, zero, suc}
 use mathlib.Core.Bool.{not, true}
 use mathlib.Core.List.{[], _∷_, List}
+use mathlib.Core.Option.{none, some}
 use mathlib.Core.Path.{_≡_, refl}
 use lib.Dec.{eqb}
 use Rattle.meaning.specs.Answers.{Ans, ok}
@@ -9,7 +10,7 @@ use Rattle.meaning.specs.Labels.{fieldLabel}
 use Rattle.meaning.specs.References.{insert, covers, eqEdge, eqPath, prefix, has, put, ltEdge, ltPath, setOk, ordered, short, isBlur, emptySet}
 use Rattle.meaning.specs.BorrowGraph.{between, splice, setAt, release, wellFormed, holds, spliced, without, addAll, addEdge, setTo, limit, ascending, inOrder, unmatched, sameNames, joinGraphs, borrowStrong}
 use Rattle.meaning.specs.AbstractState.{ref, State, absent, join, joinLocal, joinLocals, changed, eqLocals, eqSets, eqSet, eqEdges, changes}
-use Rattle.meaning.specs.Loop.{Block, ended, run, visits, propagate, turn, turns, startSlots, position}
+use Rattle.meaning.specs.Loop.{Block, Slot, failed, ended, run, visits, propagate, turn, turns, startSlots, position, violation, lowest, verdictFor}
 use Rattle.meaning.specs.Marked.{name, strong, weak, single, isSets}
 
 -- L = 2: both locals are references; local 0 borrows the root by field n, local 1 borrows local 0 by field 7
@@ -51,3 +52,11 @@ loops = refl
 factors : isSets (borrowStrong (record { names = name 0 ∷ name 1 ∷ name 2 ∷ []; edges = between 0 (weak (1 ∷ 2 ∷ [])) 2 ∷ [] }) 0 (fieldLabel 1 ∷ []) 1) (single 0 1 (strong (1 ∷ [])) ∷ single 1 2 (weak (2 ∷ [])) ∷ record { parent = 0; child = 2; set = emptySet } ∷ []) ≡ true
 unfolding name borrowStrong insert eqEdge eqPath prefix has put ltEdge ltPath setAt wellFormed holds addAll addEdge setTo limit ascending setOk ordered short inOrder isBlur eqSet eqEdges
 factors = refl
+
+-- Two blocks failed, the one with the lower entry listed later: its error is the verdict.
+abbrev failing : ℕ → Slot ℕ
+failing o = record { kept = some 0; status = failed 102 o; changes = 0 }
+
+lower-entry : verdictFor (lowest (record { entry = 4; exit = 5; successors = [] } ∷ record { entry = 1; exit = 3; successors = [] } ∷ []) (failing 5 ∷ failing 2 ∷ []) none) ≡ violation 102 2
+unfolding lowest
+lower-entry = refl
