@@ -3,9 +3,10 @@ use Prim.Native.Nat.{_+_, _-_}
 use borrow.Author.Tests.{eq-eqb, ne-eqb}
 use lib.ListN.{length, drop, getD}
 use Rattle.meaning.specs.Laws.Array.{length-of-map}
+use Rattle.meaning.specs.Laws.Search.{array-at, array-end}
 use Rattle.meaning.specs.Loop.{position}
 use Rattle.listing.specs.Models.{blockOf, blocksIn}
-use Rattle.absint.specs.LoopLaws.{past-block, blocks-count, blocks-step, blocks-end, position-found, position-passed, position-none}
+use Rattle.absint.specs.LoopLaws.{past-block, blocks-count, position-found, position-passed, position-none}
 use native.Mathlib.Omega.{arith}
 use Rattle.absint.proofs.propagate.position_of.Statement.{statement}
 use Rattle.absint.proofs.propagate.position_of.Tie as tie
@@ -26,16 +27,15 @@ array-copy-out-b : tie.Need-array-copy-out-b Inv-loop μ-loop
 array-copy-out-b c = omega arith
 
 returns : tie.Need-returns Inv-loop μ-loop
+unfolding blocksIn
 returns c =
-    let if1 = c .if1 in
-    let loop-test = c .before .before .before .before .loop-test in
-    let loop = c .before .before .before .before .before .loop in
-    let args = c .before .before .before .before .before .before .args in
-    let pre = c .before .before .before .before .before .before .pre in
-    let full : length (args .t1) ≡ 16 = search length-of-map in (
-      position-found (args .e .0) (loop .i) (blockOf (getD (args .t1) (loop .i) past-block)) (drop (loop .i + 1) (blocksIn (args .t1) (args .n))) _ (eq-eqb _ _ (if1 .taken))
-          (rw (blocks-step (args .t1) (args .n) full pre (loop .i) (loop-test .taken)) at (loop .inv)),
-      blocks-count (args .t1) (args .n) full pre,
+    let a = c .before .before .before .before .before .before .args in
+    let p = c .before .before .before .before .before .before .pre in
+    let l = c .before .before .before .before .before .loop in
+    let full : length (c .before .before .before .before .before .before .args .t1) ≡ 16 = search length-of-map in (
+      position-found (a .e .0) (l .i) (blockOf (getD (a .t1) (l .i) past-block)) (drop (l .i + 1) (blocksIn (a .t1) (a .n))) _ (eq-eqb _ _ (c .if1 .taken))
+          (array-at blockOf (λ bs. l .i + position bs (a .e .0)) (a .t1) (a .n) (omega arith) (l .i) _ (l .inv) past-block (c .before .before .before .before .loop-test .taken)),
+      blocks-count (a .t1) (a .n) full p,
     )
 
 add-i : tie.Need-add-i Inv-loop μ-loop
@@ -45,24 +45,23 @@ loop-less : tie.Need-loop-less Inv-loop μ-loop
 loop-less c = omega arith
 
 loop-again : tie.Need-loop-again Inv-loop μ-loop
+unfolding blocksIn
 loop-again c =
-    let if1 = c .if1 in
-    let loop-test = c .before .before .before .before .loop-test in
-    let loop = c .before .before .before .before .before .loop in
-    let args = c .before .before .before .before .before .before .args in
-    let pre = c .before .before .before .before .before .before .pre in
-    let full : length (args .t1) ≡ 16 = search length-of-map in
-    position-passed (args .e .0) (loop .i) (blockOf (getD (args .t1) (loop .i) past-block)) (drop (loop .i + 1) (blocksIn (args .t1) (args .n))) _
-    (ne-eqb _ _ (if1 .left)) (rw (blocks-step (args .t1) (args .n) full pre (loop .i) (loop-test .taken)) at (loop .inv))
+    let a = c .before .before .before .before .before .before .args in
+    let l = c .before .before .before .before .before .loop in
+    let full : length (c .before .before .before .before .before .before .args .t1) ≡ 16 = search length-of-map in
+    position-passed (a .e .0) (l .i) (blockOf (getD (a .t1) (l .i) past-block)) (drop (l .i + 1) (blocksIn (a .t1) (a .n))) _ (ne-eqb _ _ (c .if1 .left))
+    (array-at blockOf (λ bs. l .i + position bs (a .e .0)) (a .t1) (a .n) (omega arith) (l .i) _ (l .inv) past-block (c .before .before .before .before .loop-test .taken))
 
 returns-2 : tie.Need-returns-2 Inv-loop μ-loop
+unfolding blocksIn
 returns-2 c =
-    let loop-test = c .loop-test in
-    let loop = c .before .loop in
-    let args = c .before .before .args in
-    let pre = c .before .before .pre in
-    let full : length (args .t1) ≡ 16 = search length-of-map in
-    (position-none (args .e .0) (loop .i) _ (rw (blocks-end (args .t1) (args .n) full pre (loop .i) (loop-test .left)) at (loop .inv)), blocks-count (args .t1) (args .n) full pre)
+    let a = c .before .before .args in
+    let l = c .before .loop in
+    let full : length (c .before .before .args .t1) ≡ 16 = search length-of-map in (
+      position-none (a .e .0) (l .i) _ (array-end blockOf (λ bs. l .i + position bs (a .e .0)) (a .t1) (a .n) (omega arith) (l .i) _ (l .inv) (c .loop-test .left)),
+      blocks-count (a .t1) (a .n) full (c .before .before .pre),
+    )
 
 pub position-of-spec : {M : Type 1} → statement M
 position-of-spec =
