@@ -41,7 +41,7 @@ pub enum Instruction {
     BorrowElement(bool),
 }
 
-// An instruction, and for a call the numbers that it acquires and the tokens (0, 1, 2) of what it returns.
+// An instruction, and for a call the numbers that it acquires and the tokens (0, 1, 2) of what it returns. Slots from a count on are free.
 pub struct Decoded {
     pub instruction: Instruction,
     pub acquired: [u16; 16],

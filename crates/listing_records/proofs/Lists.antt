@@ -1,4 +1,4 @@
--- Laws of lists and tests: a search goes on from element to element, an array is filled from the front.
+-- Laws of lists and tests: an array that is filled from the front, and the first of an array by what they stand for.
 -- Assumes nothing.
 use mathlib.Core.Path.{_≡_, refl, sym, ap, subst, _∙_}
 use mathlib.Core.Logic.{_⊎_, inl, inr}
@@ -8,11 +8,10 @@ use Prim.Native.Nat.{ℕ, zero, suc, _+_, _≤_, _<_}
 use native.Mathlib.Nat.{not-suc-le-zero, le-of-suc-le-suc}
 use native.Mathlib.Numerals.{add-one}
 use native.Mathlib.Omega.{arith}
-use lib.ListN.{length, take, drop, getD, set, length-take, length-map, drop-of-length-le, List·getD-map}
-use lib.Seq.{drop-cons, getD-take, take-suc-set, take-suc}
+use lib.ListN.{length, take, getD, set, length-take, length-map, List·getD-map}
+use lib.Seq.{getD-take, take-suc-set, take-suc}
 use lib.Dec.{leb, eqb}
-use borrow.Author.Tests.{eq-eqb, ne-eqb}
-use Rattle.meaning.specs.Lists.{all, any, upTo}
+use Rattle.meaning.specs.Lists.{all, upTo}
 use Rattle.meaning.specs.Laws.Base.{both, decide, leb-le, le-leb, leb-gt, eqb-eq, eqb-ne, and-l, and-r}
 use Rattle.meaning.specs.Laws.Area.{upTo-more}
 
@@ -71,12 +70,6 @@ map-upTo g (suc n) f = ap (λ l. g (f 0) ∷ l) (map-upTo g n (λ k. f (suc k)))
 -- a number that is n or more, and not n
 pub up : (n k : ℕ) → n ≤ k → (k ≡ n → ⊥) → n + 1 ≤ k
 up n k h e = omega arith
-
-pub eqb-iff : (a b c d : ℕ) → (a ≡ b → c ≡ d) → (c ≡ d → a ≡ b) → eqb a b ≡ eqb c d
-eqb-iff a b c d f g =
-    decide (eqb a b)
-    (λ e. e ∙ sym (eq-eqb c d (f (eqb-eq e))))
-    (λ e. e ∙ sym (ne-eqb c d (λ h. eqb-ne e (g h))))
 
 pub within-list : {A B : Type 0} (f : A → B) (d : A) (e : B) (xs : List A) (k : ℕ) → k < length xs → getD (map f xs) k e ≡ f (getD xs k d)
 within-list f d e [] k h = absurd (not-suc-le-zero h)

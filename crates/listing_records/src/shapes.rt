@@ -20,7 +20,8 @@ pub const RETURNS: u16 = 8; // a count u8, at most 8, and as many tokens
 
 pub const FRAME: u16 = 9; // P u8, L u8, P tokens; P at most L, L at most 16
 
-// A kind's body, field by field: the first field is the last hexadecimal digit, and so on up to a digit 0.
+// A kind's body, field by field: the first field is the last hexadecimal digit, and so on up to a digit 0. A kind that is not known has
+// no fields.
 pub struct Shape {
     pub known: bool,
     pub fields: u16,

@@ -1,7 +1,5 @@
 -- `listing_records::is_full` meets its contract. Assumes nothing.
 use borrow.Author.Tests.{ne-eqb}
-use native.Mathlib.Omega.{arith}
-use borrow.Author.Needs.{needs}
 use Rattle.listing_records.proofs.is_full.Statement.{statement}
 use Rattle.listing_records.proofs.is_full.Tie as tie
 

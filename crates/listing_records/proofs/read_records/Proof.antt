@@ -2,7 +2,7 @@
 use mathlib.Core.Path.{_≡_, refl, sym, ap, _∙_}
 use Prim.Native.Nat.{_-_, _≤_, _<_}
 use lib.ListN.{length, take, length-set}
-use Rattle.meaning.specs.Listing.{nextAt, placesFrom, noPlaces}
+use Rattle.meaning.specs.Listing.{placesFrom, noPlaces}
 use Rattle.meaning.specs.Laws.Listing.{places-end}
 use Rattle.listing_records.specs.Models.{faultOf, placesOf}
 use Rattle.listing_records.proofs.Laws.{places-refused, room-block, room-code, stop-fault, stop-full, go-block, go-code, go-first}

@@ -9,7 +9,7 @@ use mathlib.Core.Path.{_≡_, refl, ap, subst, sym, _∙_}
 use borrow.Author.Tests.{le-leb, lt-leb, ltb-false, ltb-true, not-false}
 use native.Mathlib.Nat.{not-suc-le-zero, add-suc, suc-add, le-of-suc-le-suc}
 use lib.Dec.{leb, eqb, ltb}
-use lib.ListN.{length, drop, getD, take, length-append, List·getD-eq-default, length-take, length-drop, length-map}
+use lib.ListN.{length, drop, getD, take, length-append, length-take, length-drop, length-map}
 use lib.Seq.{getD-drop, drop-drop, getD-take}
 use Rattle.meaning.specs.Lists.{all, any, empty, upTo}
 use Rattle.meaning.specs.Steps.{Pop, Instr, isRet}
