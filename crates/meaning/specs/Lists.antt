@@ -2,7 +2,6 @@
 use Prim.Native.Nat.{ℕ, zero, suc, _+_}
 use mathlib.Core.Bool.{Bool, true, false, _&&_, _||_, cond}
 use mathlib.Core.List.{List, [], _∷_, _++_}
-use mathlib.Core.Option.{Option, none, some}
 
 module _ {A : Type 0} where
   -- every element passes the test
@@ -24,12 +23,6 @@ module _ {A : Type 0} where
   abbrev pub empty : List A → Bool
   empty [] = true
   empty (x ∷ xs) = false
-
-  -- what stands at an index
-  abbrev pub nth : List A → ℕ → Option A
-  nth [] i = none
-  nth (x ∷ xs) zero = some x
-  nth (x ∷ xs) (suc i) = nth xs i
 
 -- each x's list, one after the other
 abbrev pub each : {A B : Type 0} → List A → (A → List B) → List B

@@ -118,11 +118,6 @@ unfolding insert
 offer s (ok e) = insert s e
 offer s (refuse n) = cond (s .blurred) (ok s) (cond (leb maxSetSize (length (s .edges))) (ok blur) (refuse n))
 
--- without this edge
-unfoldable pub remove : Edge → EdgeSet → EdgeSet
-unfolding eqEdge
-remove e s = record { edges = keep (λ x. not (eqEdge e x)) (s .edges); blurred = s .blurred }
-
 -- ---- a set as a well-formed graph has it (or the empty one)
 
 -- ascending, so all different

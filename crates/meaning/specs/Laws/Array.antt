@@ -10,7 +10,7 @@ use native.Mathlib.Numerals.{add-one}
 use lib.Dec.{eqb}
 use lib.ListN.{length, take, drop, getD, length-take, length-drop, length-map, List·getD-map, set}
 use lib.Seq.{drop-cons, getD-take, take-suc-set, append-snoc, drop-append-add, drop-append-le, drop-drop}
-use Rattle.meaning.specs.Lists.{nth, empty}
+use Rattle.meaning.specs.Lists.{empty}
 
 module _ {A : Type 0} where
   -- at i below the count: the element, and what follows
@@ -81,17 +81,6 @@ module _ {A : Type 0} where
   abbrev head : List A → Option A
   head [] = none
   head (x ∷ l) = some x
-
-  pub nth-in : (xs : List A) (i : ℕ) (y : A) (ys : List A) → drop i xs ≡ y ∷ ys → nth xs i ≡ some y
-  nth-in [] zero y ys e = ap head e
-  nth-in [] (suc i) y ys e = ap head e
-  nth-in (x ∷ xs) zero y ys e = ap head e
-  nth-in (x ∷ xs) (suc i) y ys e = nth-in xs i y ys e
-
-  pub nth-out : (xs : List A) (i : ℕ) → length xs ≤ i → nth xs i ≡ none
-  nth-out [] i h = refl
-  nth-out (x ∷ xs) zero h = absurd (not-suc-le-zero h)
-  nth-out (x ∷ xs) (suc i) h = nth-out xs i (le-of-suc-le-suc h)
 
   pub empty-length : (xs : List A) (n : ℕ) → n ≡ length xs → eqb n 0 ≡ empty xs
   empty-length [] n e = eq-eqb n 0 e
