@@ -7,8 +7,7 @@ use meaning::AREA_WORDS;
 use meaning::BLOCK_WORDS;
 use meaning::MAX_BLOCKS;
 ghost use mathlib.Core.Path.{_≡_};
-ghost use Prim.Native.Nat.{ℕ};
-ghost use Rattle.meaning.specs.Area.{hasBlock, isKept, keptOf, Stored, forgotten, cleared};
+ghost use Rattle.meaning.specs.Area.{hasBlock, keptOf, Stored, forgotten, cleared};
 ghost use Rattle.meaning.specs.Answers.{done};
 ghost use Rattle.meaning.specs.Blocks.{startMachine};
 ghost use Rattle.abstract_state.specs.Models.{stateOf, outcomeOf};
@@ -64,16 +63,6 @@ pub fn store(area: &mut [u32], b: usize, s: AbstractState)
     if has_block(area.len(), b) {
         write::put_state(area, BLOCK_WORDS * b, s);
     }
-}
-
-// The quick question, before a state is built.
-pub fn is_kept(area: &[u32], b: usize) -> bool
-    ensures { λ r. ⌜ ((l : ℕ) → isKept (keptOf l (now (area .entry)) b) ≡ r) ⌝ }
-{
-    if has_block(area.len(), b) {
-        return area[BLOCK_WORDS * b] / LOCAL_END != 0;
-    }
-    false
 }
 
 // The kept state as a block starts from it: fresh names from L + 1 on.

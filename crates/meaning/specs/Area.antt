@@ -4,7 +4,7 @@
 --   words 64 + 10 × i on  edge i: its ends; its marks and how many labels; up to eight labels
 -- A count beyond a limit of document 01 reads as the limit, and words of what is not held are free.
 use Prim.Native.Nat.{ℕ, zero, suc, _/_, _%_, min, _+_, _*_}
-use mathlib.Core.Bool.{cond, Bool, true, false, _&&_}
+use mathlib.Core.Bool.{cond, Bool, false, _&&_}
 use mathlib.Core.List.{List, _++_}
 use mathlib.Core.Logic.{_≢_}
 use mathlib.Core.Option.{Option, none, some}
@@ -74,11 +74,6 @@ stateIn l w = record {
 unfoldable pub decode : ℕ → (ℕ → ℕ) → Option State
 unfolding upTo edgeIn
 decode l w = cond (eqb (w 0 / labelEnd) 0) none (some (stateIn l w))
-
--- there is a kept state
-abbrev pub isKept : Option State → Bool
-isKept none = false
-isKept (some s) = true
 
 -- an area of n words has block b
 abbrev pub hasBlock : ℕ → ℕ → Bool

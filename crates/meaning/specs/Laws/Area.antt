@@ -15,7 +15,7 @@ use lib.Seq.{getD-set-same, getD-set-other, getD-drop, ext-getD, getD-append-add
 use Rattle.meaning.specs.Lists.{upTo}
 use Rattle.meaning.specs.BorrowGraph.{GEdge, Name}
 use Rattle.meaning.specs.AbstractState.{absent, value, ref, State, Local}
-use Rattle.meaning.specs.Area.{localAs, localIn, nameIn, edgeOf, labelIn, edgeIn, wordAt, wordsFrom, decode, hasBlock, keptOf, Stored, isKept, stateIn, zeros, cleared, unkept, forgotten}
+use Rattle.meaning.specs.Area.{localAs, localIn, nameIn, edgeOf, labelIn, edgeIn, wordAt, wordsFrom, decode, hasBlock, keptOf, Stored, stateIn, zeros, cleared, unkept, forgotten}
 use Rattle.meaning.specs.Laws.Base.{eqb-no, and-l, and-r, leb-le, decide, leb-gt, both, le-leb}
 
 -- ---- lists given by their elements
@@ -362,17 +362,6 @@ kept-in l ws b h = ap (λ (t : Bool). cond t (decode l (wordsFrom ws (1024 * b))
 pub kept-out : (l : ℕ) (ws : List ℕ) (b : ℕ) → hasBlock (length ws) b ≡ false → keptOf l ws b ≡ none
 unfolding keptOf
 kept-out l ws b h = ap (λ (t : Bool). cond t (decode l (wordsFrom ws (1024 * b))) none) h
-
--- whether a block has a kept state
-cond-kept : (b : Bool) (s : State) → isKept (cond b none (some s)) ≡ not b
-cond-kept true s = refl
-cond-kept false s = refl
-
-pub is-kept : (l : ℕ) (ws : List ℕ) (b : ℕ) → hasBlock (length ws) b ≡ true → isKept (keptOf l ws b) ≡ not (eqb (getD ws (1024 * b) 0 / 262144) 0)
-unfolding decode
-is-kept l ws b h =
-    let z : 1024 * b + 0 ≡ 1024 * b = omega arith in
-    ap isKept (kept-in l ws b h) ∙ cond-kept (eqb (wordsFrom ws (1024 * b) 0 / 262144) 0) (stateIn l (wordsFrom ws (1024 * b))) ∙ ap (λ (k : ℕ). not (eqb (getD ws k 0 / 262144) 0)) z
 
 -- ---- the cleared area
 
