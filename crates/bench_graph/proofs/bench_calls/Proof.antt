@@ -55,10 +55,17 @@ loop-less : tie.Need-loop-less Inv-loop μ-loop
 loop-less c = omega (arith, (c .before .before .before .before .before .before .before .before .before .before .loop-test) .taken)
 
 loop-again : tie.Need-loop-again Inv-loop μ-loop
-loop-again c = (turn (c .before .before .before .before) true (c .if1 .taken), omega (arith, (c .before .before .before .before .before .before .before .before .before .before .before .loop) .inv .1), omega (arith, (c .before .before .before .before .before .before .before .before .before .before .loop-test) .taken))
+loop-again c =
+    let loop = c .before .before .before .before .before .before .before .before .before .before .before .loop in
+    let test = c .before .before .before .before .before .before .before .before .before .before .loop-test in
+    (turn (c .before .before .before .before) true (c .if1 .taken), omega (arith, loop .inv .1), omega (arith, test .taken))
 
 add-refused : tie.Need-add-refused Inv-loop μ-loop
-add-refused c = omega (arith, (c .before .before .before .before .before .before .before .before .before .before .before .loop) .inv .1, (c .before .before .before .before .before .before .before .before .before .before .loop-test) .taken, (c .before .before .before .before .before .before .before .before .before .before .before .before .before .fits))
+add-refused c =
+    let loop = c .before .before .before .before .before .before .before .before .before .before .before .loop in
+    let test = c .before .before .before .before .before .before .before .before .before .before .loop-test in
+    let fits = c .before .before .before .before .before .before .before .before .before .before .before .before .before .fits in
+    omega (arith, loop .inv .1, test .taken, fits)
 
 add-i-2 : tie.Need-add-i-2 Inv-loop μ-loop
 add-i-2 c = omega (arith, (c .before .before .before .before .before .before .before .before .before .before .loop-test) .taken, (c .before .before .before .before .before .before .before .before .before .before .before .before .before .fits))
@@ -67,7 +74,10 @@ loop-less-2 : tie.Need-loop-less-2 Inv-loop μ-loop
 loop-less-2 c = omega (arith, (c .before .before .before .before .before .before .before .before .before .before .loop-test) .taken)
 
 loop-again-2 : tie.Need-loop-again-2 Inv-loop μ-loop
-loop-again-2 c = (turn (c .before .before .before .before) false (c .if1 .left), omega (arith, (c .before .before .before .before .before .before .before .before .before .before .before .loop) .inv .1), omega (arith, (c .before .before .before .before .before .before .before .before .before .before .loop-test) .taken))
+loop-again-2 c =
+    let loop = c .before .before .before .before .before .before .before .before .before .before .before .loop in
+    let test = c .before .before .before .before .before .before .before .before .before .before .loop-test in
+    (turn (c .before .before .before .before) false (c .if1 .left), omega (arith, loop .inv .1), omega (arith, test .taken))
 
 returns : tie.Need-returns Inv-loop μ-loop
 returns c =
