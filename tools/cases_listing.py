@@ -4,7 +4,8 @@
 The answers are stated beside the cases, and a reader written from document 01 must agree with each of them.
 """
 import sys
-from pathlib import Path
+
+from case_files import write
 
 SHAPES = {1: "F r", 2: "w w s", 10: "", 11: "l", 12: "l", 13: "l", 14: "", 15: "", 16: "", 17: "", 18: "l m", 19: "w m", 20: "w m",
           21: "w", 22: "p a r", 23: "", 24: "w w t", 25: "", 26: "2 m 1 t", 27: "m"}
@@ -255,19 +256,13 @@ def cases():
     yield bytes.fromhex("0300010000010005000200000003000005001800000001000001000D0000020012000001 01000C0000".replace(" ", "")), (0, 4)
 
 
-def main():
-    if sys.argv[1:]:
-        sys.exit(__doc__)
-    folder = Path(__file__).resolve().parent.parent / "crates/cases_listing"
-    given, answers = b"", ""
+def agreed():
     for n, (s, (number, place)) in enumerate(cases()):
         if read(s) != (number, place):
             sys.exit(f"case {n}: {s[:40].hex()} ({len(s)} bytes): stated {number} {place}, read {read(s)}")
-        given += len(s).to_bytes(3, "little") + s
-        answers += f"{number} {place:05}\n"
-    (folder / "stdin").write_bytes(given)
-    (folder / "stdout").write_text(answers)
-    print(answers.count("\n"), "cases,", len(given), "bytes")
+        yield s, f"{number} {place:05}"
 
 
-main()
+if sys.argv[1:]:
+    sys.exit(__doc__)
+write("cases_listing", agreed())

@@ -8,6 +8,8 @@ import subprocess
 import sys
 from pathlib import Path
 
+from case_files import write
+
 VALUE, REF, MUT = 0, 1, 2
 
 
@@ -205,11 +207,7 @@ def cases():
     yield [MUT], 2, 0, [move(0), store(1)], 0, True
 
 
-def main():
-    if sys.argv[2:] or sys.argv[1:] and not Path(sys.argv[1]).is_file():
-        sys.exit(__doc__)
-    folder = Path(__file__).resolve().parent.parent / "crates/cases_steps"
-    given, answers = b"", ""
+def agreed():
     for case in cases():
         listing = routine(*case[:4], *case[5:])
         code, place = case[4] or (0, 0)
@@ -218,11 +216,9 @@ def main():
             told = subprocess.run([sys.argv[1], listing.hex()], capture_output=True, text=True).stdout.split("\n")[0]
             if verdict not in told:
                 sys.exit(f"{listing.hex()}: stated {verdict}, the oracle says {told}")
-        given += len(listing).to_bytes(3, "little") + listing
-        answers += f"{code:03} {place:05}\n"
-    (folder / "stdin").write_bytes(given)
-    (folder / "stdout").write_text(answers)
-    print(answers.count("\n"), "cases,", len(given), "bytes")
+        yield listing, f"{code:03} {place:05}"
 
 
-main()
+if sys.argv[2:] or sys.argv[1:] and not Path(sys.argv[1]).is_file():
+    sys.exit(__doc__)
+write("cases_steps", agreed())
