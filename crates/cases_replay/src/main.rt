@@ -2,16 +2,18 @@
 // format. Prints how many answers are stored and how many of ours agree, visits too, after a line for each entry that does not.
 use libc::STDIN_FILENO;
 use libc::STDOUT_FILENO;
+use meaning::AREA_WORDS;
 use meaning::MAX_BYTES;
 use reference_safety_lib::reference_safety_verify;
 ghost use mathlib.Core.Path.{_≡_};
 ghost use Prim.Native.Nat.{_+_, _≤_};
 ghost use lib.ListN.{length};
+ghost use Rattle.meaning.specs.Limits.{areaWords};
 
-fn work_area() -> [u32; 16384]
-    ensures { λ r. ⌜ 16384 ≡ length r ⌝ }
+fn work_area() -> [u32; AREA_WORDS]
+    ensures { λ r. ⌜ areaWords ≡ length r ⌝ }
 {
-    [0; 16384]
+    [0; AREA_WORDS]
 }
 
 fn wide(b: u8) -> usize

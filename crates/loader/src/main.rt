@@ -3,8 +3,11 @@ use libc::STDIN_FILENO;
 use libc::STDOUT_FILENO;
 use loader_line::Line;
 use loader_line::answer_line;
+use meaning::AREA_WORDS;
+use meaning::MAX_BYTES;
 ghost use mathlib.Core.Path.{_≡_};
 ghost use lib.ListN.{length};
+ghost use Rattle.meaning.specs.Limits.{areaWords};
 ghost use Rattle.io.specs.Counts.{Counts};
 ghost use Rattle.loader_line.specs.Models.{Within};
 
@@ -15,16 +18,18 @@ struct Input {
 }
 
 // Room for the longest listing and one byte more, which tells that the input is too long.
-fn room() -> [u8; 65537]
+const ROOM: usize = MAX_BYTES + 1;
+
+fn room() -> [u8; ROOM]
     ensures { λ r. ⌜ 65537 ≡ length r ⌝ }
 {
-    [0; 65537]
+    [0; ROOM]
 }
 
-fn work_area() -> [u32; 16384]
-    ensures { λ r. ⌜ 16384 ≡ length r ⌝ }
+fn work_area() -> [u32; AREA_WORDS]
+    ensures { λ r. ⌜ areaWords ≡ length r ⌝ }
 {
-    [0; 16384]
+    [0; AREA_WORDS]
 }
 
 // Reads until the buffer is full, the input ends or a read fails.
