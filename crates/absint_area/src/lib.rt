@@ -6,6 +6,7 @@ use abstract_state::state::AbstractState;
 use meaning::AREA_WORDS;
 use meaning::BLOCK_WORDS;
 use meaning::MAX_BLOCKS;
+use meaning::MAX_LOCALS;
 ghost use mathlib.Core.Path.{_≡_};
 ghost use Rattle.meaning.specs.Area.{hasBlock, keptOf, Stored, forgotten, cleared};
 ghost use Rattle.meaning.specs.Answers.{done};
@@ -18,8 +19,10 @@ const LOCAL_END: u32 = 262144;
 
 const NAME_END: u32 = 65536;
 
+const LOCALS: usize = MAX_LOCALS as usize;
+
 // Where in a block's words the names and the edges start, and how many words an edge has.
-const REFS_AT: usize = 16;
+const REFS_AT: usize = LOCALS;
 
 const EDGES_AT: usize = 64;
 

@@ -3,6 +3,7 @@ use crate::EDGE_WORDS;
 use crate::EDGES_AT;
 use crate::Kept;
 use crate::LOCAL_END;
+use crate::LOCALS;
 use crate::NAME_END;
 use crate::REFS_AT;
 use abstract_state::state::AbstractState;
@@ -22,7 +23,7 @@ use references::RefID;
 ghost use mathlib.Core.Path.{_≡_};
 ghost use Prim.Native.Nat.{_+_, _*_, _≤_, min};
 ghost use lib.ListN.{length};
-ghost use Rattle.meaning.specs.Limits.{maxNames, maxEdges, maxLabels, blockWords};
+ghost use Rattle.meaning.specs.Limits.{maxLocals, maxNames, maxEdges, maxLabels, blockWords};
 ghost use Rattle.meaning.specs.Lists.{upTo};
 ghost use Rattle.meaning.specs.Area.{localIn, nameIn, labelIn, edgeIn, decode, wordAt, wordsFrom};
 ghost use Rattle.meaning.specs.Answers.{done};
@@ -32,10 +33,10 @@ ghost use Rattle.borrow_graph.specs.Models.{refOf, refsOf, gedgeOf, graphOf};
 ghost use Rattle.abstract_state.specs.Models.{localOf, localsIn, stateOf, outcomeOf};
 ghost use Rattle.absint_area.specs.Models.{loadedOf};
 
-const NO_LOCALS: [Local; 16] = [Local {
+const NO_LOCALS: [Local; LOCALS] = [Local {
     present: false,
     value: AbstractValue::NonReference,
-}; 16];
+}; LOCALS];
 
 const NO_REFS: [Ref; MAX_NAMES] = [Ref {
     id: RefID(0),
@@ -79,11 +80,11 @@ fn get_local(w: u32) -> Local
     }
 }
 
-fn get_locals(ws: &[u32], at: usize, num_locals: u8) -> [Local; 16]
-    requires { ⌜ at + 16 ≤ length (now ws) ⌝ }
-    ensures { λ r. ⌜ localsIn r «num_locals» ≡ upTo (min «num_locals» 16) (λ i. localIn (wordsFrom (now (ws .entry)) at i)) ⌝ }
+fn get_locals(ws: &[u32], at: usize, num_locals: u8) -> [Local; LOCALS]
+    requires { ⌜ at + maxLocals ≤ length (now ws) ⌝ }
+    ensures { λ r. ⌜ localsIn r «num_locals» ≡ upTo (min «num_locals» maxLocals) (λ i. localIn (wordsFrom (now (ws .entry)) at i)) ⌝ }
 {
-    let n = lesser(num_locals as usize, 16);
+    let n = lesser(num_locals as usize, LOCALS);
     let mut out = NO_LOCALS;
     let mut i: usize = 0;
     while i < n {
@@ -183,7 +184,7 @@ fn get_graph(ws: &[u32], at: usize, refs: Refs, n: usize) -> BorrowGraph
     g
 }
 
-fn state_at(locals: [Local; 16], graph: BorrowGraph, num_locals: u8) -> AbstractState
+fn state_at(locals: [Local; LOCALS], graph: BorrowGraph, num_locals: u8) -> AbstractState
     ensures { λ r. ⌜ (stateOf r ≡ record { locals = localsIn locals «num_locals»; graph = graphOf graph }) × (outcomeOf r ≡ done (startMachine «num_locals» (stateOf r) .state)) ⌝ }
 {
     AbstractState {

@@ -2,6 +2,7 @@
 use crate::EDGE_WORDS;
 use crate::EDGES_AT;
 use crate::LOCAL_END;
+use crate::LOCALS;
 use crate::NAME_END;
 use crate::REFS_AT;
 use abstract_state::state::AbstractState;
@@ -22,7 +23,7 @@ ghost use mathlib.Core.Path.{_≡_};
 ghost use mathlib.Core.Option.{some};
 ghost use Prim.Native.Nat.{ℕ, _+_, _*_, _≤_, _<_};
 ghost use lib.ListN.{length};
-ghost use Rattle.meaning.specs.Limits.{maxNames, maxEdges, maxLabels, maxBlocks, areaWords, blockWords};
+ghost use Rattle.meaning.specs.Limits.{maxLocals, maxNames, maxEdges, maxLabels, maxBlocks, areaWords, blockWords};
 ghost use Rattle.meaning.specs.Area.{localIn, nameIn, edgeIn, decode, wordAt, wordsFrom, unkept};
 ghost use Rattle.meaning.specs.Laws.Area.{bit, Frame, Written, WrittenEdges, IsLabel, IsLocal, IsName, IsZero, aboveLocal};
 ghost use Rattle.borrow_graph.specs.Models.{refOf, gedgeOf};
@@ -91,12 +92,12 @@ fn above_local(i: usize, names: usize, edges: usize) -> u32
     0
 }
 
-fn put_locals(ws: &mut [u32], at: usize, locals: [Local; 16], names: usize, edges: usize)
-    requires { ⌜ (at + 16 ≤ length (now ws)) × (names ≤ maxNames) × (edges ≤ maxEdges) ⌝ }
-    ensures { λ _. ⌜ Written (IsLocal (localAt locals) names edges) at 16 16 (now (ws .entry)) (now (ws .exit)) × (length locals ≡ 16) ⌝ }
+fn put_locals(ws: &mut [u32], at: usize, locals: [Local; LOCALS], names: usize, edges: usize)
+    requires { ⌜ (at + maxLocals ≤ length (now ws)) × (names ≤ maxNames) × (edges ≤ maxEdges) ⌝ }
+    ensures { λ _. ⌜ Written (IsLocal (localAt locals) names edges) at maxLocals maxLocals (now (ws .entry)) (now (ws .exit)) × (length locals ≡ 16) ⌝ }
 {
     let mut i: usize = 0;
-    while i < 16 {
+    while i < LOCALS {
         let x = locals[i];
         let a = above_local(i, names, edges);
         ws[at + i] = local_word(x) + a * LOCAL_END;
@@ -112,9 +113,9 @@ fn ref_word(x: Ref) -> u32
     m * NAME_END + (i.0 as u32)
 }
 
-fn put_refs(ws: &mut [u32], at: usize, list: [Ref; 48], n: usize)
+fn put_refs(ws: &mut [u32], at: usize, list: [Ref; MAX_NAMES], n: usize)
     requires { ⌜ (at + maxNames ≤ length (now ws)) × (n ≤ maxNames) ⌝ }
-    ensures { λ _. ⌜ Written (IsName (refAt list)) at 48 n (now (ws .entry)) (now (ws .exit)) × (length list ≡ maxNames) ⌝ }
+    ensures { λ _. ⌜ Written (IsName (refAt list)) at maxNames n (now (ws .entry)) (now (ws .exit)) × (length list ≡ maxNames) ⌝ }
 {
     let mut i: usize = 0;
     while i < n {
@@ -157,7 +158,7 @@ fn put_edge(ws: &mut [u32], at: usize, x: GraphEdge)
 
 fn put_edges(ws: &mut [u32], at: usize, g: BorrowGraph, n: usize)
     requires { ⌜ (at + 960 ≤ length (now ws)) × (n ≤ maxEdges) ⌝ }
-    ensures { λ _. ⌜ WrittenEdges (edgeAt (g .edges)) at 96 n (now (ws .entry)) (now (ws .exit)) × (length (g .edges) ≡ maxEdges) ⌝ }
+    ensures { λ _. ⌜ WrittenEdges (edgeAt (g .edges)) at maxEdges n (now (ws .entry)) (now (ws .exit)) × (length (g .edges) ≡ maxEdges) ⌝ }
 {
     let mut i: usize = 0;
     while i < n {

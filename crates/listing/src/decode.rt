@@ -6,13 +6,18 @@ use listing_records::body;
 use listing_records::byte_at;
 use listing_records::u16_at;
 use meaning::MAX_ACQUIRED;
+use meaning::MAX_LOCALS;
 use meaning::MAX_RETURNS;
 ghost use mathlib.Core.Path.{_≡_};
 ghost use Prim.Native.Nat.{_≤_, _<_};
 ghost use lib.ListN.{getD, take};
 ghost use Rattle.file_format.specs.Models.{tokenOf};
+ghost use Rattle.meaning.specs.Limits.{maxLocals};
 ghost use Rattle.meaning.specs.Listing.{tokenAs, flagAt, wordsAt, instrOf};
 ghost use Rattle.listing.specs.Models.{bytesAt, plainOf, decodedOf, decodedAt, callFor};
+
+// Room for the parameters of a routine, and for what a call acquires or returns: none of them is more than the locals may be.
+pub(crate) const ROOM: usize = MAX_LOCALS as usize;
 
 // One variant for each kind of instruction record.
 pub enum Instruction {
@@ -44,9 +49,9 @@ pub enum Instruction {
 // An instruction, and for a call the numbers that it acquires and the tokens (0, 1, 2) of what it returns. Slots from a count on are free.
 pub struct Decoded {
     pub instruction: Instruction,
-    pub acquired: [u16; 16],
+    pub acquired: [u16; ROOM],
     pub acquired_count: usize,
-    pub tokens: [u8; 16],
+    pub tokens: [u8; ROOM],
     pub token_count: usize,
 }
 
@@ -62,11 +67,11 @@ fn token_of(n: u8) -> SignatureToken
 }
 
 // n bytes from a place on.
-pub(crate) fn bytes_at(b: &[u8], from: usize, n: usize) -> [u8; 16]
-    requires { ⌜ (n ≤ 16) × (from < 65536) ⌝ }
+pub(crate) fn bytes_at(b: &[u8], from: usize, n: usize) -> [u8; ROOM]
+    requires { ⌜ (n ≤ maxLocals) × (from < 65536) ⌝ }
     ensures { λ r. ⌜ take n r ≡ bytesAt (now (b .entry)) from n ⌝ }
 {
-    let mut out = [0u8; 16];
+    let mut out = [0u8; ROOM];
     let mut i: usize = 0;
     while i < n {
         out[i] = byte_at(b, from + i);
@@ -76,11 +81,11 @@ pub(crate) fn bytes_at(b: &[u8], from: usize, n: usize) -> [u8; 16]
 }
 
 // n numbers from a place on.
-fn words_at(b: &[u8], from: usize, n: usize) -> [u16; 16]
-    requires { ⌜ (n ≤ 16) × (from < 65536) ⌝ }
+fn words_at(b: &[u8], from: usize, n: usize) -> [u16; ROOM]
+    requires { ⌜ (n ≤ maxLocals) × (from < 65536) ⌝ }
     ensures { λ r. ⌜ take n r ≡ wordsAt (now (b .entry)) from n ⌝ }
 {
-    let mut out = [0u16; 16];
+    let mut out = [0u16; ROOM];
     let mut i: usize = 0;
     while i < n {
         out[i] = u16_at(b, from + 2 * i);
@@ -138,9 +143,9 @@ fn alone(instruction: Instruction) -> Decoded
 {
     Decoded {
         instruction,
-        acquired: [0u16; 16],
+        acquired: [0u16; ROOM],
         acquired_count: 0,
-        tokens: [0u8; 16],
+        tokens: [0u8; ROOM],
         token_count: 0,
     }
 }

@@ -36,7 +36,7 @@ pub struct Block {
 // A routine that was read: the tokens (0, 1, 2) of its parameters, L, the number of its returns, where the record of each
 // instruction starts, and the blocks in listed order. Slots from a count on are free.
 pub struct Routine {
-    pub params: [u8; 16],
+    pub params: [u8; decode::ROOM],
     pub param_count: usize,
     pub locals: u8,
     pub returns: u8,
@@ -70,7 +70,7 @@ fn refused(number: u8, place: usize) -> Listed
         number,
         place,
         routine: Routine {
-            params: [0u8; 16],
+            params: [0u8; decode::ROOM],
             param_count: 0,
             locals: 0,
             returns: 0,
