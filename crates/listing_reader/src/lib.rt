@@ -1,5 +1,5 @@
 // The listing reader (document 01): a struct that holds the lent bytes and where the next record starts. It is thin over the cursor
-// of `records`: each function takes the struct apart and calls one that takes the bytes and a place.
+// of `listing_records`: each function takes the struct apart and calls one that takes the bytes and a place.
 use listing_records::Cursor;
 use listing_records::Found;
 use listing_records::body;
