@@ -24,6 +24,7 @@ macro_rules! exported {
 }
 
 exported!(reference_safety_verify);
+exported!(reference_safety_analyze);
 
 pub const AREA: usize = 16_384;
 const BEYOND: usize = 16;
@@ -34,9 +35,16 @@ fn called(function: Function, listing: &[u8], area: &mut [u32], answer: &mut [u3
     unsafe { function(listing.as_ptr(), listing.len(), from, words, answer.as_mut_ptr(), answer.len()) }
 }
 
-/// A bare call, for the benchmark.
-pub fn call(listing: &[u8], area: &mut [u32], answer: &mut [u32; 4]) -> bool {
+/// A bare call.
+pub type Call = fn(&[u8], &mut [u32], &mut [u32; 4]) -> bool;
+
+pub fn verify_call(listing: &[u8], area: &mut [u32], answer: &mut [u32; 4]) -> bool {
     called(reference_safety_verify, listing, area, answer)
+}
+
+/// Leaves the kept states in the area.
+pub fn analyze_call(listing: &[u8], area: &mut [u32], answer: &mut [u32; 4]) -> bool {
+    called(reference_safety_analyze, listing, area, answer)
 }
 
 /// Its answer, from an area in use; or what it did to the area that document 01 forbids.
@@ -65,7 +73,7 @@ pub fn verify_short(listing: &[u8]) -> Result<Answer, &'static str> {
 
 fn answered(listing: &[u8], area: &mut [u32]) -> Result<Answer, &'static str> {
     let mut words = [u32::MAX; 4];
-    if !call(listing, area, &mut words) {
+    if !verify_call(listing, area, &mut words) {
         return Err("no answer");
     }
     // An acceptance has neither number nor place.
@@ -77,19 +85,17 @@ fn answered(listing: &[u8], area: &mut [u32]) -> Result<Answer, &'static str> {
 
 #[cfg(feature = "watched")]
 mod shown {
-    use super::{called, AREA, USED};
+    use super::{analyze_call, AREA, USED};
     use crate::{
         kept::{Edge, State},
         listing,
     };
 
-    exported!(reference_safety_analyze);
-
     /// The kept states by entry, of a listing that is read.
     pub fn kept_states(listing: &[u8]) -> Vec<(u16, State)> {
         let routine = listing::read(listing).expect("a listing that is read");
         let mut area = vec![USED; AREA];
-        called(reference_safety_analyze, listing, &mut area, &mut [0; 4]);
+        analyze_call(listing, &mut area, &mut [0; 4]);
         let blocks = routine.blocks.iter().zip(area.chunks(1_024));
         let mut kept: Vec<(u16, State)> = blocks
             .filter(|(_, words)| words[0] >> 18 != 0)

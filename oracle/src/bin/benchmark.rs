@@ -15,17 +15,23 @@ use std::{env, hint::black_box, time::Instant};
 /// Fewer visits than these are too few for (b).
 const MANY_VISITS: u32 = 100;
 const LOOPS: usize = 100;
+const LOADS: usize = 10_000;
 
 /// What is timed: a name, and the run of the listing of that number.
 type Side<'a> = (&'static str, Box<dyn Fn(usize) + 'a>);
 
 fn main() {
     let rounds = env::args().nth(1).map_or(40, |a| a.parse().expect("a number"));
-    let loads: Vec<Vec<u8>> = (0..10_000).map(|start| load::listing(start, 100)).collect();
+    let loads: Vec<Vec<u8>> = (0..LOADS as u32).map(|start| load::listing(start, 100)).collect();
     whole("(a) A7's routines, starts 0 to 9,999, 100 draws", &loads, rounds);
     whole("(b) accepted routines with loops in loops", &loops(), rounds);
+    let short: Vec<Vec<u8>> =
+        (0..).map(|start| load::listing(start, 20)).filter(|l| accepted(l)).take(LOADS).collect();
+    whole("(c) accepted routines of A7, 20 draws", &short, rounds);
+    whole("(d) 512 instructions in 16 blocks, with references and loops", &seeded(load::blocks), rounds);
+    whole("(e) 512 instructions, calls that acquire 16 numbers", &seeded(load::calls), rounds);
     let cut: Vec<Vec<u8>> = loads.iter().map(|l| without_blocks(l)).collect();
-    println!("(c) the reading alone: (a) without its block records, refused with 5");
+    println!("the reading alone: (a) without its block records, refused with 5");
     let reading = |at: usize| drop(black_box(listing::read(&cut[at])));
     table(vec![("the adapter's reading", Box::new(reading))], &cut, rounds)
 }
@@ -58,10 +64,23 @@ fn table<'a>(mut sides: Vec<Side<'a>>, listings: &'a [Vec<u8>], rounds: u32) {
     for ((name, _), time) in sides.iter().zip(&best) {
         println!("  {name:30} {time:12.0} ns")
     }
-    match best.get(others) {
-        Some(time) => (0..others).for_each(|at| println!("  to {}: {:.2}", sides[at].0, time / best[at])),
-        None => println!("  our verify is not linked"),
+    if best.len() == others {
+        println!("  our verify is not linked")
     }
+    for (at, time) in best.iter().enumerate().skip(others) {
+        (0..others)
+            .for_each(|other| println!("  {} to {}: {:.2}", sides[at].0, sides[other].0, time / best[other]))
+    }
+}
+
+fn accepted(listing: &[u8]) -> bool {
+    decoded(listing).verify().is_ok()
+}
+
+fn seeded(make: fn(&mut Rng) -> Vec<u8>) -> Vec<Vec<u8>> {
+    let all: Vec<Vec<u8>> = (0..LOOPS as u64).map(|number| make(&mut Rng::new(0, number))).collect();
+    assert!(all.iter().all(|l| accepted(l)), "a load that is not accepted");
+    all
 }
 
 fn decoded(listing: &[u8]) -> Adapted {
@@ -88,16 +107,20 @@ fn loops() -> Vec<Vec<u8>> {
 }
 
 #[cfg(not(feature = "ours"))]
-fn ours(_: &[Vec<u8>]) -> Option<Side<'_>> {
-    None
+fn ours(_: &[Vec<u8>]) -> Vec<Side<'_>> {
+    vec![]
 }
 
-/// From bytes to answer; the area is zeroed within.
+/// From bytes to answer: with the area zeroed within the time, and with the kept states left in it.
 #[cfg(feature = "ours")]
-fn ours(listings: &[Vec<u8>]) -> Option<Side<'_>> {
-    let area = std::cell::RefCell::new(vec![0u32; oracle::ours::AREA]);
-    let run = move |at: usize| {
-        black_box(oracle::ours::call(&listings[at], &mut area.borrow_mut(), &mut [0; 4]));
+fn ours(listings: &[Vec<u8>]) -> Vec<Side<'_>> {
+    use oracle::ours::{analyze_call, verify_call, Call};
+    let side = |name, call: Call| -> Side<'_> {
+        let area = std::cell::RefCell::new(vec![0u32; oracle::ours::AREA]);
+        let run = move |at: usize| {
+            black_box(call(&listings[at], &mut area.borrow_mut(), &mut [0; 4]));
+        };
+        (name, Box::new(run))
     };
-    Some(("ours", Box::new(run)))
+    vec![side("ours, area zeroed", verify_call), side("ours, area not zeroed", analyze_call)]
 }
