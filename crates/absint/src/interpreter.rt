@@ -14,6 +14,7 @@ use abstract_state_join::first::new;
 use listing::Block;
 use listing::Routine;
 use meaning::MAX_BLOCKS;
+use meaning::MAX_INSTRUCTIONS;
 use reference_safety::block::run_block;
 ghost use mathlib.Core.Path.{_≡_};
 ghost use Prim.Native.Nat.{_≤_, _<_};
@@ -43,9 +44,15 @@ fn with_locals(s: AbstractState, locals: u8) -> AbstractState
 }
 
 // The next block: passed over where it has no kept state, else run from it.
-fn turn(listing: &[u8], routine: Routine, area: &mut [u32], t: RunState) -> RunState
-    requires { ⌜ Ready (now listing) routine (now area) t ⌝ }
-    ensures { λ r. ⌜ Turned (now (listing .entry)) routine (now (area .entry)) (now (area .exit)) t r ⌝ }
+fn turn(
+    listing: &[u8],
+    routine: Routine,
+    code: &[u16; MAX_INSTRUCTIONS],
+    area: &mut [u32],
+    t: RunState,
+) -> RunState
+    requires { ⌜ Ready (now listing) (now code) routine (now area) t ⌝ }
+    ensures { λ r. ⌜ Turned (now (listing .entry)) (now (code .entry)) routine (now (area .entry)) (now (area .exit)) t r ⌝ }
 {
     let i = t.next;
     let mut u = t;
@@ -56,7 +63,7 @@ fn turn(listing: &[u8], routine: Routine, area: &mut [u32], t: RunState) -> RunS
     let k = load(area, i, routine.locals);
     if k.present {
         let start = k.state;
-        let r = run_block(listing, routine, b, start);
+        let r = run_block(listing, routine, code, b, start);
         let s = r.state;
         let place = r.place;
         u.visits = t.visits + 1;
@@ -82,9 +89,14 @@ fn turn(listing: &[u8], routine: Routine, area: &mut [u32], t: RunState) -> RunS
 }
 
 // The loop has no budget: `turns` only counts, and its bound is that of the visits (document 01, demand 3).
-pub(crate) fn analyze_function(listing: &[u8], routine: Routine, area: &mut [u32]) -> RunState
-    requires { ⌜ Readable (now listing) routine × (areaWords ≤ length (now area)) ⌝ }
-    ensures { λ r. ⌜ Analyzed (now (listing .entry)) routine (now (area .entry)) (now (area .exit)) r ⌝ }
+pub(crate) fn analyze_function(
+    listing: &[u8],
+    routine: Routine,
+    code: &[u16; MAX_INSTRUCTIONS],
+    area: &mut [u32],
+) -> RunState
+    requires { ⌜ Readable (now listing) (now code) routine × (areaWords ≤ length (now area)) ⌝ }
+    ensures { λ r. ⌜ Analyzed (now (listing .entry)) (now (code .entry)) routine (now (area .entry)) (now (area .exit)) r ⌝ }
 {
     let params = routine.params;
     let s = new(routine.locals, params, routine.param_count);
@@ -92,7 +104,7 @@ pub(crate) fn analyze_function(listing: &[u8], routine: Routine, area: &mut [u32
     store(area, 0, s);
     let mut t = RunState::start();
     while !t.stopped & (t.next < routine.block_count) {
-        t = turn(listing, routine, area, t);
+        t = turn(listing, routine, code, area, t);
     }
     t
 }

@@ -14,6 +14,7 @@ use listing::Routine;
 use listing::read_listing;
 use meaning::AREA_WORDS;
 use meaning::MAX_BLOCKS;
+use meaning::MAX_INSTRUCTIONS;
 ghost use mathlib.Core.Path.{_≡_};
 ghost use Prim.Native.Nat.{ℕ, _≤_};
 ghost use mathlib.Core.List.{List};
@@ -45,13 +46,14 @@ pub fn analyze(listing: &[u8], area: &mut [u32]) -> Verdict
     if area.len() < AREA_WORDS {
         return refused(7, 0);
     }
-    let l = read_listing(listing);
+    let mut code = [0u16; MAX_INSTRUCTIONS];
+    let l = read_listing(listing, &mut code);
     if l.number != 0 {
         return refused(l.number, l.place);
     }
     let all = l.routine;
     let q = within_blocks(all);
-    let t = analyze_function(listing, q, area);
+    let t = analyze_function(listing, q, &code, area);
     let blocks = q.blocks;
     Verdict {
         ruling: verdict_of(blocks, q.block_count, t),
@@ -70,7 +72,7 @@ pub fn verify(listing: &[u8], area: &mut [u32]) -> Verdict
 
 // The same routine, its blocks counted as they are read: 16 at most.
 fn within_blocks(routine: Routine) -> Routine
-    ensures { λ r. ⌜ ((s : List ℕ) → routineOf s r ≡ routineOf s routine) × (r .«block_count» ≤ maxBlocks) × (length (blocksIn (r .blocks) (r .«block_count»)) ≡ r .«block_count») ⌝ }
+    ensures { λ r. ⌜ ((s cs : List ℕ) → routineOf s cs r ≡ routineOf s cs routine) × (r .«block_count» ≤ maxBlocks) × (length (blocksIn (r .blocks) (r .«block_count»)) ≡ r .«block_count») ⌝ }
 {
     let mut q = routine;
     if MAX_BLOCKS < routine.block_count {

@@ -1,5 +1,6 @@
 // The reader for a driver in Rust or C (bench/).
 use listing::read_listing;
+use meaning::MAX_INSTRUCTIONS;
 ghost use mathlib.Core.Path.{_≡_};
 ghost use Rattle.meaning.specs.Listing.{readListing};
 ghost use Rattle.bench_listing.specs.Number.{numberOf};
@@ -9,6 +10,7 @@ ghost use Rattle.bench_listing.specs.Number.{numberOf};
 pub extern "C" fn listing_number(s: &[u8]) -> u8
     ensures { λ r. ⌜ r ≡ numberOf (readListing (now (s .entry))) ⌝ }
 {
-    let r = read_listing(s);
+    let mut code = [0u16; MAX_INSTRUCTIONS];
+    let r = read_listing(s, &mut code);
     r.number
 }

@@ -3,6 +3,7 @@
 use libc::STDIN_FILENO;
 use libc::STDOUT_FILENO;
 use listing::read_listing;
+use meaning::MAX_INSTRUCTIONS;
 ghost use mathlib.Core.Path.{_≡_};
 ghost use Prim.Native.Nat.{_+_, _≤_};
 ghost use lib.ListN.{length};
@@ -47,7 +48,8 @@ fn write_line(number: u8, place: usize) -> bool {
 }
 
 fn answer(s: &[u8]) -> bool {
-    let r = read_listing(s);
+    let mut code = [0u16; MAX_INSTRUCTIONS];
+    let r = read_listing(s, &mut code);
     if r.number == 0 {
         write_line(0, r.routine.code_count)
     } else {

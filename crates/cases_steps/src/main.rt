@@ -7,6 +7,7 @@ use libc::STDOUT_FILENO;
 use listing::Block;
 use listing::Routine;
 use listing::read_listing;
+use meaning::MAX_INSTRUCTIONS;
 use reference_safety::block::Ran;
 use reference_safety::block::run_block;
 ghost use mathlib.Core.Path.{_≡_};
@@ -77,12 +78,13 @@ fn first_state(q: Routine) -> AbstractState {
 }
 
 fn answer(s: &[u8]) -> bool {
-    let l = read_listing(s);
+    let mut code = [0u16; MAX_INSTRUCTIONS];
+    let l = read_listing(s, &mut code);
     if l.number != 0 {
         return write_line(l.number as usize, l.place);
     }
     let q = l.routine;
-    write_ran(run_block(s, q, first_block(q), first_state(q)))
+    write_ran(run_block(s, q, &code, first_block(q), first_state(q)))
 }
 
 fn run_all(s: &[u8]) {

@@ -33,14 +33,13 @@ pub struct Block {
     pub second: CodeOffset,
 }
 
-// A routine that was read: the tokens (0, 1, 2) of its parameters, L, the number of its returns, where the record of each
-// instruction starts, and the blocks in listed order. Slots from a count on are free.
+// A routine that was read: the tokens (0, 1, 2) of its parameters, L, the number of its returns, how many instructions it has, and the blocks
+// in listed order. Where the record of each instruction starts stands beside, in an array that the caller lends. Slots from a count on are free.
 pub struct Routine {
     pub params: [u8; decode::ROOM],
     pub param_count: usize,
     pub locals: u8,
     pub returns: u8,
-    pub code: [u16; MAX_INSTRUCTIONS],
     pub code_count: usize,
     pub blocks: [Block; MAX_BLOCKS],
     pub block_count: usize,
@@ -74,7 +73,6 @@ fn refused(number: u8, place: usize) -> Listed
             param_count: 0,
             locals: 0,
             returns: 0,
-            code: [0u16; MAX_INSTRUCTIONS],
             code_count: 0,
             blocks: [no_block(); MAX_BLOCKS],
             block_count: 0,
@@ -112,23 +110,27 @@ fn blocks_at(s: &[u8], places: [u16; MAX_BLOCKS], n: usize) -> [Block; MAX_BLOCK
 }
 
 // A routine whose records were read, under the rules on blocks and on Ret.
-fn ruled(s: &[u8], head: &[u8], w: Places) -> Listed
-    requires { ⌜ Sound (now s) (now head) w ⌝ }
-    ensures { λ r. ⌜ listedOf (now (s .entry)) r ≡ ruledPlaces (now (s .entry)) (placesIn w) ⌝ }
+fn ruled(
+    s: &[u8],
+    head: &[u8],
+    w: Places,
+    places: [u16; MAX_BLOCKS],
+    code: &[u16; MAX_INSTRUCTIONS],
+) -> Listed
+    requires { ⌜ Sound (now s) (now head) w places (now code) ⌝ }
+    ensures { λ r. ⌜ listedOf (now (s .entry)) (now (code .entry)) r ≡ ruledPlaces (now (s .entry)) (placesIn places (now (code .entry)) w) ⌝ }
 {
     let n = w.block_count;
     let m = w.code_count;
     if n == 0 {
         return refused(5, s.len());
     }
-    let places = w.blocks;
-    let code = w.code;
     let blocks = blocks_at(s, places, n);
     let bad = rules::first_faulty(blocks, n, m);
     if bad < n {
         return refused(5, place(places[bad]));
     }
-    let stray = rules::first_stray(s, code, m, blocks, n);
+    let stray = rules::first_stray(s, code, w.first_ret, m, blocks, n);
     if stray < m {
         return refused(5, place(code[stray]));
     }
@@ -142,7 +144,6 @@ fn ruled(s: &[u8], head: &[u8], w: Places) -> Listed
             param_count,
             locals: byte_at(head, 1),
             returns: byte_at(head, 2 + param_count),
-            code,
             code_count: m,
             blocks,
             block_count: n,
@@ -150,13 +151,15 @@ fn ruled(s: &[u8], head: &[u8], w: Places) -> Listed
     }
 }
 
-// What a listing means: every byte string gets a routine, or the refusal and the place of document 01.
-pub fn read_listing(s: &[u8]) -> Listed
-    ensures { λ r. ⌜ listedOf (now (s .entry)) r ≡ readListing (now (s .entry)) ⌝ }
+// What a listing means: every byte string gets a routine, or the refusal and the place of document 01. Where the record of each instruction starts
+// is put into the lent array; beside a refusal what it holds is free, and nothing is said of it.
+pub fn read_listing(s: &[u8], code: &mut [u16; MAX_INSTRUCTIONS]) -> Listed
+    ensures { λ r. ⌜ listedOf (now (s .entry)) (now (code .exit)) r ≡ readListing (now (s .entry)) ⌝ }
 {
-    let w = read_places(s);
+    let mut places = [0u16; MAX_BLOCKS];
+    let w = read_places(s, &mut places, code);
     if w.number != 0 {
         return refused(w.number, w.place);
     }
-    ruled(s, head(s), w)
+    ruled(s, head(s), w, places, code)
 }

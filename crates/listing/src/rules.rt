@@ -2,16 +2,18 @@
 use crate::Block;
 use file_format::CodeOffset;
 use listing_records::place;
+use listing_records::shapes::RET;
 use listing_records::u16_at;
 use meaning::MAX_BLOCKS;
 use meaning::MAX_INSTRUCTIONS;
 ghost use mathlib.Core.Path.{_≡_};
 ghost use Prim.Native.Nat.{_≤_, _<_};
 ghost use mathlib.Core.List.{map};
-ghost use lib.ListN.{take, drop};
+ghost use lib.ListN.{length, take, drop};
 ghost use Rattle.meaning.specs.Limits.{maxBlocks, maxInstructions};
 ghost use Rattle.meaning.specs.Lists.{any};
 ghost use Rattle.meaning.specs.Listing.{overlap, entryIn, endsBlock, faultySuccessor, faultyBlock, firstOf, strayRet, instrAt};
+ghost use Rattle.listing_records.specs.Models.{beforeRet};
 ghost use Rattle.listing.specs.Models.{blockOf, blocksIn, faultySuccessors};
 
 // That a block listed at `from` or later has this entry.
@@ -140,21 +142,22 @@ fn ends_block(blocks: [Block; MAX_BLOCKS], n: usize, k: CodeOffset) -> bool
     false
 }
 
-// The first Ret that is not the exit of a block without successors; m, if there is none.
+// The first Ret that is not the exit of a block without successors; m, if there is none. No Ret stands before `first`.
 pub(crate) fn first_stray(
     s: &[u8],
-    code: [u16; MAX_INSTRUCTIONS],
+    code: &[u16; MAX_INSTRUCTIONS],
+    first: usize,
     m: usize,
     blocks: [Block; MAX_BLOCKS],
     n: usize,
 ) -> usize
-    requires { ⌜ (n ≤ maxBlocks) × (m ≤ maxInstructions) ⌝ }
-    ensures { λ r. ⌜ r ≡ firstOf (strayRet (map (instrAt (now (s .entry))) (take m code)) (blocksIn blocks n)) 0 m ⌝ }
+    requires { ⌜ (n ≤ maxBlocks) × (m ≤ maxInstructions) × (length (now code) ≡ maxInstructions) × (first ≡ beforeRet (now s) (take m (now code))) ⌝ }
+    ensures { λ r. ⌜ r ≡ firstOf (strayRet (map (instrAt (now (s .entry))) (take m (now (code .entry)))) (blocksIn blocks n)) 0 m ⌝ }
 {
-    let mut k: usize = 0;
+    let mut k = first;
     while k < m {
         let start = place(code[k]);
-        if u16_at(s, start + 2) == 23 {
+        if u16_at(s, start + 2) == RET {
             if !ends_block(blocks, n, CodeOffset(k as u16)) {
                 return k;
             }

@@ -20,7 +20,7 @@ use Rattle.listing_records.specs.declared.Found.{Found}
 use Rattle.listing_records.specs.declared.Found.the-variants.{Record, Short, End}
 use Rattle.listing_records.specs.declared.Test.{Test}
 use Rattle.listing_records.specs.declared.Places.{Places}
-use Rattle.listing_records.specs.Models.{fieldList, fieldOf, packed, limitOf, faultOf, Head, foundOf, foundAt, bodyFault, Tested, fullOf, placesOf}
+use Rattle.listing_records.specs.Models.{fieldList, fieldOf, packed, limitOf, faultOf, Head, foundOf, foundAt, bodyFault, Tested, fullOf, beforeRet, placesOf, ReadInto}
 use Rattle.listing_records.proofs.Lists.{or-none, leb-iff}
 
 -- ---- fields
@@ -283,11 +283,25 @@ tail-part b i = let d : length (drop i b) ≡ length b - i = length-drop i b in 
 
 -- ---- the records in turn
 
-pub places-refused : (r : Places) (n at : ℕ) → r .number ≡ n → r .place ≡ at → (n ≡ 0 → ⊥) → placesOf r ≡ D.Listed.refused n at
+pub places-refused : (bs cs : List ℕ) (r : Places) (n at : ℕ) → r .number ≡ n → r .place ≡ at → (n ≡ 0 → ⊥) → placesOf bs cs r ≡ D.Listed.refused n at
 unfolding placesOf
-places-refused r n at e p h =
+places-refused bs cs r n at e p h =
     let q : eqb (r .number) 0 ≡ false = rw e (ne-eqb n 0 h) in
     rw (q, e, p)
+
+-- a refusal, beside which nothing is said of the arrays but how long they are
+pub none-read : (p : D.Listed D.Places) (s bs cs : List ℕ) (r : Places) (n at : ℕ)
+    → (r .number ≡ n) × (r .place ≡ at) × (r .«block_count» ≡ 0) × (r .«code_count» ≡ 0) × (r .«first_ret» ≡ 0)
+    → (n ≡ 0 → ⊥) → length bs ≡ 16 → length cs ≡ 512 → D.Listed.refused n at ≡ p → ReadInto p s bs cs r
+unfolding beforeRet
+none-read p s bs cs r n at e h fb fc q = record {
+  places = places-refused bs cs r n at (e .0) (e .1) h ∙ q;
+  blocks = rw (e .2) (omega arith);
+  code = rw (e .3) (omega arith);
+  ret = rw (e .3, e .4);
+  all-blocks = fb;
+  all-code = fc;
+}
 
 fine-not : {A : Type 0} (n at : ℕ) (k : D.Listed A) → (n ≡ 0 → ⊥) → D.ifFine (faultOf n) at k ≡ D.Listed.refused n at
 fine-not zero at k h = absurd (h refl)

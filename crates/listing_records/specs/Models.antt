@@ -1,12 +1,13 @@
 -- What the structs of the code mean in the definitions.
-use Prim.Native.Nat.{ℕ, zero, suc, _/_, _%_, _≤_, _<_}
+use Prim.Native.Nat.{ℕ, zero, suc, _+_, _/_, _%_, _≤_, _<_, min}
 use mathlib.Core.Path.{_≡_}
-use mathlib.Core.Bool.{Bool, true, false, cond, not}
-use mathlib.Core.List.{List, [], _∷_}
+use mathlib.Core.Bool.{Bool, true, false, cond, not, _&&_}
+use mathlib.Core.List.{List, [], _∷_, _++_}
 use mathlib.Core.Option.{Option, none, some}
 use lib.ListN.{length, getD, take}
-use lib.Dec.{leb, eqb}
+use lib.Dec.{leb, ltb, eqb}
 use Rattle.meaning.specs.Limits.{maxParameters, maxAcquired, maxReturns, maxInstructions, maxBlocks}
+use Rattle.meaning.specs.Lists.{upTo}
 use Rattle.meaning.specs.Listing as D
 use Rattle.listing_records.specs.declared.shapes.Shape.{Shape}
 use Rattle.listing_records.specs.declared.Field.{Field}
@@ -60,6 +61,46 @@ pub record ShapeFor (kind : ℕ) (r : Shape) : Type 0 where
 abbrev pub limitOf : ℕ → ℕ → ℕ
 limitOf l f = getD (1 ∷ 2 ∷ 3 ∷ 256 ∷ l ∷ []) f 256
 
+-- ---- rows of limits
+
+-- for each byte of a field of a fixed width the least number that it may not be; one of another field may be none
+abbrev pub byteLimits : ℕ → D.Field → List ℕ
+byteLimits l (D.Field.byte r m) = suc (min r m) ∷ []
+byteLimits l D.Field.word = 256 ∷ 256 ∷ []
+byteLimits l D.Field.localIndex = l ∷ []
+byteLimits l (D.Field.words r m) = 0 ∷ []
+byteLimits l (D.Field.tokens m) = 0 ∷ []
+byteLimits l D.Field.frame = 0 ∷ []
+
+-- those of a body
+unfoldable pub bodyLimits : ℕ → List D.Field → List ℕ
+bodyLimits l [] = []
+bodyLimits l (f ∷ fs) = byteLimits l f ++ bodyLimits l fs
+
+-- n limits: bytes past the body have none
+unfoldable pub padded : ℕ → List ℕ → List ℕ
+padded zero ms = []
+padded (suc n) [] = 256 ∷ padded n []
+padded (suc n) (m ∷ ms) = m ∷ padded n ms
+
+-- the row of a kind: how long its body is, and the limits of five bytes
+unfoldable pub limitRow : ℕ → ℕ → List ℕ
+limitRow l k = length (bodyLimits l (D.fieldsOf k)) ∷ padded 5 (bodyLimits l (D.fieldsOf k))
+
+-- the rows of the kinds from 10 on
+unfoldable pub limitRows : ℕ → List (List ℕ)
+limitRows l = upTo 18 (λ i. limitRow l (10 + i))
+
+-- that a record at a place whose body has n bytes keeps to a row
+unfoldable pub keepsTo : List ℕ → ℕ → List ℕ → ℕ → Bool
+keepsTo row n s at =
+    eqb n (getD row 0 0)
+    && ltb (getD s (at + 4) 0) (getD row 1 0)
+    && ltb (getD s (at + 5) 0) (getD row 2 0)
+    && ltb (getD s (at + 6) 0) (getD row 3 0)
+    && ltb (getD s (at + 7) 0) (getD row 4 0)
+    && ltb (getD s (at + 8) 0) (getD row 5 0)
+
 -- what the tests of a field that starts these bytes say
 pub record FieldFor (l : ℕ) (f : D.Field) (b : List ℕ) (r : Field) : Type 0 where
   pub width : r .width ≡ D.fieldWidth f b
@@ -108,8 +149,27 @@ abbrev pub pickPlaces : Bool → D.Places → ℕ → ℕ → D.Listed D.Places
 pickPlaces true w n at = D.Listed.read w
 pickPlaces false w n at = D.Listed.refused n at
 
-abbrev pub placesIn : Places → D.Places
-placesIn r = record { blocks = take (r .«block_count») (r .blocks); code = take (r .«code_count») (r .code) }
+-- how many instructions stand before the first Ret, of those whose records start at these places
+unfoldable pub beforeRet : List ℕ → List ℕ → ℕ
+beforeRet s [] = 0
+beforeRet s (p ∷ ps) = cond (eqb (D.kindAt s p) 23) 0 (suc (beforeRet s ps))
 
-unfoldable pub placesOf : Places → D.Listed D.Places
-placesOf r = pickPlaces (eqb (r .number) 0) (placesIn r) (r .number) (r .place)
+-- the same after n instructions and one more
+abbrev pub oneMore : ℕ → ℕ → ℕ → ℕ
+oneMore k first n = cond (eqb first n && not (eqb k 23)) (n + 1) first
+
+-- the places in the first slots of the arrays
+abbrev pub placesIn : List ℕ → List ℕ → Places → D.Places
+placesIn bs cs r = record { blocks = take (r .«block_count») bs; code = take (r .«code_count») cs }
+
+unfoldable pub placesOf : List ℕ → List ℕ → Places → D.Listed D.Places
+placesOf bs cs r = pickPlaces (eqb (r .number) 0) (placesIn bs cs r) (r .number) (r .place)
+
+-- What the reading of s answers, and what it leaves in the two arrays: the places p, or their refusal.
+pub record ReadInto (p : D.Listed D.Places) (s bs cs : List ℕ) (r : Places) : Type 0 where
+  pub places : placesOf bs cs r ≡ p
+  pub blocks : r .«block_count» ≤ maxBlocks
+  pub code : r .«code_count» ≤ maxInstructions
+  pub ret : r .«first_ret» ≡ beforeRet s (take (r .«code_count») cs)
+  pub all-blocks : length bs ≡ maxBlocks
+  pub all-code : length cs ≡ maxInstructions

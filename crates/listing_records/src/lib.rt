@@ -12,6 +12,7 @@ use shapes::ACQUIRED;
 use shapes::FLAG;
 use shapes::LOCAL;
 use shapes::PARAMETERS;
+use shapes::RET;
 use shapes::RETURNS;
 use shapes::SUCCESSORS;
 use shapes::Shape;
@@ -20,12 +21,13 @@ use shapes::WORD;
 ghost use mathlib.Core.Path.{_≡_};
 ghost use Prim.Native.Nat.{_+_, _≤_, _<_};
 ghost use mathlib.Core.Bool.{not, Bool·beq};
+ghost use mathlib.Core.List.{[]};
 ghost use lib.Dec.{eqb};
 ghost use lib.ListN.{length, getD, take, drop};
 ghost use Rattle.meaning.specs.Limits.{maxBytes, maxInstructions, maxBlocks};
 ghost use Rattle.meaning.specs.Lists.{all};
 ghost use Rattle.meaning.specs.Listing.{u16At, wholeAt, bodyAt, localsOf, isToken, noPlaces, placesFrom, readPlaces};
-ghost use Rattle.listing_records.specs.Models.{foundOf, foundAt, fieldOf, fieldsIn, limitOf, FieldFor, faultOf, bodyFault, Tested, fullOf, placesOf};
+ghost use Rattle.listing_records.specs.Models.{foundOf, foundAt, fieldOf, fieldsIn, limitOf, FieldFor, faultOf, bodyFault, Tested, limitRows, keepsTo, fullOf, oneMore, ReadInto};
 
 pub struct Cursor {
     pub at: usize,
@@ -294,29 +296,63 @@ fn test_record(s: &[u8], at: usize, locals: u8) -> Test
     }
 }
 
+// That the record at a place, a body of n bytes, keeps to its row of limits: one test for all bytes, without a jump. Nine bytes are there.
+fn keeps_to_row(s: &[u8], at: usize, n: u16, k: usize, rows: &[[u16; 6]; 18]) -> bool
+    requires { ⌜ (at + 9 ≤ length (now s)) × (k < 18) ⌝ }
+    ensures { λ r. ⌜ r ≡ keepsTo (getD (now (rows .entry)) k []) n (now (s .entry)) at ⌝ }
+{
+    let len = n == rows[k][0];
+    let a = wide(s[at + 4]) < rows[k][1];
+    let b = wide(s[at + 5]) < rows[k][2];
+    let c = wide(s[at + 6]) < rows[k][3];
+    let d = wide(s[at + 7]) < rows[k][4];
+    let e = wide(s[at + 8]) < rows[k][5];
+    len & a & b & c & d & e
+}
+
+// The same as `test_record`, which is asked only where no row of limits settles that no test fails.
+fn test_by_row(s: &[u8], at: usize, locals: u8, rows: &[[u16; 6]; 18]) -> Test
+    requires { ⌜ (at < length (now s)) × (now rows ≡ limitRows locals) ⌝ }
+    ensures { λ r. ⌜ Tested (now (s .entry)) locals at r ⌝ }
+{
+    let left = s.len() - at;
+    if (at != 0) & (9 <= left) {
+        let n = u16_in(s, at);
+        let kind = u16_in(s, at + 2);
+        if (10 <= kind) & (kind < 28) {
+            if keeps_to_row(s, at, n, kind as usize - 10, rows) {
+                return Test {
+                    number: 0,
+                    kind,
+                    next: at + 4 + n as usize,
+                };
+            }
+        }
+    }
+    test_record(s, at, locals)
+}
+
 // ---- all records
 
-// Where the block records and the instruction records start, or a refusal with its number and place (number 0: none). Slots from a count
-// on are free. Beside a refusal the places are free: every choice has at most 16 blocks and 512 instructions.
+// How the reading ended: a refusal with its number and place (number 0: none), how many block records and instruction records there are, and
+// how many instructions stand before the first Ret. Beside a refusal the counts are free: every choice is within the limits.
 pub struct Places {
     pub number: u8,
     pub place: usize,
-    pub blocks: [u16; MAX_BLOCKS],
     pub block_count: usize,
-    pub code: [u16; MAX_INSTRUCTIONS],
     pub code_count: usize,
+    pub first_ret: usize,
 }
 
 fn refused_at(number: u8, place: usize) -> Places
-    ensures { λ r. ⌜ (r .number ≡ number) × (r .place ≡ place) × (r .«block_count» ≡ 0) × (r .«code_count» ≡ 0) ⌝ }
+    ensures { λ r. ⌜ (r .number ≡ number) × (r .place ≡ place) × (r .«block_count» ≡ 0) × (r .«code_count» ≡ 0) × (r .«first_ret» ≡ 0) ⌝ }
 {
     Places {
         number,
         place,
-        blocks: [0u16; MAX_BLOCKS],
         block_count: 0,
-        code: [0u16; MAX_INSTRUCTIONS],
         code_count: 0,
+        first_ret: 0,
     }
 }
 
@@ -331,17 +367,34 @@ fn is_full(kind: u16, block_count: usize, code_count: usize) -> bool
     }
 }
 
-fn read_records(s: &[u8], locals: u8) -> Places
-    requires { ⌜ (length (now s) ≤ maxBytes) × (locals ≡ localsOf (bodyAt (now s) 0)) ⌝ }
-    ensures { λ r. ⌜ (placesOf r ≡ placesFrom (length (now (s .entry))) (now (s .entry)) 0 noPlaces) × (r .«block_count» ≤ maxBlocks) × (r .«code_count» ≤ maxInstructions) ⌝ }
+// How many instructions stand before the first Ret, after one more of this kind.
+fn before_ret(kind: u16, first_ret: usize, code_count: usize) -> usize
+    requires { ⌜ «code_count» < maxInstructions ⌝ }
+    ensures { λ r. ⌜ r ≡ oneMore kind «first_ret» «code_count» ⌝ }
 {
-    let mut blocks = [0u16; MAX_BLOCKS];
+    if (first_ret == code_count) & (kind != RET) {
+        code_count + 1
+    } else {
+        first_ret
+    }
+}
+
+fn read_records(
+    s: &[u8],
+    locals: u8,
+    blocks: &mut [u16; MAX_BLOCKS],
+    code: &mut [u16; MAX_INSTRUCTIONS],
+) -> Places
+    requires { ⌜ (length (now s) ≤ maxBytes) × (locals ≡ localsOf (bodyAt (now s) 0)) × (length (now blocks) ≡ maxBlocks) × (length (now code) ≡ maxInstructions) ⌝ }
+    ensures { λ r. ⌜ ReadInto (placesFrom (length (now (s .entry))) (now (s .entry)) 0 noPlaces) (now (s .entry)) (now (blocks .exit)) (now (code .exit)) r ⌝ }
+{
+    let rows = shapes::limit_rows(locals);
     let mut block_count: usize = 0;
-    let mut code = [0u16; MAX_INSTRUCTIONS];
     let mut code_count: usize = 0;
+    let mut first_ret: usize = 0;
     let mut at: usize = 0;
     while at < s.len() {
-        let t = test_record(s, at, locals);
+        let t = test_by_row(s, at, locals, &rows);
         if t.number != 0 {
             return refused_at(t.number, at);
         }
@@ -352,6 +405,7 @@ fn read_records(s: &[u8], locals: u8) -> Places
             blocks[block_count] = at as u16;
             block_count += 1;
         } else if t.kind != 1 {
+            first_ret = before_ret(t.kind, first_ret, code_count);
             code[code_count] = at as u16;
             code_count += 1;
         }
@@ -360,17 +414,29 @@ fn read_records(s: &[u8], locals: u8) -> Places
     Places {
         number: 0,
         place: 0,
-        blocks,
         block_count,
-        code,
         code_count,
+        first_ret,
     }
 }
 
+// The length of an array is known only of one by value. The copies are dead, and compiled to nothing.
+fn whole(blocks: [u16; MAX_BLOCKS], code: [u16; MAX_INSTRUCTIONS])
+    ensures { λ r. ⌜ (length blocks ≡ maxBlocks) × (length code ≡ maxInstructions) ⌝ }
+{}
+
 // Every byte string gets the places of its records, or the refusal and the place of document 01: its length, no byte, then record by record.
-pub fn read_places(s: &[u8]) -> Places
-    ensures { λ r. ⌜ (placesOf r ≡ readPlaces (now (s .entry))) × (r .«block_count» ≤ maxBlocks) × (r .«code_count» ≤ maxInstructions) ⌝ }
+// The places are put into the lent arrays; their slots from a count on are free, and beside a refusal all of them.
+pub fn read_places(
+    s: &[u8],
+    blocks: &mut [u16; MAX_BLOCKS],
+    code: &mut [u16; MAX_INSTRUCTIONS],
+) -> Places
+    ensures { λ r. ⌜ ReadInto (readPlaces (now (s .entry))) (now (s .entry)) (now (blocks .exit)) (now (code .exit)) r ⌝ }
 {
+    let b = *blocks;
+    let c = *code;
+    whole(b, c);
     if MAX_BYTES < s.len() {
         return refused_at(6, MAX_BYTES);
     }
@@ -378,5 +444,5 @@ pub fn read_places(s: &[u8]) -> Places
         return refused_at(1, 0);
     }
     let head = body(s, Cursor { at: 0 });
-    read_records(s, byte_at(head, 1))
+    read_records(s, byte_at(head, 1), blocks, code)
 }

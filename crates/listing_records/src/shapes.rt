@@ -1,5 +1,6 @@
-// The shape table: the fields of each kind's body.
-ghost use Rattle.listing_records.specs.Models.{RowFor, ShapeFor};
+// The shape table: the fields of each kind's body. And the rows of limits that stand for the shapes of a fixed width.
+ghost use mathlib.Core.Path.{_≡_};
+ghost use Rattle.listing_records.specs.Models.{RowFor, ShapeFor, limitRows};
 
 // The fields; those of a fixed width first. A range that is passed is refusal 3, a limit that is passed is refusal 6.
 pub const FLAG: u16 = 1; // u8: 0 or 1
@@ -19,6 +20,9 @@ pub const ACQUIRED: u16 = 7; // a count u8, at most 16, and as many u16
 pub const RETURNS: u16 = 8; // a count u8, at most 8, and as many tokens
 
 pub const FRAME: u16 = 9; // P u8, L u8, P tokens; P at most L, L at most 16
+
+// The kind of the instruction Ret.
+pub const RET: u16 = 23;
 
 // A kind's body, field by field: the first field is the last hexadecimal digit, and so on up to a digit 0. A kind that is not known has
 // no fields.
@@ -79,4 +83,43 @@ pub fn shape_of(kind: u16) -> Shape
             fields: 0,
         }
     }
+}
+
+// A byte that may be anything, or is past the body.
+const ANY: u16 = 256;
+
+// The kinds from 10 on: how long a body is, and the least number that each of its bytes may not be. 0 stands for L, which is put in, and,
+// in kind 22, for a field whose width is not fixed: no byte is below it.
+const LIMITS: [[u16; 6]; 18] = [
+    [0, ANY, ANY, ANY, ANY, ANY], // 10
+    [1, 0, ANY, ANY, ANY, ANY], // 11
+    [1, 0, ANY, ANY, ANY, ANY], // 12
+    [1, 0, ANY, ANY, ANY, ANY], // 13
+    [0, ANY, ANY, ANY, ANY, ANY], // 14
+    [0, ANY, ANY, ANY, ANY, ANY], // 15
+    [0, ANY, ANY, ANY, ANY, ANY], // 16
+    [0, ANY, ANY, ANY, ANY, ANY], // 17
+    [2, 0, 2, ANY, ANY, ANY], // 18
+    [3, ANY, ANY, 2, ANY, ANY], // 19
+    [3, ANY, ANY, 2, ANY, ANY], // 20
+    [2, ANY, ANY, ANY, ANY, ANY], // 21
+    [3, 17, 0, 0, ANY, ANY], // 22
+    [0, ANY, ANY, ANY, ANY, ANY], // 23
+    [5, ANY, ANY, ANY, ANY, 3], // 24
+    [0, ANY, ANY, ANY, ANY, ANY], // 25
+    [4, 3, 2, 2, 3, ANY], // 26
+    [1, 2, ANY, ANY, ANY, ANY], // 27
+];
+
+// The rows of limits in a routine of so many locals: copied once for a listing, since a table is made anew at each look-up.
+pub(crate) fn limit_rows(locals: u8) -> [[u16; 6]; 18]
+    ensures { λ r. ⌜ r ≡ limitRows locals ⌝ }
+{
+    let mut rows = LIMITS;
+    let l = locals as u16;
+    rows[1][1] = l;
+    rows[2][1] = l;
+    rows[3][1] = l;
+    rows[8][1] = l;
+    rows
 }

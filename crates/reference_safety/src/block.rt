@@ -21,6 +21,7 @@ ghost use Prim.Native.Nat.{suc, _+_, _-_, min};
 ghost use lib.Dec.{eqb};
 ghost use lib.ListN.{length};
 ghost use Rattle.meaning.specs.Answers.{then};
+ghost use Rattle.meaning.specs.Limits.{maxInstructions};
 ghost use Rattle.meaning.specs.Steps.{step};
 ghost use Rattle.meaning.specs.Blocks as Q;
 ghost use Rattle.listing.specs.Models.{decodedOf, blockOf, routineOf};
@@ -82,11 +83,11 @@ pub fn execute(m: Machine, d: Decoded, returns: u8) -> Machine
     }
 }
 
-// How many instructions a routine has.
-fn code_len(routine: Routine) -> usize
-    ensures { λ r. ⌜ (r ≡ min (routine .«code_count») 512) × (length (routine .code) ≡ 512) ⌝ }
+// How many instructions a routine has. (That the array is full is known only of a copy, which is compiled to nothing.)
+fn code_len(code: [u16; MAX_INSTRUCTIONS], code_count: usize) -> usize
+    ensures { λ r. ⌜ (r ≡ min «code_count» maxInstructions) × (length code ≡ maxInstructions) ⌝ }
 {
-    lesser(routine.code_count, MAX_INSTRUCTIONS)
+    lesser(code_count, MAX_INSTRUCTIONS)
 }
 
 // The offset behind a block's last instruction. (One whose exit lies before its entry has one instruction.)
@@ -136,17 +137,24 @@ fn finish(b: Block, m: Machine) -> Ran
     }
 }
 
-// A state's locals are read as many as the routine has.
-pub fn run_block(listing: &[u8], routine: Routine, b: Block, state: AbstractState) -> Ran
-    ensures { λ r. ⌜ ranOf (blockOf b) r ≡ Q.runBlock (routineOf (now (listing .entry)) routine) (blockOf b) (stateIn (routine .locals) state) ⌝ }
+// A state's locals are read as many as the routine has. `code` says where the record of each instruction starts.
+pub fn run_block(
+    listing: &[u8],
+    routine: Routine,
+    code: &[u16; MAX_INSTRUCTIONS],
+    b: Block,
+    state: AbstractState,
+) -> Ran
+    ensures { λ r. ⌜ ranOf (blockOf b) r ≡ Q.runBlock (routineOf (now (listing .entry)) (now (code .entry)) routine) (blockOf b) (stateIn (routine .locals) state) ⌝ }
 {
     let mut state = begin(state, routine.locals);
-    let n = code_len(routine);
+    let all = *code;
+    let n = code_len(all, routine.code_count);
     let end = lesser(n, past(b));
     let mut stack = empty();
     let mut k = b.entry.0 as usize;
     while k < end {
-        let d = decode(listing, routine.code[k]);
+        let d = decode(listing, code[k]);
         let locals = state.locals;
         let v = on_values(locals, stack, d);
         if v.handled {

@@ -1,23 +1,29 @@
--- `listing_records::read_places` meets its contract. Assumes nothing.
-use native.Mathlib.Omega.{arith}
-use mathlib.Core.Path.{sym, ap, _∙_}
+use mathlib.Core.Path.{refl, sym, ap, _∙_}
 use Rattle.meaning.specs.Listing.{localsOf}
-use Rattle.listing_records.proofs.Laws.{places-refused, too-long, nothing, after}
+use Rattle.listing_records.proofs.Laws.{none-read, too-long, nothing, after}
+use native.Mathlib.Omega.{arith}
 use borrow.Author.Needs.{needs}
 use Rattle.listing_records.proofs.read_places.Statement.{statement}
 use Rattle.listing_records.proofs.read_places.Tie as tie
+
+whole-requires : tie.Need-whole-requires
+whole-requires c κs = search needs
 
 refused-at-requires : tie.Need-refused-at-requires
 refused-at-requires c κs = search needs
 
 returns : tie.Need-returns
-returns c = (places-refused (c .refused-at .result) 6 65536 (c .refused-at .ensures .0) (c .refused-at .ensures .1) (λ h. omega arith) ∙ too-long _ (c .before .if1 .taken), omega (arith, c .refused-at .ensures .2), omega (arith, c .refused-at .ensures .3))
+returns c =
+    none-read _ ((c .before .before .before .before .before .before .args) .s .now) ((c .before .before .before .before .before .before .args) .blocks .now) ((c .before .before .before .before .before .before .args) .code .now) ((c .refused-at) .result) 6 65536 ((c .refused-at) .ensures) (λ h. omega arith)
+    ((c .before .before .whole) .ensures .0) ((c .before .before .whole) .ensures .1) (too-long _ ((c .before .if1) .taken))
 
 refused-at-requires-2 : tie.Need-refused-at-requires-2
 refused-at-requires-2 c κs = search needs
 
 returns-2 : tie.Need-returns-2
-returns-2 c = (places-refused (c .refused-at2 .result) 1 0 (c .refused-at2 .ensures .0) (c .refused-at2 .ensures .1) (λ h. omega arith) ∙ nothing _ (c .before .before .if1 .left) (c .before .if2 .taken), omega (arith, c .refused-at2 .ensures .2), omega (arith, c .refused-at2 .ensures .3))
+returns-2 c =
+    none-read _ ((c .before .before .before .before .before .before .before .args) .s .now) ((c .before .before .before .before .before .before .before .args) .blocks .now) ((c .before .before .before .before .before .before .before .args) .code .now) ((c .refused-at2) .result) 1 0 ((c .refused-at2) .ensures) (λ h. omega arith)
+    ((c .before .before .before .whole) .ensures .0) ((c .before .before .before .whole) .ensures .1) (nothing _ ((c .before .before .if1) .left) ((c .before .if2) .taken))
 
 body-requires : tie.Need-body-requires
 body-requires c κs = search needs
@@ -26,15 +32,25 @@ byte-at-requires : tie.Need-byte-at-requires
 byte-at-requires c κs = search needs
 
 read-records-requires : tie.Need-read-records-requires
-read-records-requires c κs = (c .before .before .before .if1 .left, c .byte-at .ensures ∙ ap localsOf (c .before .body .ensures))
+read-records-requires c κs = ((c .before .before .before .before .before .if1) .left, (c .before .before .byte-at) .ensures ∙ ap localsOf ((c .before .before .before .body) .ensures), (c .before .before .before .before .before .before .whole) .ensures .0, (c .before .before .before .before .before .before .whole) .ensures .1)
 
 returns-3 : tie.Need-returns-3
-returns-3 c = (c .read-records .ensures .0 ∙ sym (after _ (c .before .before .before .before .if1 .left) (c .before .before .before .if2 .left)), c .read-records .ensures .1, c .read-records .ensures .2)
+returns-3 c =
+    let r = (c .read-records) .ensures in
+    record {
+      places = r .places ∙ sym (after _ ((c .before .before .before .before .before .before .if1) .left) ((c .before .before .before .before .before .if2) .left));
+      blocks = r .blocks;
+      code = r .code;
+      ret = r .ret;
+      all-blocks = r .all-blocks;
+      all-code = r .all-code;
+    }
 
 pub read-places-spec : {M : Type 1} → statement M
 read-places-spec =
     tie.close
     (tie.spec
+    whole-requires
     refused-at-requires
     returns
     refused-at-requires-2
