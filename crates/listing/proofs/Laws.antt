@@ -7,7 +7,7 @@ use Prim.Native.Nat.{ℕ, zero, suc, _+_, _-_, _≤_, _<_}
 use native.Mathlib.Numerals.{add-one}
 use native.Mathlib.Omega.{arith}
 use lib.ListN.{length, take, drop, getD, length-take, length-drop}
-use lib.Seq.{getD-take, take-take, take-nil}
+use lib.Seq.{getD-take, take-take, take-nil, length-take-le}
 use lib.Dec.{leb, ltb, eqb, eqb·suc-zero}
 use borrow.Author.Tests.{lt-ltb, le-ltb, eq-eqb, ne-eqb}
 use Rattle.meaning.specs.Lists.{any, empty, upTo}
@@ -21,6 +21,8 @@ use Rattle.meaning.specs.Laws.Listing.{Rows, by-row, upTo-length}
 use Rattle.meaning.specs.Laws.Search.{search-at, search-end, array-at, array-end}
 use Rattle.listing.specs.declared.Block.{Block}
 use Rattle.listing.specs.Models.{blockOf, blocksIn, faultySuccessors}
+use Rattle.listing_records.specs.Models.{beforeRet}
+use Rattle.listing_records.specs.ModelLaws.{ret-before, ret-within}
 use Rattle.listing_records.proofs.Lists.{or-true, map-take, counted, element, within-list}
 
 -- ---- the blocks of an array
@@ -100,6 +102,12 @@ module _ (p : ℕ → Bool) (i n r : ℕ) where
   unfolding D.firstOf
   first-end h e = sym h ∙ search-end first numbers i r (opened e) (omega (arith, upTo-length n (λ k. k)))
 
+-- none of the first k numbers passes the test
+pub first-skip : (p : ℕ → Bool) (n k : ℕ) → k ≤ n → ((j : ℕ) → j < k → p j ≡ false) → D.firstOf p k (n - k) ≡ D.firstOf p 0 n
+first-skip p n zero h f = let e : n - 0 ≡ n = omega arith in ap (D.firstOf p 0) e
+first-skip p n (suc k) h f =
+    rw add-one at (first-turn p k n (D.firstOf p 0 n) h (first-skip p n k (omega arith) (λ j l. f j (omega arith))) (f k (omega arith)))
+
 -- ---- the rules on blocks
 
 module _ (xs : List M.Block) (i e : ℕ) (b : M.Block) where
@@ -173,6 +181,20 @@ module _ (s : List ℕ) (code : List ℕ) (m : ℕ) (fits : m ≤ length code) (
   stray-eq =
       let l : k < length (take m code) = simp length-take (omega arith) in
       rw (within-list (D.instrAt s) 0 I.Instr.Pop (take m code) k l, getD-take m code k 0 here, ret-at)
+
+-- no Ret before the first one is stray
+pub stray-from : (s code : List ℕ) (m : ℕ) → m ≤ length code → (bs : List M.Block) (k : ℕ) → k ≡ beforeRet s (take m code)
+    → (k ≤ m) × (D.firstOf (D.strayRet (map (D.instrAt s) (take m code)) bs) k (m - k) ≡ D.firstOf (D.strayRet (map (D.instrAt s) (take m code)) bs) 0 m)
+stray-from s code m fits bs k e =
+    let w : beforeRet s (take m code) ≤ length (take m code) = ret-within s (take m code) in
+    let l : length (take m code) ≡ m = length-take-le m code fits in
+    let h : k ≤ m = omega arith in (
+      h,
+      first-skip (D.strayRet (map (D.instrAt s) (take m code)) bs) m k h
+          (λ j i. let z : j < m = omega arith in
+          let n : eqb (D.kindAt s (getD code j 0)) 23 ≡ false = (rw (getD-take m code j 0 z) at (ret-before s (take m code) j (omega arith))) in
+          rw (stray-eq s code m fits bs j z, n)),
+    )
 
 -- ---- blocks out of their records
 

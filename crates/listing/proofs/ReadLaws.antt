@@ -21,7 +21,7 @@ use Rattle.meaning.specs.Laws.Listing.{fine, fine-none, passed, two-successors,
 use Rattle.listing_records.specs.declared.Places.{Places}
 use Rattle.listing.specs.declared.Listed.{Listed}
 use Rattle.listing.specs.Models.{callFor, decodedAt, twoAt, Sound, ruledPlaces, bytesAt, listedOf}
-use Rattle.listing_records.specs.Models.{placesIn, placesOf}
+use Rattle.listing_records.specs.Models.{placesIn, placesOf, ReadInto}
 use Rattle.listing_records.proofs.Lists.{counted, map-upTo}
 
 -- ---- number 5
@@ -63,9 +63,9 @@ module _ (s ps cs : List ℕ) (n m : ℕ) (fp : n ≤ length ps) (fc : m ≤ len
       pub ruled-read : m ≤ r → D.Listed.read (D.routineAt s all-places) ≡ ruledPlaces s all-places
       ruled-read h = rw (ruled-eq, ne-eqb n 0 some, ← e, le-ltb b n past, ← w, le-ltb r m h)
 
-pub listed-refused : (s : List ℕ) (r : Listed) (n at : ℕ) → r .number ≡ n → r .place ≡ at → (n ≡ 0 → ⊥) → listedOf s r ≡ D.Listed.refused n at
+pub listed-refused : (s cs : List ℕ) (r : Listed) (n at : ℕ) → r .number ≡ n → r .place ≡ at → (n ≡ 0 → ⊥) → listedOf s cs r ≡ D.Listed.refused n at
 unfolding listedOf
-listed-refused s r n at e p h =
+listed-refused s cs r n at e p h =
     let q : eqb (r .number) 0 ≡ false = rw e (ne-eqb n 0 h) in
     rw (q, e, p)
 
@@ -81,9 +81,9 @@ params-eq head ps n e h =
 
 -- ---- what is known of the places
 
-pub places-number : (w : Places) → w .number ≡ 0 → placesOf w ≡ D.Listed.read (placesIn w)
+pub places-number : (ps cs : List ℕ) (w : Places) → w .number ≡ 0 → placesOf ps cs w ≡ D.Listed.read (placesIn ps cs w)
 unfolding placesOf
-places-number w e = rw (eq-eqb (w .number) 0 e)
+places-number ps cs w e = rw (eq-eqb (w .number) 0 e)
 
 map-same : {A : Type 0} (p : ℕ → Bool) (f g : ℕ → A) → ((x : ℕ) → p x ≡ true → f x ≡ g x) → (xs : List ℕ) → all p xs ≡ true → map f xs ≡ map g xs
 map-same p f g h [] e = refl
@@ -114,26 +114,29 @@ two-of s p e =
     let f : D.faultAt s (D.localsOf (D.bodyAt s 0)) p ≡ none = fine-none _ (and-l a b e) in
     le-leb (two-successors s (D.localsOf (D.bodyAt s 0)) p (passed s (D.localsOf (D.bodyAt s 0)) p f) (eqb-eq (and-r a b e)))
 
-module _ (s : List ℕ) (w : Places) (number : w .number ≡ 0) (told : placesOf w ≡ D.readPlaces s) (few-blocks : w .«block_count» ≤ 16) (few : w .«code_count» ≤ 512) where
-  pub were-read : D.readPlaces s ≡ D.Listed.read (placesIn w)
-  were-read = sym told ∙ places-number w number
+module _ (s ps cs : List ℕ) (w : Places) (number : w .number ≡ 0) (told : ReadInto (D.readPlaces s) s ps cs w) where
+  pub were-read : D.readPlaces s ≡ D.Listed.read (placesIn ps cs w)
+  were-read = sym (told .places) ∙ places-number ps cs w number
 
-  pub sound : (head : List ℕ) → head ≡ D.bodyAt s 0 → Sound s head w
+  pub sound : (head : List ℕ) → head ≡ D.bodyAt s 0 → Sound s head w ps cs
   sound head h =
-      let r = read-places s (placesIn w) were-read in
-      let g : Good s (placesIn w) = places-good (length s) s 0 D.noPlaces (placesIn w) (none-good s) (r .1) in
+      let r = read-places s (placesIn ps cs w) were-read in
+      let g : Good s (placesIn ps cs w) = places-good (length s) s 0 D.noPlaces (placesIn ps cs w) (none-good s) (r .1) in
       let l : ℕ = D.localsOf (D.bodyAt s 0) in
-      let p = first-passed s (placesIn w) (r .0) (r .1) in
+      let p = first-passed s (placesIn ps cs w) (r .0) (r .1) in
       let f = frame-limits s l 0 p (first-kind s l p) in
       record {
         first = h;
-        blocks = few-blocks;
-        code = few;
-        two = all-imp (okBlock s) (twoAt s) (two-of s) (take (w .«block_count») (w .blocks)) (g .blocks);
-        same = map-same (okCode s) (decodedAt s) (D.instrAt s) (decoded-same s) (take (w .«code_count») (w .code)) (g .code);
+        blocks = told .blocks;
+        code = told .code;
+        all-blocks = told .all-blocks;
+        all-code = told .all-code;
+        ret = told .ret;
+        two = all-imp (okBlock s) (twoAt s) (two-of s) (take (w .«block_count») ps) (g .blocks);
+        same = map-same (okCode s) (decodedAt s) (D.instrAt s) (decoded-same s) (take (w .«code_count») cs) (g .code);
         params = rw h (omega (arith, f .0, f .1));
       }
 
-pub places-stop : (w : Places) → (w .number ≡ 0 → ⊥) → placesOf w ≡ D.Listed.refused (w .number) (w .place)
+pub places-stop : (ps cs : List ℕ) (w : Places) → (w .number ≡ 0 → ⊥) → placesOf ps cs w ≡ D.Listed.refused (w .number) (w .place)
 unfolding placesOf
-places-stop w h = rw (ne-eqb (w .number) 0 h)
+places-stop ps cs w h = rw (ne-eqb (w .number) 0 h)

@@ -14,6 +14,7 @@ use Rattle.meaning.specs.Blocks as Q
 use Rattle.meaning.specs.Listing as D
 use Rattle.file_format.specs.Models.{tokenOf}
 use Rattle.listing_records.specs.declared.Places.{Places}
+use Rattle.listing_records.specs.Models.{beforeRet}
 use Rattle.listing.specs.declared.decode.Instruction.{Instruction}
 use Rattle.listing.specs.declared.decode.Instruction.the-variants.{Pop, CopyLoc, MoveLoc, StLoc, FreezeRef, Compare, ReadRef, WriteRef, BorrowLoc, BorrowField, BorrowGlobal, MoveFrom, Call, Ret, Values, MoveTo, VectorOp, BorrowElement}
 use Rattle.listing.specs.declared.decode.Decoded.{Decoded}
@@ -77,13 +78,16 @@ blocksIn bs n = map blockOf (take n bs)
 abbrev pub twoAt : List ℕ → ℕ → Bool
 twoAt s at = leb (getD (D.bodyAt s at) 4 0) 2
 
--- what is known of the places that were read, with the first record's body
-pub record Sound (s head : List ℕ) (w : Places) : Type 0 where
+-- what is known of the places that were read, in two arrays, with the first record's body
+pub record Sound (s head : List ℕ) (w : Places) (ps cs : List ℕ) : Type 0 where
   pub first : head ≡ D.bodyAt s 0
   pub blocks : w .«block_count» ≤ maxBlocks
   pub code : w .«code_count» ≤ maxInstructions
-  pub two : all (twoAt s) (take (w .«block_count») (w .blocks)) ≡ true
-  pub same : map (decodedAt s) (take (w .«code_count») (w .code)) ≡ map (D.instrAt s) (take (w .«code_count») (w .code))
+  pub all-blocks : length ps ≡ maxBlocks
+  pub all-code : length cs ≡ maxInstructions
+  pub ret : w .«first_ret» ≡ beforeRet s (take (w .«code_count») cs)
+  pub two : all (twoAt s) (take (w .«block_count») ps) ≡ true
+  pub same : map (decodedAt s) (take (w .«code_count») cs) ≡ map (D.instrAt s) (take (w .«code_count») cs)
   pub params : getD head 0 0 ≤ maxLocals
 
 unfoldable pub ruledPlaces : List ℕ → D.Places → D.Listed Q.Routine
@@ -92,18 +96,19 @@ ruledPlaces s w = D.ruled (length s) w (D.routineAt s w)
 abbrev pub faultySuccessors : List M.Block → ℕ → M.Block → Bool
 faultySuccessors bs i b = D.repeats (b .successors) || any (D.faultySuccessor bs i b) (b .successors)
 
-abbrev pub routineOf : List ℕ → Routine → Q.Routine
-routineOf s r = record {
+-- a routine of the listing s, with the array cs that says where the record of each instruction starts
+abbrev pub routineOf : List ℕ → List ℕ → Routine → Q.Routine
+routineOf s cs r = record {
   params = map D.tokenAs (take (r .«param_count») (r .params));
   locals = r .locals;
   returns = r .returns;
   blocks = blocksIn (r .blocks) (r .«block_count»);
-  code = map (decodedAt s) (take (r .«code_count») (r .code));
+  code = map (decodedAt s) (take (r .«code_count») cs);
 }
 
 abbrev pub pickListed : Bool → Q.Routine → ℕ → ℕ → D.Listed Q.Routine
 pickListed true q n at = D.Listed.read q
 pickListed false q n at = D.Listed.refused n at
 
-unfoldable pub listedOf : List ℕ → Listed → D.Listed Q.Routine
-listedOf s r = pickListed (eqb (r .number) 0) (routineOf s (r .routine)) (r .number) (r .place)
+unfoldable pub listedOf : List ℕ → List ℕ → Listed → D.Listed Q.Routine
+listedOf s cs r = pickListed (eqb (r .number) 0) (routineOf s cs (r .routine)) (r .number) (r .place)
