@@ -69,6 +69,10 @@ listed-refused s cs r n at e p h =
     let q : eqb (r .number) 0 ≡ false = rw e (ne-eqb n 0 h) in
     rw (q, e, p)
 
+-- blocks out of the records at the first places
+pub counted-at : (s ps : List ℕ) (n : ℕ) → n ≤ length ps → (xs : List M.Block) → xs ≡ map (D.blockAt s) (take n ps) → length xs ≡ n
+counted-at s ps n h xs e = ap length e ∙ counted (D.blockAt s) ps n h
+
 pub routine-eq : (ps qs : List Token) (l k r t : ℕ) (bs cs : List M.Block) (is js : List I.Instr) → ps ≡ qs → l ≡ k → r ≡ t → bs ≡ cs → is ≡ js
     → _≡_ {A = Q.Routine}
     (record { params = ps; locals = l; returns = r; blocks = bs; code = is })

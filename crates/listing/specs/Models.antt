@@ -106,6 +106,11 @@ routineOf s cs r = record {
   code = map (decodedAt s) (take (r .«code_count») cs);
 }
 
+-- the blocks are as many as are counted
+pub record Counted (r : Routine) : Type 0 where
+  pub few : r .«block_count» ≤ maxBlocks
+  pub count : length (blocksIn (r .blocks) (r .«block_count»)) ≡ r .«block_count»
+
 abbrev pub pickListed : Bool → Q.Routine → ℕ → ℕ → D.Listed Q.Routine
 pickListed true q n at = D.Listed.read q
 pickListed false q n at = D.Listed.refused n at

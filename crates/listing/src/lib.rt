@@ -21,7 +21,7 @@ ghost use lib.ListN.{take};
 ghost use Rattle.meaning.specs.Limits.{maxBlocks};
 ghost use Rattle.meaning.specs.Lists.{all};
 ghost use Rattle.meaning.specs.Listing.{blockAt, readListing};
-ghost use Rattle.listing.specs.Models.{blockOf, blocksIn, twoAt, Sound, ruledPlaces, listedOf};
+ghost use Rattle.listing.specs.Models.{blockOf, blocksIn, twoAt, Sound, ruledPlaces, Counted, listedOf};
 ghost use Rattle.listing_records.specs.Models.{placesIn};
 
 // A block: its first and its last instruction, and the entries of its successors, of which `count` (0 to 2) are in use.
@@ -45,7 +45,7 @@ pub struct Routine {
     pub block_count: usize,
 }
 
-// A refusal's number and place, or (number 0) the routine. Beside a refusal the routine is free, and nothing is said of it.
+// A refusal's number and place, or (number 0) the routine. Beside a refusal the routine is free: every choice has at most 16 blocks.
 pub struct Listed {
     pub number: u8,
     pub place: usize,
@@ -63,7 +63,7 @@ fn no_block() -> Block {
 }
 
 fn refused(number: u8, place: usize) -> Listed
-    ensures { λ r. ⌜ (r .number ≡ number) × (r .place ≡ place) ⌝ }
+    ensures { λ r. ⌜ (r .number ≡ number) × (r .place ≡ place) × Counted (r .routine) ⌝ }
 {
     Listed {
         number,
@@ -118,7 +118,7 @@ fn ruled(
     code: &[u16; MAX_INSTRUCTIONS],
 ) -> Listed
     requires { ⌜ Sound (now s) (now head) w places (now code) ⌝ }
-    ensures { λ r. ⌜ listedOf (now (s .entry)) (now (code .entry)) r ≡ ruledPlaces (now (s .entry)) (placesIn places (now (code .entry)) w) ⌝ }
+    ensures { λ r. ⌜ (listedOf (now (s .entry)) (now (code .entry)) r ≡ ruledPlaces (now (s .entry)) (placesIn places (now (code .entry)) w)) × Counted (r .routine) ⌝ }
 {
     let n = w.block_count;
     let m = w.code_count;
@@ -154,7 +154,7 @@ fn ruled(
 // What a listing means: every byte string gets a routine, or the refusal and the place of document 01. Where the record of each instruction starts
 // is put into the lent array; beside a refusal what it holds is free, and nothing is said of it.
 pub fn read_listing(s: &[u8], code: &mut [u16; MAX_INSTRUCTIONS]) -> Listed
-    ensures { λ r. ⌜ listedOf (now (s .entry)) (now (code .exit)) r ≡ readListing (now (s .entry)) ⌝ }
+    ensures { λ r. ⌜ (listedOf (now (s .entry)) (now (code .exit)) r ≡ readListing (now (s .entry))) × Counted (r .routine) ⌝ }
 {
     let mut places = [0u16; MAX_BLOCKS];
     let w = read_places(s, &mut places, code);

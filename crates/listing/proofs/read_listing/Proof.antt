@@ -16,9 +16,11 @@ refused-requires c κs = search needs
 returns : tie.Need-returns
 unfolding readListing
 returns c =
-    let w = (c .before .before .before .read-places) in
-    listed-refused ((c .before .before .before .before .before .before .before .args) .s .now) _ ((c .refused) .result) (w .result .number) (w .result .place) ((c .refused) .ensures .0) ((c .refused) .ensures .1) ((c .before .if1) .taken)
-    ∙ sym (ap (afterRecords ((c .before .before .before .before .before .before .before .args) .s .now)) (sym (w .ensures .places) ∙ places-stop _ _ (w .result) ((c .before .if1) .taken)))
+    let w = (c .before .before .before .read-places) in (
+      listed-refused ((c .before .before .before .before .before .before .before .args) .s .now) _ ((c .refused) .result) (w .result .number) (w .result .place) ((c .refused) .ensures .0) ((c .refused) .ensures .1) ((c .before .if1) .taken)
+          ∙ sym (ap (afterRecords ((c .before .before .before .before .before .before .before .args) .s .now)) (sym (w .ensures .places) ∙ places-stop _ _ (w .result) ((c .before .if1) .taken))),
+      (c .refused) .ensures .2,
+    )
 
 head-requires : tie.Need-head-requires
 head-requires c κs = search needs
@@ -28,9 +30,11 @@ ruled-requires c κs = sound ((c .before .before .before .before .before .before
 
 returns-2 : tie.Need-returns-2
 unfolding readListing ruledPlaces
-returns-2 c =
-    (c .ruled) .ensures
-    ∙ sym (ap (afterRecords ((c .before .before .before .before .before .before .before .before .before .args) .s .now)) (were-read ((c .before .before .before .before .before .before .before .before .before .args) .s .now) _ _ ((c .before .before .before .before .before .read-places) .result) ((c .before .before .before .if1) .left) ((c .before .before .before .before .before .read-places) .ensures)))
+returns-2 c = (
+  (c .ruled) .ensures .0
+      ∙ sym (ap (afterRecords ((c .before .before .before .before .before .before .before .before .before .args) .s .now)) (were-read ((c .before .before .before .before .before .before .before .before .before .args) .s .now) _ _ ((c .before .before .before .before .before .read-places) .result) ((c .before .before .before .if1) .left) ((c .before .before .before .before .before .read-places) .ensures))),
+  (c .ruled) .ensures .1,
+)
 
 pub read-listing-spec : {M : Type 1} → statement M
 read-listing-spec =

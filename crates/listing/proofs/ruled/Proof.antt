@@ -5,7 +5,7 @@ use lib.ListN.{length, take, getD}
 use Rattle.meaning.specs.Loop.{Block}
 use Rattle.meaning.specs.Listing.{Listed, bodyAt, paramsOf, localsOf, returnsOf, firstOf, faultyBlock, strayRet, instrAt}
 use Rattle.listing.specs.Models.{listedOf}
-use Rattle.listing.proofs.ReadLaws.{ruled-none, ruled-block, ruled-ret, ruled-read, listed-refused, routine-eq, params-eq}
+use Rattle.listing.proofs.ReadLaws.{ruled-none, ruled-block, ruled-ret, ruled-read, listed-refused, routine-eq, params-eq, counted-at}
 use native.Mathlib.Omega.{arith}
 use borrow.Author.Needs.{needs}
 use Rattle.listing.proofs.ruled.Statement.{statement}
@@ -17,10 +17,12 @@ refused-requires c κs = search needs
 returns : tie.Need-returns
 returns c =
     let a = (c .before .before .before .before .args) in
-    let p = (c .before .before .before .before .pre) in
-    listed-refused (a .s .now) (a .code .now) ((c .refused) .result) 5 (length (a .s .now)) ((c .refused) .ensures .0) ((c .refused) .ensures .1) (λ h. omega arith)
-    ∙ ruled-none (a .s .now) (a .t4) (a .code .now) (a .w .«block_count») (a .w .«code_count») (omega (arith, p .blocks, p .all-blocks))
-    (omega (arith, p .code, p .all-code)) ((c .before .if1) .taken)
+    let p = (c .before .before .before .before .pre) in (
+      listed-refused (a .s .now) (a .code .now) ((c .refused) .result) 5 (length (a .s .now)) ((c .refused) .ensures .0) ((c .refused) .ensures .1) (λ h. omega arith)
+          ∙ ruled-none (a .s .now) (a .t4) (a .code .now) (a .w .«block_count») (a .w .«code_count») (omega (arith, p .blocks, p .all-blocks))
+          (omega (arith, p .code, p .all-code)) ((c .before .if1) .taken),
+      (c .refused) .ensures .2,
+    )
 
 blocks-at-requires : tie.Need-blocks-at-requires
 blocks-at-requires c κs = ((c .before .before .before .pre) .blocks, (c .before .before .before .pre) .two)
@@ -44,12 +46,14 @@ returns-2 : tie.Need-returns-2
 returns-2 c =
     let a = (c .before .before .before .before .before .before .before .before .args) in
     let p = (c .before .before .before .before .before .before .before .before .pre) in
-    let ff = (c .before .before .before .first-faulty) in
-    listed-refused (a .s .now) (a .code .now) ((c .refused2) .result) 5 (getD (a .t4) (ff .result) 0) ((c .refused2) .ensures .0)
-    ((c .refused2) .ensures .1 ∙ (c .before .place) .ensures .0) (λ h. omega arith) ∙ ruled-block (a .s .now) (a .t4) (a .code .now)
-    (a .w .«block_count») (a .w .«code_count») (omega (arith, p .blocks, p .all-blocks)) (omega (arith, p .code, p .all-code))
-    ((c .before .before .before .before .before .if1) .left) (ff .result)
-    (ff .ensures ∙ ap (λ (l : List Block). firstOf (faultyBlock (a .w .«code_count») l) 0 (a .w .«block_count»)) ((c .before .before .before .before .blocks-at) .ensures)) ((c .before .before .if2) .taken)
+    let ff = (c .before .before .before .first-faulty) in (
+      listed-refused (a .s .now) (a .code .now) ((c .refused2) .result) 5 (getD (a .t4) (ff .result) 0) ((c .refused2) .ensures .0)
+          ((c .refused2) .ensures .1 ∙ (c .before .place) .ensures .0) (λ h. omega arith) ∙ ruled-block (a .s .now) (a .t4) (a .code .now)
+          (a .w .«block_count») (a .w .«code_count») (omega (arith, p .blocks, p .all-blocks)) (omega (arith, p .code, p .all-code))
+          ((c .before .before .before .before .before .if1) .left) (ff .result)
+          (ff .ensures ∙ ap (λ (l : List Block). firstOf (faultyBlock (a .w .«code_count») l) 0 (a .w .«block_count»)) ((c .before .before .before .before .blocks-at) .ensures)) ((c .before .before .if2) .taken),
+      (c .refused2) .ensures .2,
+    )
 
 first-stray-requires : tie.Need-first-stray-requires
 first-stray-requires c κs = ((c .before .before .before .before .before .before .pre) .blocks, (c .before .before .before .before .before .before .pre) .code, (c .before .before .before .before .before .before .pre) .all-code, (c .before .before .before .before .before .before .pre) .ret)
@@ -72,15 +76,17 @@ returns-3 c =
     let p = (c .before .before .before .before .before .before .before .before .before .before .before .pre) in
     let ba = (c .before .before .before .before .before .before .before .blocks-at) in
     let ff = (c .before .before .before .before .before .before .first-faulty) in
-    let fs = (c .before .before .before .before .first-stray) in
-    listed-refused (a .s .now) (a .code .now) ((c .refused3) .result) 5 (getD (a .code .now) (fs .result) 0) ((c .refused3) .ensures .0)
-    ((c .refused3) .ensures .1 ∙ (c .before .place2) .ensures .0) (λ h. omega arith) ∙ ruled-ret (a .s .now) (a .t4) (a .code .now)
-    (a .w .«block_count») (a .w .«code_count») (omega (arith, p .blocks, p .all-blocks)) (omega (arith, p .code, p .all-code))
-    ((c .before .before .before .before .before .before .before .before .if1) .left) (ff .result)
-    (ff .ensures ∙ ap (λ (l : List Block). firstOf (faultyBlock (a .w .«code_count») l) 0 (a .w .«block_count»)) (ba .ensures))
-    ((c .before .before .before .before .before .if2) .left) (fs .result)
-    (fs .ensures ∙ ap (λ (l : List Block). firstOf (strayRet (map (instrAt (a .s .now)) (take (a .w .«code_count») (a .code .now))) l) 0
-    (a .w .«code_count»)) (ba .ensures)) ((c .before .before .before .if3) .taken)
+    let fs = (c .before .before .before .before .first-stray) in (
+      listed-refused (a .s .now) (a .code .now) ((c .refused3) .result) 5 (getD (a .code .now) (fs .result) 0) ((c .refused3) .ensures .0)
+          ((c .refused3) .ensures .1 ∙ (c .before .place2) .ensures .0) (λ h. omega arith) ∙ ruled-ret (a .s .now) (a .t4) (a .code .now)
+          (a .w .«block_count») (a .w .«code_count») (omega (arith, p .blocks, p .all-blocks)) (omega (arith, p .code, p .all-code))
+          ((c .before .before .before .before .before .before .before .before .if1) .left) (ff .result)
+          (ff .ensures ∙ ap (λ (l : List Block). firstOf (faultyBlock (a .w .«code_count») l) 0 (a .w .«block_count»)) (ba .ensures))
+          ((c .before .before .before .before .before .if2) .left) (fs .result)
+          (fs .ensures ∙ ap (λ (l : List Block). firstOf (strayRet (map (instrAt (a .s .now)) (take (a .w .«code_count») (a .code .now))) l) 0
+          (a .w .«code_count»)) (ba .ensures)) ((c .before .before .before .if3) .taken),
+      (c .refused3) .ensures .2,
+    )
 
 byte-at-requires : tie.Need-byte-at-requires
 byte-at-requires c κs = search needs
@@ -110,18 +116,20 @@ returns-4 c =
     let fs = (c .before .before .before .before .before .first-stray) in
     let n = (c .before .before .before .byte-at) in
     let ps = (c .before .before .bytes-at) in
-    let e : a .head .now ≡ bodyAt (a .s .now) 0 = p .first in
-    ap Listed.read (routine-eq _ _ _ _ _ _ _ _ _ _
-    (params-eq (a .head .now) (ps .result) (n .result) (n .ensures) (ps .ensures) ∙ ap paramsOf e)
-    ((c .before .byte-at2) .ensures ∙ ap localsOf e)
-    ((c .byte-at3) .ensures ∙ ap (λ (n : ℕ). getD (a .head .now) (2 + n) 0) (n .ensures) ∙ ap returnsOf e)
-    (ba .ensures) (p .same))
-    ∙ ruled-read (a .s .now) (a .t4) (a .code .now) (a .w .«block_count») (a .w .«code_count») (omega (arith, p .blocks, p .all-blocks))
-    (omega (arith, p .code, p .all-code)) ((c .before .before .before .before .before .before .before .before .before .if1) .left) (ff .result)
-    (ff .ensures ∙ ap (λ (l : List Block). firstOf (faultyBlock (a .w .«code_count») l) 0 (a .w .«block_count»)) (ba .ensures))
-    ((c .before .before .before .before .before .before .if2) .left) (fs .result)
-    (fs .ensures ∙ ap (λ (l : List Block). firstOf (strayRet (map (instrAt (a .s .now)) (take (a .w .«code_count») (a .code .now))) l) 0
-    (a .w .«code_count»)) (ba .ensures)) ((c .before .before .before .before .if3) .left)
+    let e : a .head .now ≡ bodyAt (a .s .now) 0 = p .first in (
+      ap Listed.read (routine-eq _ _ _ _ _ _ _ _ _ _
+          (params-eq (a .head .now) (ps .result) (n .result) (n .ensures) (ps .ensures) ∙ ap paramsOf e)
+          ((c .before .byte-at2) .ensures ∙ ap localsOf e)
+          ((c .byte-at3) .ensures ∙ ap (λ (n : ℕ). getD (a .head .now) (2 + n) 0) (n .ensures) ∙ ap returnsOf e)
+          (ba .ensures) (p .same))
+          ∙ ruled-read (a .s .now) (a .t4) (a .code .now) (a .w .«block_count») (a .w .«code_count») (omega (arith, p .blocks, p .all-blocks))
+          (omega (arith, p .code, p .all-code)) ((c .before .before .before .before .before .before .before .before .before .if1) .left) (ff .result)
+          (ff .ensures ∙ ap (λ (l : List Block). firstOf (faultyBlock (a .w .«code_count») l) 0 (a .w .«block_count»)) (ba .ensures))
+          ((c .before .before .before .before .before .before .if2) .left) (fs .result)
+          (fs .ensures ∙ ap (λ (l : List Block). firstOf (strayRet (map (instrAt (a .s .now)) (take (a .w .«code_count») (a .code .now))) l) 0
+          (a .w .«code_count»)) (ba .ensures)) ((c .before .before .before .before .if3) .left),
+      record { few = p .blocks; count = counted-at (a .s .now) (a .t4) (a .w .«block_count») (omega (arith, p .blocks, p .all-blocks)) _ (ba .ensures) },
+    )
 
 pub ruled-spec : {M : Type 1} → statement M
 ruled-spec =

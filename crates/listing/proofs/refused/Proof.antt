@@ -1,0 +1,17 @@
+-- `listing::refused` meets its contract. Assumes nothing.
+use mathlib.Core.Path.{refl}
+use native.Mathlib.Omega.{arith}
+use Rattle.listing.specs.Models.{blocksIn}
+use borrow.Author.Needs.{needs}
+use Rattle.listing.proofs.refused.Statement.{statement}
+use Rattle.listing.proofs.refused.Tie as tie
+
+no-block-requires : tie.Need-no-block-requires
+no-block-requires c κs = search needs
+
+returns : tie.Need-returns
+unfolding blocksIn
+returns c = (refl, refl, record { few = omega arith; count = refl })
+
+pub refused-spec : {M : Type 1} → statement M
+refused-spec = tie.close (tie.spec no-block-requires returns)
