@@ -79,9 +79,9 @@ pub record Propagated (bs : List M.Block) (l : ℕ) (b : M.Block) (s : State) (w
   pub beyond : drop areaWords ws′ ≡ drop areaWords ws
   pub counts : SameCounts t r
 
-module _ (s : List ℕ) (d : D.Routine) where
+module _ (s cs : List ℕ) (d : D.Routine) where
   abbrev pub theRoutine : Routine
-  theRoutine = routineOf s d
+  theRoutine = routineOf s cs d
 
   -- the program stands where the run stands
   abbrev pub At : Run State → List ℕ → RunState → Type 0

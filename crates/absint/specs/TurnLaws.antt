@@ -104,9 +104,9 @@ block-at xs n i w h k = go xs n i (omega (arith, w, h)) k
 
 -- ---- one turn
 
-module _ (s : List ℕ) (d : D.Routine) (count : length (routineOf s d .blocks) ≡ d .«block_count») (ws : List ℕ) (t : RunState) (p : Ready s d ws t) where
+module _ (s cs : List ℕ) (d : D.Routine) (count : length (routineOf s cs d .blocks) ≡ d .«block_count») (ws : List ℕ) (t : RunState) (p : Ready s cs d ws t) where
   abbrev q : Routine
-  q = routineOf s d
+  q = routineOf s cs d
 
   abbrev i : ℕ
   i = t .next
@@ -114,18 +114,18 @@ module _ (s : List ℕ) (d : D.Routine) (count : length (routineOf s d .blocks) 
   inside : i < length (q .blocks)
   inside = omega (arith, count, p .within)
 
-  at-next : (x : Run State) → At s d x ws t → Reached State join changed (exec q) (q .blocks) x (keptOf (d .locals) ws) (statusesOf t) (at i) (t .visits)
+  at-next : (x : Run State) → At s cs d x ws t → Reached State join changed (exec q) (q .blocks) x (keptOf (d .locals) ws) (statusesOf t) (at i) (t .visits)
   at-next x a = subst (λ (n : Next). Reached State join changed (exec q) (q .blocks) x (keptOf (d .locals) ws) (statusesOf t) n (t .visits)) (going t (p .going)) a
 
   -- where the code stands after the turn
   moved : (x : Run State) (ws′ : List ℕ) (r : RunState) (xs : List Status) (n : Next) (v : ℕ) → statusesOf r ≡ xs → nextOf r ≡ n → r .visits ≡ v
-      → Reached State join changed (exec q) (q .blocks) x (keptOf (d .locals) ws′) xs n v → At s d x ws′ r
+      → Reached State join changed (exec q) (q .blocks) x (keptOf (d .locals) ws′) xs n v → At s cs d x ws′ r
   moved x ws′ r xs n v a b c h =
       subst (λ (m : ℕ). Reached State join changed (exec q) (q .blocks) x (keptOf (d .locals) ws′) (statusesOf r) (nextOf r) m) (sym c)
       (subst (λ (m : Next). Reached State join changed (exec q) (q .blocks) x (keptOf (d .locals) ws′) (statusesOf r) m v) (sym b)
       (subst (λ (ys : List Status). Reached State join changed (exec q) (q .blocks) x (keptOf (d .locals) ws′) ys n v) (sym a) h))
 
-  pub turned-over : (r : RunState) → keptOf (d .locals) ws i ≡ none → statusesOf r ≡ statusesOf t → nextOf r ≡ at (suc i) → r .visits ≡ t .visits → r .turns ≡ t .turns + 1 → Turned s d ws ws t r
+  pub turned-over : (r : RunState) → keptOf (d .locals) ws i ≡ none → statusesOf r ≡ statusesOf t → nextOf r ≡ at (suc i) → r .visits ≡ t .visits → r .turns ≡ t .turns + 1 → Turned s cs d ws ws t r
   turned-over r e a b c k =
       record {
         step = λ x h. moved (turn State join changed (exec q) (q .blocks) x) ws r (statusesOf t) (at (suc i)) (t .visits) a b c (F.step-over State join changed (exec q) (q .blocks) x (keptOf (d .locals) ws) (statusesOf t) i (t .visits) (at-next x h) inside e);
@@ -138,7 +138,7 @@ module _ (s : List ℕ) (d : D.Routine) (count : length (routineOf s d .blocks) 
     room : length (q .blocks) ≤ length (statusesOf t)
     room = let z : d .«block_count» ≤ 16 = p .blocks in omega (arith, count, sts, z)
 
-    pub turned-violated : (r : RunState) (c o : ℕ) → exec q i k ≡ Result.violated c o → statusesOf r ≡ set (statusesOf t) i (failed c o) → nextOf r ≡ at (suc i) → r .visits ≡ suc (t .visits) → r .turns ≡ t .turns + 1 → Turned s d ws ws t r
+    pub turned-violated : (r : RunState) (c o : ℕ) → exec q i k ≡ Result.violated c o → statusesOf r ≡ set (statusesOf t) i (failed c o) → nextOf r ≡ at (suc i) → r .visits ≡ suc (t .visits) → r .turns ≡ t .turns + 1 → Turned s cs d ws ws t r
     turned-violated r c o e a b v m =
         record {
           step = λ x h. moved (turn State join changed (exec q) (q .blocks) x) ws r (set (statusesOf t) i (failed c o)) (at (suc i)) (suc (t .visits)) a b v
@@ -148,7 +148,7 @@ module _ (s : List ℕ) (d : D.Routine) (count : length (routineOf s d .blocks) 
           beyond = refl;
         }
 
-    pub turned-refused : (r : RunState) (n o : ℕ) → exec q i k ≡ Result.refused n o → statusesOf r ≡ statusesOf t → nextOf r ≡ stopped n o → r .visits ≡ suc (t .visits) → r .turns ≡ t .turns + 1 → Turned s d ws ws t r
+    pub turned-refused : (r : RunState) (n o : ℕ) → exec q i k ≡ Result.refused n o → statusesOf r ≡ statusesOf t → nextOf r ≡ stopped n o → r .visits ≡ suc (t .visits) → r .turns ≡ t .turns + 1 → Turned s cs d ws ws t r
     turned-refused r n o e a b v m =
         record {
           step = λ x h. moved (turn State join changed (exec q) (q .blocks) x) ws r (statusesOf t) (stopped n o) (suc (t .visits)) a b v (F.step-refused State join changed (exec q) (q .blocks) x (keptOf (d .locals) ws) (statusesOf t) i (t .visits) (at-next x h) inside k old n o e);
@@ -158,7 +158,7 @@ module _ (s : List ℕ) (d : D.Routine) (count : length (routineOf s d .blocks) 
         }
 
     -- the block ended and has no successors
-    pub turned-returned : (r : RunState) → exec q i k ≡ Result.returned → statusesOf r ≡ set (statusesOf t) i fine → nextOf r ≡ at (suc i) → r .visits ≡ suc (t .visits) → r .turns ≡ t .turns + 1 → Turned s d ws ws t r
+    pub turned-returned : (r : RunState) → exec q i k ≡ Result.returned → statusesOf r ≡ set (statusesOf t) i fine → nextOf r ≡ at (suc i) → r .visits ≡ suc (t .visits) → r .turns ≡ t .turns + 1 → Turned s cs d ws ws t r
     turned-returned r e a b v m =
         record {
           step = λ x h. moved (turn State join changed (exec q) (q .blocks) x) ws r (set (statusesOf t) i fine) (at (suc i)) (suc (t .visits)) a b v (F.step-returned State join changed (exec q) (q .blocks) x (keptOf (d .locals) ws) (statusesOf t) i (t .visits) (at-next x h) inside k old room e);
@@ -169,7 +169,7 @@ module _ (s : List ℕ) (d : D.Routine) (count : length (routineOf s d .blocks) 
 
     -- the block ended: u is what the code had before its end state was propagated
     pub turned-ended : (e : State) (b : M.Block) (ws′ : List ℕ) (u r : RunState) → exec q i k ≡ Result.ended e → b ≡ getD (q .blocks) i noBlock → statusesOf u ≡ set (statusesOf t) i fine → nextOf u ≡ at (suc i) → u .visits ≡ suc (t .visits) → u .turns ≡ t .turns + 1
-        → Propagated (q .blocks) (d .locals) b e ws ws′ u r → Turned s d ws ws′ t r
+        → Propagated (q .blocks) (d .locals) b e ws ws′ u r → Turned s cs d ws ws′ t r
     turned-ended e b ws′ u r ran same a c v m h =
         record {
           step = λ x y. moved (turn State join changed (exec q) (q .blocks) x) ws′ r (statusesOf r) (nextOf r) (suc (t .visits)) refl refl (h .counts .visits ∙ v)
@@ -198,18 +198,18 @@ most-few b l n h k m =
     let w : mostVisits b l ≤ 16 * 45313 = mul-le-mul h v in
     omega (arith, w, m)
 
-module _ (s : List ℕ) (d : D.Routine) (promise : promised (routineOf s d) ≡ true) (count : length (routineOf s d .blocks) ≡ d .«block_count») (some-block : 0 < length (routineOf s d .blocks)) where
+module _ (s cs : List ℕ) (d : D.Routine) (promise : promised (routineOf s cs d) ≡ true) (count : length (routineOf s cs d .blocks) ≡ d .«block_count») (some-block : 0 < length (routineOf s cs d .blocks)) where
   abbrev pub whole : ℕ → Run State
-  whole k = runWith (routineOf s d) k
+  whole k = runWith (routineOf s cs d) k
 
   -- the run after as many steps as the program has made turns
   pub record Going (ws₀ ws : List ℕ) (t : RunState) : Type 0 where
-    pub here : At s d (whole (t .turns)) ws t
+    pub here : At s cs d (whole (t .turns)) ws t
     pub fewer : t .visits ≤ t .turns
     pub beyond : drop areaWords ws ≡ drop areaWords ws₀
 
   abbrev r : Routine
-  r = routineOf s d
+  r = routineOf s cs d
 
   begun : (k : ℕ) → whole k ≡ turns State join changed (exec r) (r .blocks) k (F.first State join changed (exec r) (r .blocks) (firstState (r .locals) (r .params)))
   unfolding run
@@ -224,8 +224,8 @@ module _ (s : List ℕ) (d : D.Routine) (promise : promised (routineOf s d) ≡ 
   unfolding turns
   goes ws₀ ws₁ ws t area f w p =
       record {
-        here = subst (λ (n : ℕ). At s d (whole n) ws t) (sym (p .turns))
-            (subst (λ (x : Run State). At s d x ws t) (sym (begun 0))
+        here = subst (λ (n : ℕ). At s cs d (whole n) ws t) (sym (p .turns))
+            (subst (λ (x : Run State). At s cs d x ws t) (sym (begun 0))
             (subst (λ (n : Next). Reached State join changed (exec r) (r .blocks) (F.first State join changed (exec r) (r .blocks) (firstState (r .locals) (r .params))) (keptOf (d .locals) ws) (statusesOf t) n (t .visits)) (sym (p .next))
             (subst (λ (n : ℕ). Reached State join changed (exec r) (r .blocks) (F.first State join changed (exec r) (r .blocks) (firstState (r .locals) (r .params))) (keptOf (d .locals) ws) (statusesOf t) (at 0) n) (sym (p .visits))
             (F.starts State join changed (exec r) (r .blocks) (firstState (r .locals) (r .params)) (keptOf (d .locals) ws) (statusesOf t)
@@ -247,7 +247,7 @@ module _ (s : List ℕ) (d : D.Routine) (promise : promised (routineOf s d) ≡ 
       pub bound : t .turns < mostVisits (length (r .blocks)) (r .locals)
       bound = RunLaws.unsettled r promise (t .turns) unended
 
-      pub ready : d .«block_count» ≤ 16 → d .locals ≤ 16 → areaWords ≤ length ws → Ready s d ws t
+      pub ready : d .«block_count» ≤ 16 → d .locals ≤ 16 → areaWords ≤ length ws → Ready s cs d ws t
       ready few small area =
           record {
             promise = promise;
@@ -260,22 +260,22 @@ module _ (s : List ℕ) (d : D.Routine) (promise : promised (routineOf s d) ≡ 
             fewer = g .fewer;
           }
 
-      pub goes-on : (ws′ : List ℕ) (u : RunState) → Turned s d ws ws′ t u → Going ws₀ ws′ u
+      pub goes-on : (ws′ : List ℕ) (u : RunState) → Turned s cs d ws ws′ t u → Going ws₀ ws′ u
       goes-on ws′ u h =
           record {
-            here = subst (λ (n : ℕ). At s d (whole n) ws′ u) (sym (h .turns ∙ add-one (t .turns)))
-                (subst (λ (x : Run State). At s d x ws′ u) (sym (more (t .turns)))
+            here = subst (λ (n : ℕ). At s cs d (whole n) ws′ u) (sym (h .turns ∙ add-one (t .turns)))
+                (subst (λ (x : Run State). At s cs d x ws′ u) (sym (more (t .turns)))
                 (h .step (whole (t .turns)) (g .here)));
             fewer = h .fewer;
             beyond = h .beyond ∙ g .beyond;
           }
 
     -- no block is next, or the run was stopped: it is the whole run
-    pub ends : (t .stopped ≡ true) ⊎ (d .«block_count» ≤ t .next) → Analyzed s d ws₀ ws t
+    pub ends : (t .stopped ≡ true) ⊎ (d .«block_count» ≤ t .next) → Analyzed s cs d ws₀ ws t
     unfolding runOf
     ends o =
         record {
-          end = subst (λ (x : Run State). At s d x ws t) (RunLaws.settled r promise (t .turns) (ap (M.endedAt State join changed (exec r) (r .blocks)) (sym (g .here .next)) ∙ over o)) (g .here);
+          end = subst (λ (x : Run State). At s cs d x ws t) (RunLaws.settled r promise (t .turns) (ap (M.endedAt State join changed (exec r) (r .blocks)) (sym (g .here .next)) ∙ over o)) (g .here);
           beyond = g .beyond;
         }
       where
@@ -289,10 +289,10 @@ module _ (s : List ℕ) (d : D.Routine) (promise : promised (routineOf s d) ≡ 
 
 -- ---- the loop's invariant
 
-pub record Loops (s : List ℕ) (d : D.Routine) (ws₀ ws : List ℕ) (t : RunState) : Type 0 where
-  pub read : Readable s d
+pub record Loops (s cs : List ℕ) (d : D.Routine) (ws₀ ws : List ℕ) (t : RunState) : Type 0 where
+  pub read : Readable s cs d
   pub long : length ws ≡ length ws₀
-  pub going : Going s d (read .promise) (read .count) (read .some) ws₀ ws t
+  pub going : Going s cs d (read .promise) (read .count) (read .some) ws₀ ws t
 
 pub promised-small : (q : Routine) → promised q ≡ true → q .locals ≤ 16
 unfolding promised
@@ -319,14 +319,14 @@ pub stored-as : (m l : ℕ) (a b : State) (ws ws′ : List ℕ) → m ≡ l → 
 stored-as m l a b ws ws′ e f w = subst (λ (n : ℕ). Stored n b 0 ws ws′) e (subst (λ (x : State). Stored m x 0 ws ws′) f w)
 
 -- the loop starts from the area with the first state in it
-pub goes-again : (s : List ℕ) (d : D.Routine) (promise : promised (routineOf s d) ≡ true) (count : length (routineOf s d .blocks) ≡ d .«block_count») (some-block : 0 < length (routineOf s d .blocks)) (ws₀ ws₁ ws : List ℕ) (t : RunState)
-    → areaWords ≤ length ws₀ → Forgotten ws₀ ws₁ → Stored (d .locals) (firstState (routineOf s d .locals) (routineOf s d .params)) 0 ws₁ ws → Started t → Going s d promise count some-block ws ws t
-goes-again s d promise count some-block ws₀ ws₁ ws t area f w p =
-    let g = goes s d promise count some-block ws₀ ws₁ ws t area f w p in
+pub goes-again : (s cs : List ℕ) (d : D.Routine) (promise : promised (routineOf s cs d) ≡ true) (count : length (routineOf s cs d .blocks) ≡ d .«block_count») (some-block : 0 < length (routineOf s cs d .blocks)) (ws₀ ws₁ ws : List ℕ) (t : RunState)
+    → areaWords ≤ length ws₀ → Forgotten ws₀ ws₁ → Stored (d .locals) (firstState (routineOf s cs d .locals) (routineOf s cs d .params)) 0 ws₁ ws → Started t → Going s cs d promise count some-block ws ws t
+goes-again s cs d promise count some-block ws₀ ws₁ ws t area f w p =
+    let g = goes s cs d promise count some-block ws₀ ws₁ ws t area f w p in
     record { here = g .here; fewer = g .fewer; beyond = refl }
 
-pub from : (s : List ℕ) (d : D.Routine) (ws₀ ws₁ ws : List ℕ) (t : RunState) → drop areaWords ws₁ ≡ drop areaWords ws₀ → Analyzed s d ws₁ ws t → Analyzed s d ws₀ ws t
-from s d ws₀ ws₁ ws t e a = record { end = a .end; beyond = a .beyond ∙ e }
+pub from : (s cs : List ℕ) (d : D.Routine) (ws₀ ws₁ ws : List ℕ) (t : RunState) → drop areaWords ws₁ ≡ drop areaWords ws₀ → Analyzed s cs d ws₁ ws t → Analyzed s cs d ws₀ ws t
+from s cs d ws₀ ws₁ ws t e a = record { end = a .end; beyond = a .beyond ∙ e }
 
 pub positive : (n : ℕ) → (n ≡ 0 → ⊥) → 1 ≤ n
 positive zero h = absurd (h refl)

@@ -3,13 +3,12 @@ use Prim.Native.Nat.{ℕ, _+_, _≤_, _<_}
 use native.Mathlib.Omega.{arith}
 use mathlib.Core.Path.{_≡_, refl, sym, ap, _∙_, subst}
 use mathlib.Core.Bool.{Bool, true, false, cond, true≢false}
-use mathlib.Core.List.{List, map, _++_}
+use mathlib.Core.List.{List, _++_}
 use mathlib.Core.Option.{none}
 use borrow.Author.Tests.{lt-ltb, le-ltb, eq-eqb, ne-eqb}
 use lib.Dec.{leb}
-use lib.ListN.{length, take, length-take}
+use lib.ListN.{length}
 use Rattle.meaning.specs.Laws.Base.{decide, leb-le, leb-gt}
-use Rattle.meaning.specs.Laws.Array.{front-all}
 use Rattle.meaning.specs.Limits.{areaWords}
 use Rattle.meaning.specs.Area.{keptOf, cleared, zeros}
 use Rattle.meaning.specs.Laws.Area.{cleared-long}
@@ -19,8 +18,7 @@ use Rattle.meaning.specs.Laws.Fit.{lowestBy, lowest-by}
 use Rattle.meaning.specs.Listing.{Listed, read, refused, readListing}
 use Rattle.meaning.specs.Verify as Whole
 use Rattle.meaning.specs.Verify.{runOf, keptBy}
-use Rattle.listing.specs.Models.{blockOf, blocksIn, routineOf, listedOf, pickListed}
-use Rattle.listing.specs.declared.Block.{Block}
+use Rattle.listing.specs.Models.{routineOf, listedOf, pickListed}
 use Rattle.listing.specs.declared.Listed as D
 use Rattle.listing.specs.declared.Routine as Made
 use Rattle.absint.specs.Models.{statusesOf, verdictIn, Analyzed, Left}
@@ -36,20 +34,13 @@ abbrev routineIn : Routine → Listed Routine → Routine
 routineIn d (read q) = q
 routineIn d (refused n p) = d
 
-pub was-read : (s : List ℕ) (l : D.Listed) → listedOf s l ≡ readListing s → l .number ≡ 0 → readListing s ≡ read (routineOf s (l .routine))
+pub was-read : (s cs : List ℕ) (l : D.Listed) → listedOf s cs l ≡ readListing s → l .number ≡ 0 → readListing s ≡ read (routineOf s cs (l .routine))
 unfolding listedOf
-was-read s l e z = sym e ∙ ap (λ (b : Bool). pickListed b (routineOf s (l .routine)) (l .number) (l .place)) (eq-eqb (l .number) 0 z)
+was-read s cs l e z = sym e ∙ ap (λ (b : Bool). pickListed b (routineOf s cs (l .routine)) (l .number) (l .place)) (eq-eqb (l .number) 0 z)
 
-pub was-refused : (s : List ℕ) (l : D.Listed) → listedOf s l ≡ readListing s → (l .number ≡ 0 → ⊥) → readListing s ≡ refused (l .number) (l .place)
+pub was-refused : (s cs : List ℕ) (l : D.Listed) → listedOf s cs l ≡ readListing s → (l .number ≡ 0 → ⊥) → readListing s ≡ refused (l .number) (l .place)
 unfolding listedOf
-was-refused s l e z = sym e ∙ ap (λ (b : Bool). pickListed b (routineOf s (l .routine)) (l .number) (l .place)) (ne-eqb (l .number) 0 z)
-
--- more than 16 blocks read as 16
-pub sixteen : (xs : List Block) (n : ℕ) → length xs ≡ 16 → 16 < n → blocksIn xs 16 ≡ blocksIn xs n
-unfolding blocksIn
-sixteen xs n w h =
-    let z : length (take n xs) ≡ 16 = simp length-take (omega (arith, w, h)) in
-    ap (map blockOf) (ap (λ (k : ℕ). take k xs) (sym z) ∙ front-all n xs)
+was-refused s cs l e z = sym e ∙ ap (λ (b : Bool). pickListed b (routineOf s cs (l .routine)) (l .number) (l .place)) (ne-eqb (l .number) 0 z)
 
 -- ---- the answer
 
@@ -68,15 +59,15 @@ module _ (words : ℕ) (s : List ℕ) where
     verify-read q v n e a b = rw (le-ltb words areaWords h) ((λ k. record { verdict = a k; visits = b k }) ∙ ap Whole.answerTo (sym e))
 
 -- the statuses give the verdict
-pub ruled : (s : List ℕ) (d : Made.Routine) (ws₀ ws : List ℕ) (t : RunState) → length (statusesOf t) ≡ 16 → d .«block_count» ≤ 16 → length (routineOf s d .blocks) ≡ d .«block_count» → Analyzed s d ws₀ ws t
-    → verdictIn (routineOf s d .blocks) t ≡ verdict (routineOf s d .blocks) (runOf (routineOf s d))
+pub ruled : (s cs : List ℕ) (d : Made.Routine) (ws₀ ws : List ℕ) (t : RunState) → length (statusesOf t) ≡ 16 → d .«block_count» ≤ 16 → length (routineOf s cs d .blocks) ≡ d .«block_count» → Analyzed s cs d ws₀ ws t
+    → verdictIn (routineOf s cs d .blocks) t ≡ verdict (routineOf s cs d .blocks) (runOf (routineOf s cs d))
 unfolding verdict
-ruled s d ws₀ ws t w few count a = go (t .stopped) ∙ ap (verdictAt (routineOf s d .blocks) (runOf (routineOf s d) .slots)) (a .end .next)
+ruled s cs d ws₀ ws t w few count a = go (t .stopped) ∙ ap (verdictAt (routineOf s cs d .blocks) (runOf (routineOf s cs d) .slots)) (a .end .next)
   where
-    go : (b : Bool) → cond b (refusal (t .number) (t .place .0)) (verdictFor (lowestBy (routineOf s d .blocks) (statusesOf t) none))
-        ≡ verdictAt (routineOf s d .blocks) (runOf (routineOf s d) .slots) (cond b (stopped (t .number) (t .place .0)) (at (t .next)))
+    go : (b : Bool) → cond b (refusal (t .number) (t .place .0)) (verdictFor (lowestBy (routineOf s cs d .blocks) (statusesOf t) none))
+        ≡ verdictAt (routineOf s cs d .blocks) (runOf (routineOf s cs d) .slots) (cond b (stopped (t .number) (t .place .0)) (at (t .next)))
     go true = refl
-    go false = ap verdictFor (lowest-by (routineOf s d .blocks) (statusesOf t) (runOf (routineOf s d) .slots) none (let z = a .end .same-length in omega (arith, z, w, few, count)) (a .end .fits .status) (a .end .same-length))
+    go false = ap verdictFor (lowest-by (routineOf s cs d .blocks) (statusesOf t) (runOf (routineOf s cs d) .slots) none (let z = a .end .same-length in omega (arith, z, w, few, count)) (a .end .fits .status) (a .end .same-length))
 
 -- ---- what is left in the area
 
@@ -86,8 +77,8 @@ left-short s ws h = record { kept = λ a q e j. absurd (omega (arith, a, h)); un
 pub left-refused : (s ws : List ℕ) (n p : ℕ) → readListing s ≡ refused n p → Left s ws ws
 left-refused s ws n p e = record { kept = λ a q f j. absurd (true≢false (ap isRead (sym f ∙ e))); unread = λ m o f. refl; short = λ z. refl; beyond = refl }
 
-pub left-read : (s : List ℕ) (d : Made.Routine) (ws₀ ws : List ℕ) (t : RunState) → areaWords ≤ length ws₀ → readListing s ≡ read (routineOf s d) → Analyzed s d ws₀ ws t → Left s ws₀ ws
-left-read s d ws₀ ws t h e a =
+pub left-read : (s cs : List ℕ) (d : Made.Routine) (ws₀ ws : List ℕ) (t : RunState) → areaWords ≤ length ws₀ → readListing s ≡ read (routineOf s cs d) → Analyzed s cs d ws₀ ws t → Left s ws₀ ws
+left-read s cs d ws₀ ws t h e a =
     record {
       kept = λ z q f j. subst (λ (r : Routine). keptOf (r .locals) ws j ≡ keptBy (read r) j) (same q f) (a .end .fits .kept j);
       unread = λ n p f. absurd (true≢false (ap isRead (sym e ∙ f)));
@@ -95,8 +86,8 @@ left-read s d ws₀ ws t h e a =
       beyond = a .beyond;
     }
   where
-    same : (q : Routine) → readListing s ≡ read q → routineOf s d ≡ q
-    same q f = ap (routineIn (routineOf s d)) (sym e ∙ f)
+    same : (q : Routine) → readListing s ≡ read q → routineOf s cs d ≡ q
+    same q f = ap (routineIn (routineOf s cs d)) (sym e ∙ f)
 
 pub cleared-left : (s ws ws′ : List ℕ) → length ws′ ≡ length ws → Left s ws ws′ → cleared ws′ ≡ cleared ws
 cleared-left s ws ws′ e l = decide (leb areaWords (length ws))

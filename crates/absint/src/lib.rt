@@ -10,19 +10,13 @@ use crate::failure::verdict_of;
 use crate::interpreter::analyze_function;
 use absint_area::clear;
 use file_format::CodeOffset;
-use listing::Routine;
 use listing::read_listing;
 use meaning::AREA_WORDS;
-use meaning::MAX_BLOCKS;
 use meaning::MAX_INSTRUCTIONS;
 ghost use mathlib.Core.Path.{_≡_};
-ghost use Prim.Native.Nat.{ℕ, _≤_};
-ghost use mathlib.Core.List.{List};
 ghost use lib.ListN.{length};
-ghost use Rattle.meaning.specs.Limits.{maxBlocks};
 ghost use Rattle.meaning.specs.Area.{cleared};
 ghost use Rattle.meaning.specs.Loop.{refusal};
-ghost use Rattle.listing.specs.Models.{blocksIn, routineOf};
 ghost use Rattle.meaning.specs.Verify as Whole;
 ghost use Rattle.absint.specs.Models.{verdictOf, Left};
 
@@ -51,8 +45,7 @@ pub fn analyze(listing: &[u8], area: &mut [u32]) -> Verdict
     if l.number != 0 {
         return refused(l.number, l.place);
     }
-    let all = l.routine;
-    let q = within_blocks(all);
+    let q = l.routine;
     let t = analyze_function(listing, q, &code, area);
     let blocks = q.blocks;
     Verdict {
@@ -68,18 +61,6 @@ pub fn verify(listing: &[u8], area: &mut [u32]) -> Verdict
     let v = analyze(listing, area);
     clear(area);
     v
-}
-
-// The same routine, its blocks counted as they are read: 16 at most.
-fn within_blocks(routine: Routine) -> Routine
-    ensures { λ r. ⌜ ((s cs : List ℕ) → routineOf s cs r ≡ routineOf s cs routine) × (r .«block_count» ≤ maxBlocks) × (length (blocksIn (r .blocks) (r .«block_count»)) ≡ r .«block_count») ⌝ }
-{
-    let mut q = routine;
-    if MAX_BLOCKS < routine.block_count {
-        q.block_count = MAX_BLOCKS;
-        return q;
-    }
-    q
 }
 
 fn refused(number: u8, place: usize) -> Verdict

@@ -11,15 +11,15 @@ use Rattle.bench_listing.specs.Number.{numberOf}
 use Rattle.bench_listing.proofs.listing_number.Statement.{statement}
 use Rattle.bench_listing.proofs.listing_number.Tie as tie
 
-number : (s : List ℕ) (r : Listed) → r .number ≡ numberOf (listedOf s r)
+number : (s cs : List ℕ) (r : Listed) → r .number ≡ numberOf (listedOf s cs r)
 unfolding listedOf
-number s r = decide (eqb (r .number) 0) (λ e. rw e (eqb-eq e)) (λ e. rw e)
+number s cs r = decide (eqb (r .number) 0) (λ e. rw e (eqb-eq e)) (λ e. rw e)
 
 read-listing-requires : tie.Need-read-listing-requires
 read-listing-requires c κs = search needs
 
 returns : tie.Need-returns
-returns c = number _ (c .read-listing .result) ∙ ap numberOf (c .read-listing .ensures)
+returns c = number _ _ (c .read-listing .result) ∙ ap numberOf (c .read-listing .ensures .0)
 
 pub listing-number-spec : {M : Type 1} → statement M
 listing-number-spec = tie.close (tie.spec read-listing-requires returns)

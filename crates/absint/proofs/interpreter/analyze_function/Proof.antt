@@ -14,10 +14,10 @@ use Rattle.absint.proofs.interpreter.analyze_function.Statement.{statem
 use Rattle.absint.proofs.interpreter.analyze_function.Tie as tie
 
 abbrev Inv-loop : tie.InvT-loop
-Inv-loop listing routine area₀ t₀ area t = Law.Loops listing routine area₀ area t
+Inv-loop listing routine code area₀ t₀ area t = Law.Loops listing code routine area₀ area t
 
 abbrev μ-loop : tie.MeasureT-loop
-μ-loop listing routine area₀ t₀ area t = mostVisits (length (routineOf listing routine .blocks)) (routine .locals) - t .turns
+μ-loop listing routine code area₀ t₀ area t = mostVisits (length (routineOf listing code routine .blocks)) (routine .locals) - t .turns
 
 new-requires : tie.Need-new-requires Inv-loop μ-loop
 new-requires c κs = search needs
@@ -39,13 +39,13 @@ loop-holds c =
     let new = c .before .before .before .before .before .before .before .before .before .new in
     let args = c .before .before .before .before .before .before .before .before .before .before .before .before .before .args in
     let pre = c .before .before .before .before .before .before .before .before .before .before .before .before .before .pre in
-    let small = Law.promised-small (routineOf (args .listing .now) (args .routine)) (pre .0 .promise) in
+    let small = Law.promised-small (routineOf (args .listing .now) (args .code .now) (args .routine)) (pre .0 .promise) in
     let made = Law.first-made (new .result) (args .routine .locals) (map tokenAs (take (args .routine .«param_count») (args .routine .params))) small (new .ensures) in
     let area : areaWords ≤ length (args .area .now) = pre .1 in
     record {
       read = pre .0;
       long = refl;
-      going = Law.goes-again (args .listing .now) (args .routine) (pre .0 .promise) (pre .0 .count) (pre .0 .some) (args .area .now) (forget .last .0)
+      going = Law.goes-again (args .listing .now) (args .code .now) (args .routine) (pre .0 .promise) (pre .0 .count) (pre .0 .some) (args .area .now) (forget .last .0)
           (store .last .0) (start .result) area (Law.forgot _ _ area (forget .ensures))
           (Law.stored-as (new .result .«num_locals») (args .routine .locals) _ _ (forget .last .0) (store .last .0) (made .0) (made .1) (store .ensures))
           (start .ensures);
@@ -66,8 +66,8 @@ turn-requires c κs =
     let a = store .kept .0 in
     let b = forget .kept .0 in
     let wide : areaWords ≤ length (args .area .now) = pre .1 in
-    Law.ready (args .listing .now) (args .routine) (loop .inv .read .promise) (loop .inv .read .count) (loop .inv .read .some) _ (loop .area) (loop .t) g (on .0)
-    (ltb-true _ _ (on .1)) few (Law.promised-small (routineOf (args .listing .now) (args .routine)) (pre .0 .promise))
+    Law.ready (args .listing .now) (args .code .now) (args .routine) (loop .inv .read .promise) (loop .inv .read .count) (loop .inv .read .some) _ (loop .area) (loop .t) g (on .0)
+    (ltb-true _ _ (on .1)) few (Law.promised-small (routineOf (args .listing .now) (args .code .now) (args .routine)) (pre .0 .promise))
     (omega (arith, long, a, b, wide))
 
 loop-less : tie.Need-loop-less Inv-loop μ-loop
@@ -77,7 +77,7 @@ loop-less c =
     let loop = c .before .before .before .before .before .before .before .before .loop in
     let args = c .before .before .before .before .before .before .before .before .before .before .before .before .before .before .before .before .before .before .before .before .before .before .args in
     let on = Law.test-on (loop .t .stopped) _ (if1 .taken) in
-    let b = Law.bound (args .listing .now) (args .routine) (loop .inv .read .promise) (loop .inv .read .count) (loop .inv .read .some) _ (loop .area) (loop .t)
+    let b = Law.bound (args .listing .now) (args .code .now) (args .routine) (loop .inv .read .promise) (loop .inv .read .count) (loop .inv .read .some) _ (loop .area) (loop .t)
     (loop .inv .going) (on .0) (ltb-true _ _ (on .1)) in
     let t = turn .ensures .turns in
     omega (arith, b, t)
@@ -92,7 +92,7 @@ loop-again c =
     record {
       read = loop .inv .read;
       long = turn .kept .1 .1 .0 ∙ loop .inv .long;
-      going = Law.goes-on (args .listing .now) (args .routine) (loop .inv .read .promise) (loop .inv .read .count) (loop .inv .read .some) _ (loop .area) (loop .t)
+      going = Law.goes-on (args .listing .now) (args .code .now) (args .routine) (loop .inv .read .promise) (loop .inv .read .count) (loop .inv .read .some) _ (loop .area) (loop .t)
           (loop .inv .going) (on .0) (ltb-true _ _ (on .1)) _ (turn .result) (turn .ensures);
     }
 
@@ -111,9 +111,9 @@ returns c =
     let forget = c .before .before .before .before .before .before .before .before .before .before .before .before .forget in
     let args = c .before .before .before .before .before .before .before .before .before .before .before .before .before .before .before .before .before .before .args in
     let pre = c .before .before .before .before .before .before .before .before .before .before .before .before .before .before .before .before .before .before .pre in
-    Law.from (args .listing .now) (args .routine) (args .area .now) (store .last .0) (loop .area) (loop .t)
+    Law.from (args .listing .now) (args .code .now) (args .routine) (args .area .now) (store .last .0) (loop .area) (loop .t)
     (store .ensures .beyond ∙ Law.forgot _ _ (pre .1) (forget .ensures) .beyond)
-    (Law.ends (args .listing .now) (args .routine) (loop .inv .read .promise) (loop .inv .read .count) (loop .inv .read .some) _ (loop .area) (loop .t) (loop .inv .going) (Law.test-off (loop .t .stopped) _ _ (if1 .left)))
+    (Law.ends (args .listing .now) (args .code .now) (args .routine) (loop .inv .read .promise) (loop .inv .read .count) (loop .inv .read .some) _ (loop .area) (loop .t) (loop .inv .going) (Law.test-off (loop .t .stopped) _ _ (if1 .left)))
 
 pub analyze-function-spec : {M : Type 1} → statement M
 analyze-function-spec =

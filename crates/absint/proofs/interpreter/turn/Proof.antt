@@ -33,7 +33,7 @@ abbrev block : tie.After-run-block → Block
 block r = blockOf (r .before .before .before .before .before .block-at .result)
 
 abbrev routine : tie.Start → Routine
-routine s = routineOf (s .args .listing .now) (s .args .routine)
+routine s = routineOf (s .args .listing .now) (s .args .code .now) (s .args .routine)
 
 -- it had a kept state
 old : (r : tie.After-run-block) → keptOf (start r .args .routine .locals) (start r .args .area .now) (start r .args .t .next) ≡ some (kept r)
@@ -112,7 +112,7 @@ returns c =
     let s = start r in
     let x = r .run-block .result in
     let mark = c .mark in
-    Law.turned-violated (s .args .listing .now) (s .args .routine) (r .before .before .before .before .before .block-at .ensures .1) (s .args .area .now) (s .args .t) (s .pre)
+    Law.turned-violated (s .args .listing .now) (s .args .code .now) (s .args .routine) (r .before .before .before .before .before .block-at .ensures .1) (s .args .area .now) (s .args .t) (s .pre)
     (kept r) (old r) (mark .ensures .3) (mark .result) (x .state .violation) (x .place .0)
     (Law.placed-violated (block r .successors) (x .state .violation) (x .state .refusal) (runningOf (x .state)) (x .place .0) _ (ran r) (c .before .if2 .taken))
     (mark .ensures .1) (mark .ensures .0 ∙ after s) (mark .ensures .2 .visits ∙ add-one (s .args .t .visits)) (mark .ensures .2 .turns)
@@ -130,7 +130,7 @@ returns-2 c =
     let s = start r in
     let x = r .run-block .result in
     let stop = c .stop in
-    Law.turned-refused (s .args .listing .now) (s .args .routine) (r .before .before .before .before .before .block-at .ensures .1) (s .args .area .now) (s .args .t) (s .pre)
+    Law.turned-refused (s .args .listing .now) (s .args .code .now) (s .args .routine) (r .before .before .before .before .before .block-at .ensures .1) (s .args .area .now) (s .args .t) (s .pre)
     (kept r) (old r) (stop .ensures .3) (stop .result) (x .state .refusal) (x .place .0)
     (Law.placed-refused (block r .successors) (x .state .violation) (x .state .refusal) (runningOf (x .state)) (x .place .0) _ (ran r) (c .before .before .before .if2 .left) (c .before .if3 .taken))
     (stop .ensures .1) (stop .ensures .0) (stop .ensures .2 .visits ∙ add-one (s .args .t .visits)) (stop .ensures .2 .turns)
@@ -153,7 +153,7 @@ returns-3 c =
     let b = r .before .before .before .before .before .block-at in
     let clear = c .before .before .clear in
     let none = ap {B = List ℕ} (λ (n : ℕ). take n (b .result .first .0 ∷ b .result .second .0 ∷ [])) (c .if4 .taken) in
-    Law.turned-returned (s .args .listing .now) (s .args .routine) (b .ensures .1) (s .args .area .now) (s .args .t) (s .pre) (kept r) (old r) (clear .ensures .3) (clear .result)
+    Law.turned-returned (s .args .listing .now) (s .args .code .now) (s .args .routine) (b .ensures .1) (s .args .area .now) (s .args .t) (s .pre) (kept r) (old r) (clear .ensures .3) (clear .result)
     (ended r (c .before .before .before .before .before .if2 .left) (c .before .before .before .if3 .left) ∙ ap {B = Result State} (λ (es : List ℕ). endFor es (runningOf (r .run-block .result .state))) none)
     (clear .ensures .1) (clear .ensures .0 ∙ after s) (clear .ensures .2 .visits ∙ add-one (s .args .t .visits)) (clear .ensures .2 .turns)
 
@@ -162,7 +162,7 @@ unfolding statusesOf
 with-locals-requires c κs =
     let r = c .before .before .before .before .before .before .before .before .before .before in
     let s = start r in
-    Law.ended-count (s .args .listing .now) (s .args .routine) (r .before .before .before .before .before .block-at .ensures .1) (s .args .area .now) (s .args .t) (s .pre)
+    Law.ended-count (s .args .listing .now) (s .args .code .now) (s .args .routine) (r .before .before .before .before .before .block-at .ensures .1) (s .args .area .now) (s .args .t) (s .pre)
     (kept r) (old r) (c .before .before .clear .ensures .3) (stateOf (r .run-block .result .state))
     (ended-some r (c .before .before .before .before .before .if2 .left) (c .before .before .before .if3 .left) (c .if4 .left))
 
@@ -184,7 +184,7 @@ returns-4 c =
     let clear = c .before .before .before .before .before .before .before .clear in
     let e = c .before .before .before .before .with-locals in
     let propagate = c .before .before .propagate in
-    Law.turned-ended (s .args .listing .now) (s .args .routine) (b .ensures .1) (s .args .area .now) (s .args .t) (s .pre) (kept r) (old r) (clear .ensures .3)
+    Law.turned-ended (s .args .listing .now) (s .args .code .now) (s .args .routine) (b .ensures .1) (s .args .area .now) (s .args .t) (s .pre) (kept r) (old r) (clear .ensures .3)
     (stateOf (e .result)) (block r) (propagate .last .0) (clear .result) (propagate .result)
     (ended-some r (c .before .before .before .before .before .before .before .before .before .before .if2 .left) (c .before .before .before .before .before .before .before .before .if3 .left)
     (c .before .before .before .before .before .if4 .left) ∙ ap {B = Result State} Result.ended (sym (e .ensures .0)))
@@ -198,7 +198,7 @@ unfolding statusesOf
 returns-5 c =
     let s = c .before .before .before .before .before .before .before .before in
     let load = c .before .load in
-    Law.turned-over (s .args .listing .now) (s .args .routine) (c .before .before .before .block-at .ensures .1) (s .args .area .now) (s .args .t) (s .pre) _
+    Law.turned-over (s .args .listing .now) (s .args .code .now) (s .args .routine) (c .before .before .before .block-at .ensures .1) (s .args .area .now) (s .args .t) (s .pre) _
     (sym (load .ensures .0) ∙ ap {B = Option State} (λ (b : Bool). cond b (some (stateOf (load .result .state))) none) (c .if1 .left))
     refl (after s) refl refl
 
