@@ -14,7 +14,7 @@ use borrow.Author.Tests.{ltb-true, ne-eqb}
 use Rattle.meaning.specs.Lists.{all, upTo}
 use Rattle.meaning.specs.Laws.Base.{and-l, and-r, and-i, le-leb, leb-le, eqb-eq}
 use Rattle.meaning.specs.Listing as D
-use Rattle.listing_records.specs.Models.{byteLimits, bodyLimits, padded, limitRow, limitRows, keepsTo, bodyFault}
+use Rattle.listing_records.specs.Models.{bodyLimits, padded, limitRow, limitRows, keepsTo, bodyFault}
 use Rattle.listing_records.proofs.Laws.{fault-body, inside}
 
 -- each byte is below its limit, and there are as many bytes as limits

@@ -296,7 +296,8 @@ fn test_record(s: &[u8], at: usize, locals: u8) -> Test
     }
 }
 
-// That the record at a place, a body of n bytes, keeps to its row of limits: one test for all bytes, without a jump. Nine bytes are there.
+// That the record at a place, with a body of n bytes, keeps to row k: one test of all its bytes, without a jump. Nine bytes are there, four and
+// the longest body that has a row.
 fn keeps_to_row(s: &[u8], at: usize, n: u16, k: usize, rows: &[[u16; 6]; 18]) -> bool
     requires { ⌜ (at + 9 ≤ length (now s)) × (k < 18) ⌝ }
     ensures { λ r. ⌜ r ≡ keepsTo (getD (now (rows .entry)) k []) n (now (s .entry)) at ⌝ }
@@ -310,7 +311,7 @@ fn keeps_to_row(s: &[u8], at: usize, n: u16, k: usize, rows: &[[u16; 6]; 18]) ->
     len & a & b & c & d & e
 }
 
-// The same as `test_record`, which is asked only where no row of limits settles that no test fails.
+// What `test_record` says. Where the record keeps to its row no test fails, and it is not asked; the kinds 10 to 27 have rows.
 fn test_by_row(s: &[u8], at: usize, locals: u8, rows: &[[u16; 6]; 18]) -> Test
     requires { ⌜ (at < length (now s)) × (now rows ≡ limitRows locals) ⌝ }
     ensures { λ r. ⌜ Tested (now (s .entry)) locals at r ⌝ }
@@ -420,7 +421,7 @@ fn read_records(
     }
 }
 
-// The length of an array is known only of one by value. The copies are dead, and compiled to nothing.
+// How long a lent array is, is known only of a copy. The copies are dead, and compiled to nothing.
 fn whole(blocks: [u16; MAX_BLOCKS], code: [u16; MAX_INSTRUCTIONS])
     ensures { λ r. ⌜ (length blocks ≡ maxBlocks) × (length code ≡ maxInstructions) ⌝ }
 {}

@@ -1,8 +1,8 @@
+-- `listing::read_listing` meets its contract. Assumes nothing.
 use mathlib.Core.Path.{sym, ap, _∙_}
 use Rattle.meaning.specs.Listing.{afterRecords, readListing}
 use Rattle.listing.specs.Models.{ruledPlaces}
 use Rattle.listing.proofs.ReadLaws.{listed-refused, places-stop, sound, were-read}
-use native.Mathlib.Omega.{arith}
 use borrow.Author.Needs.{needs}
 use Rattle.listing.proofs.read_listing.Statement.{statement}
 use Rattle.listing.proofs.read_listing.Tie as tie

@@ -1,7 +1,4 @@
-use mathlib.Core.Path.{_≡_, sym, ap}
-use mathlib.Core.Bool.{Bool, cond}
-use Prim.Native.Nat.{ℕ, _+_}
-use native.Mathlib.Omega.{arith}
+-- `listing_records::before_ret` meets its contract. Assumes nothing.
 use borrow.Author.Needs.{needs}
 use Rattle.listing_records.proofs.before_ret.Statement.{statement}
 use Rattle.listing_records.proofs.before_ret.Tie as tie

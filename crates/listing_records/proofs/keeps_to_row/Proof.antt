@@ -1,5 +1,5 @@
+-- `listing_records::keeps_to_row` meets its contract. Assumes nothing.
 use Rattle.listing_records.specs.Models.{keepsTo}
-use native.Mathlib.Omega.{arith}
 use borrow.Author.Needs.{needs}
 use Rattle.listing_records.proofs.keeps_to_row.Statement.{statement}
 use Rattle.listing_records.proofs.keeps_to_row.Tie as tie

@@ -1,4 +1,5 @@
-use mathlib.Core.Path.{refl, sym, ap, _∙_}
+-- `listing_records::read_places` meets its contract. Assumes nothing.
+use mathlib.Core.Path.{sym, ap, _∙_}
 use Rattle.meaning.specs.Listing.{localsOf}
 use Rattle.listing_records.proofs.Laws.{none-read, too-long, nothing, after}
 use native.Mathlib.Omega.{arith}

@@ -1,3 +1,4 @@
+-- `listing_records::read_records` meets its contract. Assumes nothing.
 use mathlib.Core.Path.{_≡_, refl, sym, ap, _∙_}
 use Prim.Native.Nat.{_-_, _≤_, _<_}
 use lib.ListN.{length, take, length-set}
@@ -5,7 +6,7 @@ use Rattle.meaning.specs.Listing.{placesFrom, noPlaces}
 use Rattle.meaning.specs.Laws.Listing.{places-end}
 use Rattle.listing_records.specs.Models.{faultOf, placesOf, beforeRet}
 use Rattle.listing_records.specs.ModelLaws.{ret-put}
-use Rattle.listing_records.proofs.Laws.{places-refused, room-block, room-code, stop-fault, stop-full, go-block, go-code, go-first, none-read}
+use Rattle.listing_records.proofs.Laws.{room-block, room-code, stop-fault, stop-full, go-block, go-code, go-first, none-read}
 use native.Mathlib.Omega.{arith}
 use borrow.Author.Needs.{needs}
 use Rattle.listing_records.proofs.read_records.Statement.{statement}

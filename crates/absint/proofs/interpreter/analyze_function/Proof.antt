@@ -91,7 +91,7 @@ loop-again c =
     let on = Law.test-on (loop .t .stopped) _ (if1 .taken) in
     record {
       read = loop .inv .read;
-      long = turn .kept .1 .1 .0 ∙ loop .inv .long;
+      long = turn .kept .1 .1 .1 .0 ∙ loop .inv .long;
       going = Law.goes-on (args .listing .now) (args .code .now) (args .routine) (loop .inv .read .promise) (loop .inv .read .count) (loop .inv .read .some) _ (loop .area) (loop .t)
           (loop .inv .going) (on .0) (ltb-true _ _ (on .1)) _ (turn .result) (turn .ensures);
     }

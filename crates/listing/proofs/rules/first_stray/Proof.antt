@@ -1,3 +1,4 @@
+-- `listing::rules::first_stray` meets its contract. Assumes nothing.
 use mathlib.Core.Path.{_≡_, sym, ap, _∙_}
 use borrow.Author.Tests.{eq-eqb, ne-eqb, not-true, not-false}
 use Prim.Native.Nat.{ℕ, _-_, _≤_}

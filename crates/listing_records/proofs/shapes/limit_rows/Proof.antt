@@ -1,8 +1,8 @@
+-- `listing_records::shapes::limit_rows` meets its contract. The rule of the whole table is one computed equation. Assumes nothing.
 use mathlib.Core.Path.{refl}
 use Rattle.meaning.specs.Lists.{upTo}
 use Rattle.meaning.specs.Listing.{fieldsOf, fieldsIn}
 use Rattle.listing_records.specs.Models.{bodyLimits, padded, limitRow, limitRows}
-use native.Mathlib.Omega.{arith}
 use borrow.Author.Needs.{needs}
 use Rattle.listing_records.proofs.shapes.limit_rows.Statement.{statement}
 use Rattle.listing_records.proofs.shapes.limit_rows.Tie as tie
