@@ -1,3 +1,4 @@
+-- `absint::analyze` meets its contract. Assumes nothing.
 use mathlib.Core.Path.{_≡_, _∙_}
 use lib.ListN.{length}
 use Rattle.meaning.specs.Laws.Listing.{accepted-promised, accepted-block}
