@@ -28,10 +28,10 @@ extern "C" {
 
 /*
  * What a call needs besides the area: this many bytes of stack below the caller's frame. The deepest path of calls in the machine code takes
- * 136,712 bytes, and what memcpy takes comes on top; the code neither recurses nor calls by pointer, so no listing takes more. On a painted
- * stack 3,057 listings took up to 136,664 bytes. bench/stack/run measures both again; another kit may compile to other frames.
+ * 44,520 bytes, and what memcpy takes comes on top; the code neither recurses nor calls by pointer, so no listing takes more. On a painted
+ * stack 3,057 listings took up to 44,280 bytes. bench/stack/run measures both again; another kit may compile to other frames.
  */
-#define BUSLATIM_STACK_BYTES 139264
+#define BUSLATIM_STACK_BYTES 49152
 
 /* answer[0] */
 enum { BUSLATIM_ACCEPT = 0, BUSLATIM_VIOLATION = 1, BUSLATIM_REFUSED = 2 };

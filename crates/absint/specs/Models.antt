@@ -18,7 +18,8 @@ use Rattle.meaning.specs.Verify.{Answered, runOf, keptBy}
 use Rattle.meaning.specs.Laws.Fit.{Does, Reached, propagateOn, lowestBy}
 use Rattle.listing.specs.Models.{routineOf}
 use Rattle.listing.specs.declared.Routine as D
-use Rattle.abstract_state.specs.declared.state.AbstractState.{AbstractState}
+use Rattle.abstract_state.specs.Models.{words, Fits, stateOf}
+use Rattle.absint.specs.declared.kept.Start.{Start}
 use Rattle.absint.specs.declared.run_state.BlockPostcondition.{BlockPostcondition}
 use Rattle.absint.specs.declared.run_state.RunState.{RunState}
 use Rattle.absint.specs.declared.failure.LowestFailure.{LowestFailure}
@@ -63,9 +64,11 @@ pub record Started (r : RunState) : Type 0 where
   pub visits : r .visits ≡ 0
   pub turns : r .turns ≡ 0
 
--- the words of this state read the same in a routine of l locals
-abbrev pub Reads : ℕ → AbstractState → Type 0
-Reads l s = (ws : List ℕ) (j : ℕ) → keptOf (s .«num_locals») ws j ≡ keptOf l ws j
+-- the kept state k of a routine with l locals, or word that there is none, stands in these arrays as a block starts from it
+pub record StartsFrom (k : Option State) (l : ℕ) (ls ns : List ℕ) (es : List (List ℕ)) (r : Start) : Type 0 where
+  pub fits : Fits (words ls ns es (r .state))
+  pub kept : cond (r .present) (some (stateOf (words ls ns es (r .state)))) none ≡ k
+  pub locals : r .state .«num_locals» ≡ l
 
 -- the end state s of block b goes to the successor with entry e
 pub record PropagatedTo (bs : List M.Block) (l : ℕ) (b : M.Block) (s : State) (e : ℕ) (ws ws′ : List ℕ) (t r : RunState) : Type 0 where

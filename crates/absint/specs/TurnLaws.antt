@@ -13,7 +13,7 @@ use lib.Dec.{eqb, leb, ltb}
 use lib.ListN.{length, take, drop, getD, set, length-map}
 use Rattle.meaning.specs.Laws.Array.{front-all}
 use Rattle.meaning.specs.Limits.{areaWords}
-use Rattle.meaning.specs.Area.{keptOf, Stored, forgotten}
+use Rattle.meaning.specs.Area.{localIn, keptOf, Stored, forgotten}
 use Rattle.meaning.specs.Laws.Area.{Forgotten, forgotten-law}
 use Rattle.meaning.specs.AbstractState.{State, join, changed, firstState}
 use Rattle.meaning.specs.EntryPoints as R
@@ -35,9 +35,7 @@ use Rattle.meaning.specs.Verify.{runWith, runOf}
 use Rattle.listing.specs.Models.{blockOf, blocksIn, routineOf}
 use Rattle.listing.specs.declared.Block.{Block}
 use Rattle.listing.specs.declared.Routine as D
-use Rattle.abstract_state.specs.Models.{halted, localOf, localsIn, runningOf, outcomeOf, answerOf, operandOf, stateOf}
-use Rattle.abstract_state.specs.declared.state.Local.{Local}
-use Rattle.abstract_state.specs.declared.state.AbstractState.{AbstractState}
+use Rattle.abstract_state.specs.Models.{Words, halted, localsIn, runningOf, answerOf, operandOf, stateOf}
 use Rattle.abstract_state_join.specs.Models.{firstRunning}
 use Rattle.reference_safety.specs.Models.{placed, endFor}
 use Rattle.absint.specs.Models.{statusesOf, nextOf, Propagated, At, Readable, Ready, Turned, Started, Analyzed}
@@ -71,19 +69,15 @@ module _ (es : List ℕ) (v n : ℕ) (a : Running) (p : ℕ) (o : Result State) 
   pub placed-end : v ≡ 0 → n ≡ 0 → o ≡ endFor es a
   placed-end z h = sym e ∙ (λ i. placed es p (cond (eq-eqb v 0 z i) (cond (eq-eqb n 0 h i) (done a) (A.refused n)) (A.violated v)))
 
--- a state that was loaded, or joined with one, has L locals
-pub loaded-root : (s : AbstractState) (r : Running) → outcomeOf s ≡ done r → s .«num_locals» ≡ r .root
-loaded-root s r e = ap (λ (x : Running). x .root) (done-inv (s .violation) (s .refusal) (runningOf s) r e)
-
 -- words read the same in routines of as many locals
 pub kept-root : (m l : ℕ) → m ≡ l → (ws : List ℕ) (j : ℕ) → keptOf m ws j ≡ keptOf l ws j
 kept-root m l e ws j = ap (λ (n : ℕ). keptOf n ws j) e
 
 -- a state that has l locals, with that number
-pub locals-same : (xs : List Local) (m l : ℕ) → length (localsIn xs m) ≡ l → localsIn xs l ≡ localsIn xs m
+pub locals-same : (xs : List ℕ) (m l : ℕ) → length (localsIn xs m) ≡ l → localsIn xs l ≡ localsIn xs m
 unfolding localsIn
 locals-same xs m l e =
-    ap (map localOf) (ap (λ (k : ℕ). take k xs) (sym (sym (length-map (take m xs) localOf) ∙ e)) ∙ front-all m xs)
+    ap (map localIn) (ap (λ (k : ℕ). take k xs) (sym (sym (length-map (take m xs) localIn) ∙ e)) ∙ front-all m xs)
 
 -- a block that was run
 pub ran : (q : Routine) (i : ℕ) (b : M.Block) (s s′ : State) (o : Result State) → b ≡ getD (q .blocks) i noBlock → s′ ≡ s → o ≡ runBlock q b s′ → exec q i s ≡ o
@@ -308,11 +302,11 @@ test-off true i n e = inl refl
 test-off false i n e = inr (ltb-false i n e)
 
 -- the first state, as the code makes it
-pub first-made : (a : AbstractState) (l : ℕ) (ts : List S.Token) → l ≤ 16 → answerOf a ≡ R.answer (firstRunning (min l 16) ts) S.Operand.nonRef → (a .«num_locals» ≡ l) × (stateOf a ≡ firstState l ts)
+pub first-made : (a : Words) (l : ℕ) (ts : List S.Token) → l ≤ 16 → answerOf a ≡ R.answer (firstRunning (min l 16) ts) S.Operand.nonRef → (a .state .«num_locals» ≡ l) × (stateOf a ≡ firstState l ts)
 unfolding firstRunning
 first-made a l ts h e =
     let z : min l 16 ≡ l = omega (arith, h) in
-    let x : runningOf a ≡ firstRunning (min l 16) ts = ap (λ (y : R.Answer). y .state) (done-inv (a .violation) (a .refusal) (record { state = runningOf a; operand = operandOf (a .value) }) (record { state = firstRunning (min l 16) ts; operand = S.Operand.nonRef }) e) in
+    let x : runningOf a ≡ firstRunning (min l 16) ts = ap (λ (y : R.Answer). y .state) (done-inv (a .state .violation) (a .state .refusal) (record { state = runningOf a; operand = operandOf (a .state .value) }) (record { state = firstRunning (min l 16) ts; operand = S.Operand.nonRef }) e) in
     (ap (λ (y : Running). y .root) x ∙ z, (λ k. record { locals = x k .locals; graph = x k .graph }) ∙ ap (λ (n : ℕ). firstState n ts) z)
 
 pub stored-as : (m l : ℕ) (a b : State) (ws ws′ : List ℕ) → m ≡ l → a ≡ b → Stored m a 0 ws ws′ → Stored l b 0 ws ws′

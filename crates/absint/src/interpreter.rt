@@ -3,18 +3,21 @@
 //   turn               the body of its loop   absint.rs 91 to 157
 //   block_at           the block of a block_id   absint.rs 92
 // execute_block (absint.rs 161) is run_block of reference_safety.
+use crate::kept::start_from;
 use crate::propagate::propagate;
 use crate::run_state::BlockPostcondition;
 use crate::run_state::RunState;
 use absint_area::forget;
-use absint_area::load;
 use absint_area::store;
 use abstract_state::state::AbstractState;
+use abstract_state::state::LOCALS;
 use abstract_state_join::first::new;
 use listing::Block;
 use listing::Routine;
 use meaning::MAX_BLOCKS;
+use meaning::MAX_EDGES;
 use meaning::MAX_INSTRUCTIONS;
+use meaning::MAX_NAMES;
 use reference_safety::block::run_block;
 ghost use mathlib.Core.Path.{_≡_};
 ghost use Prim.Native.Nat.{_≤_, _<_};
@@ -22,7 +25,6 @@ ghost use lib.ListN.{length, getD};
 ghost use Rattle.meaning.specs.Limits.{maxBlocks, areaWords};
 ghost use Rattle.meaning.specs.Loop.{noBlock};
 ghost use Rattle.listing.specs.Models.{blockOf, blocksIn};
-ghost use Rattle.abstract_state.specs.Models.{stateOf};
 ghost use Rattle.absint.specs.Models.{Readable, Ready, Turned, Analyzed};
 
 // The block at a position.
@@ -33,17 +35,16 @@ fn block_at(blocks: [Block; MAX_BLOCKS], n: usize, i: usize) -> Block
     blocks[i]
 }
 
-// A state that has this many locals, with that number.
+// The state with this number of locals.
 fn with_locals(s: AbstractState, locals: u8) -> AbstractState
-    requires { ⌜ length (stateOf s .locals) ≡ locals ⌝ }
-    ensures { λ r. ⌜ (stateOf r ≡ stateOf s) × (r .«num_locals» ≡ locals) ⌝ }
+    ensures { λ r. ⌜ (r .«num_locals» ≡ locals) × (r .«borrow_graph» ≡ s .«borrow_graph») ⌝ }
 {
     let mut t = s;
     t.num_locals = locals;
     t
 }
 
-// The next block: passed over where it has no kept state, else run from it.
+// The next block: passed over where it has no kept state, else run from a copy of it.
 fn turn(
     listing: &[u8],
     routine: Routine,
@@ -60,10 +61,32 @@ fn turn(
     u.turns = t.turns + 1;
     let blocks = routine.blocks;
     let b = block_at(blocks, routine.block_count, i);
-    let k = load(area, i, routine.locals);
+    let mut kept_locals = [0u32; LOCALS];
+    let mut kept_names = [0u32; MAX_NAMES];
+    let mut kept_edges = [[0u32; 10]; MAX_EDGES];
+    let k = start_from(
+        area,
+        i,
+        routine.locals,
+        &mut kept_locals,
+        &mut kept_names,
+        &mut kept_edges,
+    );
     if k.present {
+        let mut locals = kept_locals;
+        let mut names = kept_names;
+        let mut edges = kept_edges;
         let start = k.state;
-        let r = run_block(listing, routine, code, b, start);
+        let r = run_block(
+            listing,
+            routine,
+            code,
+            b,
+            &mut locals,
+            &mut names,
+            &mut edges,
+            start,
+        );
         let s = r.state;
         let place = r.place;
         u.visits = t.visits + 1;
@@ -83,7 +106,17 @@ fn turn(
             return v;
         }
         let e = with_locals(s, routine.locals);
-        return propagate(area, blocks, routine.block_count, routine.locals, b, e, v);
+        return propagate(
+            area,
+            blocks,
+            routine.block_count,
+            b,
+            &locals,
+            &names,
+            &edges,
+            e,
+            v,
+        );
     }
     u
 }
@@ -99,9 +132,18 @@ pub(crate) fn analyze_function(
     ensures { λ r. ⌜ Analyzed (now (listing .entry)) (now (code .entry)) routine (now (area .entry)) (now (area .exit)) r ⌝ }
 {
     let params = routine.params;
-    let s = new(routine.locals, params, routine.param_count);
+    let mut locals = [0u32; LOCALS];
+    let mut names = [0u32; MAX_NAMES];
+    let edges = [[0u32; 10]; MAX_EDGES];
+    let s = new(
+        &mut locals,
+        &mut names,
+        routine.locals,
+        params,
+        routine.param_count,
+    );
     forget(area);
-    store(area, 0, s);
+    store(area, 0, &locals, &names, &edges, s);
     let mut t = RunState::start();
     while !t.stopped & (t.next < routine.block_count) {
         t = turn(listing, routine, code, area, t);

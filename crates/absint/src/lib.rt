@@ -3,6 +3,7 @@
 //   analyze   verify, with the kept states left to be looked at
 mod failure;
 mod interpreter;
+mod kept;
 mod propagate;
 mod run_state;
 

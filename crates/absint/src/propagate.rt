@@ -1,22 +1,25 @@
 // A block's end state goes to its successors.
 //   propagate      "propagate postcondition of this block to successor blocks"   absint.rs 116
 //   propagate_to   the body of that loop, for one successor   absint.rs 118 to 154
+use crate::kept::start_from;
 use crate::run_state::RunState;
-use absint_area::load;
 use absint_area::store;
 use abstract_state::state::AbstractState;
+use abstract_state::state::LOCALS;
 use abstract_state_join::join::join;
 use file_format::CodeOffset;
 use listing::Block;
 use meaning::MAX_BLOCKS;
+use meaning::MAX_EDGES;
+use meaning::MAX_NAMES;
 ghost use mathlib.Core.Path.{_≡_};
 ghost use Prim.Native.Nat.{_≤_};
 ghost use lib.ListN.{length};
 ghost use Rattle.meaning.specs.Limits.{maxBlocks, areaWords};
 ghost use Rattle.meaning.specs.Loop.{position};
 ghost use Rattle.listing.specs.Models.{blockOf, blocksIn};
-ghost use Rattle.abstract_state.specs.Models.{stateOf};
-ghost use Rattle.absint.specs.Models.{Reads, PropagatedTo, Propagated};
+ghost use Rattle.abstract_state.specs.Models.{words, Fits, stateOf};
+ghost use Rattle.absint.specs.Models.{PropagatedTo, Propagated};
 
 // Where the block with this entry is listed; n, if there is none.
 fn position_of(blocks: [Block; MAX_BLOCKS], n: usize, e: CodeOffset) -> usize
@@ -39,14 +42,16 @@ fn propagate_to(
     area: &mut [u32],
     blocks: [Block; MAX_BLOCKS],
     n: usize,
-    locals: u8,
     b: Block,
     e: CodeOffset,
+    locals: &[u32; LOCALS],
+    names: &[u32; MAX_NAMES],
+    edges: &[[u32; 10]; MAX_EDGES],
     s: AbstractState,
     t: RunState,
 ) -> RunState
-    requires { ⌜ (n ≤ maxBlocks) × (areaWords ≤ length (now area)) × Reads locals s ⌝ }
-    ensures { λ r. ⌜ PropagatedTo (blocksIn blocks n) locals (blockOf b) (stateOf s) (e .0) (now (area .entry)) (now (area .exit)) t r ⌝ }
+    requires { ⌜ (n ≤ maxBlocks) × (areaWords ≤ length (now area)) × Fits (words (now locals) (now names) (now edges) s) ⌝ }
+    ensures { λ r. ⌜ PropagatedTo (blocksIn blocks n) (s .«num_locals») (blockOf b) (stateOf (words (now (locals .entry)) (now (names .entry)) (now (edges .entry)) s)) (e .0) (now (area .entry)) (now (area .exit)) t r ⌝ }
 {
     if t.stopped {
         return t;
@@ -55,17 +60,38 @@ fn propagate_to(
     if n <= j {
         return t;
     }
-    let k = load(area, j, locals);
+    let mut kept_locals = [0u32; LOCALS];
+    let mut kept_names = [0u32; MAX_NAMES];
+    let mut kept_edges = [[0u32; 10]; MAX_EDGES];
+    let k = start_from(
+        area,
+        j,
+        s.num_locals,
+        &mut kept_locals,
+        &mut kept_names,
+        &mut kept_edges,
+    );
     if k.present {
+        let mut their_names = *names;
+        let mut their_edges = *edges;
         let old = k.state;
-        let x = join(old, s);
+        let x = join(
+            &mut kept_locals,
+            &mut kept_names,
+            &mut kept_edges,
+            old,
+            locals,
+            &mut their_names,
+            &mut their_edges,
+            s,
+        );
         if x.refusal != 0 {
             let place = b.exit;
             return t.stop(x.refusal, place);
         }
         if x.changed {
             let new = x.state;
-            store(area, j, new);
+            store(area, j, &kept_locals, &kept_names, &kept_edges, new);
             let mut u = t.clear(j);
             if e.0 <= b.entry.0 {
                 u.next = j;
@@ -75,7 +101,7 @@ fn propagate_to(
         }
         return t;
     }
-    store(area, j, s);
+    store(area, j, locals, names, edges, s);
     t.clear(j)
 }
 
@@ -84,19 +110,21 @@ pub(crate) fn propagate(
     area: &mut [u32],
     blocks: [Block; MAX_BLOCKS],
     n: usize,
-    locals: u8,
     b: Block,
+    locals: &[u32; LOCALS],
+    names: &[u32; MAX_NAMES],
+    edges: &[[u32; 10]; MAX_EDGES],
     s: AbstractState,
     t: RunState,
 ) -> RunState
-    requires { ⌜ (n ≤ maxBlocks) × (areaWords ≤ length (now area)) × Reads locals s × (1 ≤ b .count) ⌝ }
-    ensures { λ r. ⌜ Propagated (blocksIn blocks n) locals (blockOf b) (stateOf s) (now (area .entry)) (now (area .exit)) t r ⌝ }
+    requires { ⌜ (n ≤ maxBlocks) × (areaWords ≤ length (now area)) × Fits (words (now locals) (now names) (now edges) s) × (1 ≤ b .count) ⌝ }
+    ensures { λ r. ⌜ Propagated (blocksIn blocks n) (s .«num_locals») (blockOf b) (stateOf (words (now (locals .entry)) (now (names .entry)) (now (edges .entry)) s)) (now (area .entry)) (now (area .exit)) t r ⌝ }
 {
     let first = b.first;
-    let u = propagate_to(area, blocks, n, locals, b, first, s, t);
+    let u = propagate_to(area, blocks, n, b, first, locals, names, edges, s, t);
     if b.count == 1 {
         return u;
     }
     let second = b.second;
-    propagate_to(area, blocks, n, locals, b, second, s, u)
+    propagate_to(area, blocks, n, b, second, locals, names, edges, s, u)
 }

@@ -1,23 +1,27 @@
--- Laws of states that stop, and of locals read and written.
-use Prim.Native.Nat.{ℕ, zero, suc, _+_, _≤_, _<_, min}
+-- Laws of states that stop, of calls in a row, and of locals read and written.
+use Prim.Native.Nat.{ℕ, zero, suc, _+_, _≤_, _<_}
 use mathlib.Core.Path.{_≡_, refl, sym, ap, _∙_}
 use mathlib.Core.Bool.{Bool, true, false, not, _&&_, cond, true≢false}
 use mathlib.Core.List.{List, [], _∷_}
+use mathlib.Core.Option.{Option}
 use native.Mathlib.Nat.{not-suc-le-zero, le-of-suc-le-suc}
 use native.Mathlib.Numerals.{add-one}
+use native.Mathlib.Omega.{arith}
+use borrow.Author.Tests.{ne-eqb, le-ltb}
 use lib.Dec.{eqb, ltb}
-use lib.ListN.{length, drop, getD, set, length-map, length-take}
-use Rattle.meaning.specs.Laws.Array.{front-map-step}
+use lib.ListN.{length, getD, set}
 use Rattle.meaning.specs.Answers.{Ans, ok, refuse, guard, Outcome, done, violated, refused, then, lift}
 use Rattle.meaning.specs.Laws.Base.{ok-inj, refuse≢ok}
-use Rattle.meaning.specs.BorrowGraph.{Graph, wellFormed, held, newName}
-use Rattle.meaning.specs.AbstractState as S
-use Rattle.meaning.specs.EntryPoints.{Running, onGraph, newRef}
+use Rattle.meaning.specs.BorrowGraph.{Graph, Borrows, wellFormed, held, newName, fullyBorrowed, borrowed, mutablyBorrowed, borrowedBy}
 use Rattle.meaning.specs.BorrowGraph as L
-use Rattle.borrow_graph.specs.Models.{told}
-use Rattle.abstract_state.specs.Models.{halted, heeding, failing, needing, localOf, localsIn}
-use Rattle.abstract_state.specs.declared.state.AbstractValue.the-variants.{Reference}
-use Rattle.abstract_state.specs.declared.state.Local.{Local}
+use Rattle.meaning.specs.AbstractState as S
+use Rattle.meaning.specs.AbstractState.{Operand, nonRef, reference}
+use Rattle.meaning.specs.Area.{localAs, localIn}
+use Rattle.meaning.specs.EntryPoints as R
+use Rattle.meaning.specs.EntryPoints.{Running, Answer, onGraph, newRef}
+use Rattle.references.specs.Models.{told}
+use Rattle.abstract_state.specs.Models.{Words, words, Fits, Does, Gives, runningOf, outcomeOf, halted, heeding, failing, needing, localsIn}
+use Rattle.abstract_state.specs.declared.state.AbstractState.{AbstractState}
 
 -- ---- states that stop
 
@@ -57,10 +61,51 @@ module _ {A B : Type 0} (v n : ℕ) (a : A) where
       go true false = refl
       go false y = refl
 
-pub then-then : {A B C : Type 0} (o : Outcome A) (f : A → Outcome B) (g : B → Outcome C) → then (then o f) g ≡ then o (λ x. then (f x) g)
+pub then-done : {A : Type 0} (o : Outcome A) → o ≡ then o done
+then-done (done a) = refl
+then-done (violated c) = refl
+then-done (refused n) = refl
+
+-- ---- calls in a row
+
+pub then-then : {A B C : Type 0} (o : Outcome A) (f : A → Outcome B) (g : B → Outcome C) → then (then o f) g ≡ then o (λ a. then (f a) g)
 then-then (done a) f g = refl
 then-then (violated c) f g = refl
 then-then (refused n) f g = refl
+
+pub does-then : (f g : Running → Outcome Running) (a b c : Words) → Does f a b → Does g b c → Does (λ s. then (f s) g) a c
+does-then f g a b c p q = record {
+  fits = λ h. q .fits (p .fits h);
+  does = λ h. q .does (p .fits h) ∙ ap (λ (o : Outcome Running). then o g) (p .does h) ∙ then-then (outcomeOf a) f g;
+}
+
+pub gives-then : (f : Running → Outcome Running) (g : Running → Outcome Answer) (a b c : Words) → Does f a b → Gives g b c → Gives (λ s. then (f s) g) a c
+gives-then f g a b c p q = record {
+  fits = λ h. q .fits (p .fits h);
+  gives = λ h. q .gives (p .fits h) ∙ ap (λ (o : Outcome Running). then o g) (p .does h) ∙ then-then (outcomeOf a) f g;
+}
+
+-- what a call does is judged on the state that goes on, of words that fit
+pub does-as : (f g : Running → Outcome Running) (a b : Words) → (Fits a → f (runningOf a) ≡ g (runningOf a)) → Does f a b → Does g a b
+does-as f g a b e p = record {
+  fits = p .fits;
+  does = λ h. p .does h ∙ here (a .state .violation) (a .state .refusal) (runningOf a) f g (e h);
+}
+
+pub gives-as : (f g : Running → Outcome Answer) (a b : Words) → (Fits a → f (runningOf a) ≡ g (runningOf a)) → Gives f a b → Gives g a b
+gives-as f g a b e p = record {
+  fits = p .fits;
+  gives = λ h. p .gives h ∙ here (a .state .violation) (a .state .refusal) (runningOf a) f g (e h);
+}
+
+-- nothing is done
+pub does-nothing : (a : Words) → Does done a a
+does-nothing a = record { fits = λ h. h; does = λ h. then-done (outcomeOf a) }
+
+-- a call that leaves the arrays and the graph as they are
+pub does-here : (f : Running → Outcome Running) (ls ns : List ℕ) (es : List (List ℕ)) (s t : AbstractState) → t .«borrow_graph» ≡ s .«borrow_graph»
+    → outcomeOf (words ls ns es t) ≡ then (outcomeOf (words ls ns es s)) f → Does f (words ls ns es s) (words ls ns es t)
+does-here f ls ns es s t g e = record { fits = λ h. record { locals = h .locals; tells = rw g (h .tells) }; does = λ h. e }
 
 -- a state that goes on gets a number more
 module _ {A : Type 0} (v n : ℕ) (a : A) (e : (eqb v 0 && eqb n 0) ≡ true) where
@@ -78,6 +123,10 @@ module _ {A : Type 0} (v n : ℕ) (a : A) (e : (eqb v 0 && eqb n 0) ≡ true) wh
       go : (x : Bool) → (x && eqb n 0) ≡ true → cond x (cond (eqb m 0) (done a) (refused m)) (violated v) ≡ halted 0 m a
       go true e = refl
       go false e = absurd (true≢false (sym e))
+
+  -- refused by a number of its own
+  pub stopped : (m : ℕ) → halted v m a ≡ then (halted v n a) (λ s. halted 0 m s)
+  stopped m = new-refusal m ∙ goes v n a (λ s. halted 0 m s) e
 
 -- ---- questions
 
@@ -153,14 +202,16 @@ module _ {A B C : Type 0} (g : Graph) (n : ℕ) where
       go true false e = absurd (refuse≢ok e)
       go false q e = refl
 
+-- one of the three answers of a look-up
+pub asked : (g : Graph) (n : ℕ) (at : Option ℕ) (m : ℕ) (b : Borrows) (f : Borrows → Bool) → told m b ≡ borrowedBy g n at
+    → told m (f b) ≡ L.ofName g n (f (record { full = fullyBorrowed g n; consistent = borrowed g n at; mutable = mutablyBorrowed g n at }))
+unfolding borrowedBy
+asked g n at m b f e = told-map {A = Borrows} g n m b (record { full = fullyBorrowed g n; consistent = borrowed g n at; mutable = mutablyBorrowed g n at }) f e
+
 -- ---- calls on the graph
 
 pub answered : {A G : Type 0} (v n : ℕ) (a : A) (m : ℕ) (g : G) (f : A → G → A) → (eqb v 0 && eqb n 0) ≡ true → halted v m (f a g) ≡ then (halted v n a) (λ s. then (lift (told m g)) (λ h. done (f s h)))
 answered {A} {G} v n a m g f e = new-refusal v n (f a g) e m ∙ told-then m g (λ h. done (f a h)) ∙ goes v n a (λ s. then (lift (told m g)) (λ h. done (f s h))) e
-
--- a call that answers k
-pub called : (v n : ℕ) (r : Running) (o : Outcome Running) (a k : Ans Graph) (f : Running → Outcome Running) → onGraph r k ≡ f r → o ≡ then (halted v n r) (λ s. onGraph s a) → a ≡ k → o ≡ then (halted v n r) f
-called v n r o a k f q e h = e ∙ here v n r (λ s. onGraph s a) f (ap (onGraph r) h ∙ q)
 
 -- a fresh name is one more
 pub next-named : (m : Bool) (r : Running) (a : Ans Graph) → ltb (r .next) 65536 ≡ true → a ≡ newName (r .graph) (r .next) m
@@ -173,59 +224,65 @@ next-named m r a e h = rw (e, sym h) (go a)
     go (ok g) = ap (λ (k : ℕ). done (record { locals = r .locals; graph = g; next = k; root = r .root })) (add-one (r .next))
     go (refuse k) = refl
 
+-- ---- the word of a local
+
+-- the kind of a local that is present is 1 for a value, 2 for a reference
+pub local-kind : (k n : ℕ) (v : Operand) → v ≡ cond (ltb k 2) nonRef (reference n) → cond (not (eqb k 0)) (R.localOf v) S.Local.absent ≡ localAs k n
+local-kind zero n v e = refl
+local-kind (suc zero) n v e = ap R.localOf e
+local-kind (suc (suc k)) n v e =
+    let p : eqb (suc (suc k)) 0 ≡ false = ne-eqb (suc (suc k)) 0 (λ (h : suc (suc k) ≡ 0). omega arith) in
+    let q : eqb (suc (suc k)) 1 ≡ false = ne-eqb (suc (suc k)) 1 (λ (h : suc (suc k) ≡ 1). omega arith) in
+    let d : ltb (suc (suc k)) 2 ≡ false = le-ltb (suc (suc k)) 2 (omega arith) in
+    let u : v ≡ reference n = rw d at e in
+    rw (p, q) (ap R.localOf u)
+
 -- ---- locals
 
-pub local-in : (xs : List Local) (n i : ℕ) (d : Local) → i < n → i < length xs → localOf (getD xs i d) ≡ getD (localsIn xs n) i S.Local.absent
+pub local-in : (ws : List ℕ) (n i d : ℕ) → i < n → i < length ws → localIn (getD ws i d) ≡ getD (localsIn ws n) i S.Local.absent
 unfolding localsIn
 local-in [] zero i d h k = absurd (not-suc-le-zero h)
 local-in [] (suc n) i d h k = absurd (not-suc-le-zero k)
-local-in (x ∷ xs) zero i d h k = absurd (not-suc-le-zero h)
-local-in (x ∷ xs) (suc n) zero d h k = refl
-local-in (x ∷ xs) (suc n) (suc i) d h k = local-in xs n i d (le-of-suc-le-suc h) (le-of-suc-le-suc k)
+local-in (w ∷ ws) zero i d h k = absurd (not-suc-le-zero h)
+local-in (w ∷ ws) (suc n) zero d h k = refl
+local-in (w ∷ ws) (suc n) (suc i) d h k = local-in ws n i d (le-of-suc-le-suc h) (le-of-suc-le-suc k)
 
-pub local-out : (xs : List Local) (n i : ℕ) → n ≤ i → S.Local.absent ≡ getD (localsIn xs n) i S.Local.absent
+pub local-out : (ws : List ℕ) (n i : ℕ) → n ≤ i → S.Local.absent ≡ getD (localsIn ws n) i S.Local.absent
 unfolding localsIn
 local-out [] zero i h = refl
 local-out [] (suc n) i h = refl
-local-out (x ∷ xs) zero i h = refl
-local-out (x ∷ xs) (suc n) zero h = absurd (not-suc-le-zero h)
-local-out (x ∷ xs) (suc n) (suc i) h = local-out xs n i (le-of-suc-le-suc h)
+local-out (w ∷ ws) zero i h = refl
+local-out (w ∷ ws) (suc n) zero h = absurd (not-suc-le-zero h)
+local-out (w ∷ ws) (suc n) (suc i) h = local-out ws n i (le-of-suc-le-suc h)
 
-pub local-over : (xs : List Local) (n i : ℕ) → length xs ≤ i → S.Local.absent ≡ getD (localsIn xs n) i S.Local.absent
+pub local-over : (ws : List ℕ) (n i : ℕ) → length ws ≤ i → S.Local.absent ≡ getD (localsIn ws n) i S.Local.absent
 unfolding localsIn
 local-over [] zero i h = refl
 local-over [] (suc n) i h = refl
-local-over (x ∷ xs) zero i h = refl
-local-over (x ∷ xs) (suc n) zero h = absurd (not-suc-le-zero h)
-local-over (x ∷ xs) (suc n) (suc i) h = local-over xs n i (le-of-suc-le-suc h)
+local-over (w ∷ ws) zero i h = refl
+local-over (w ∷ ws) (suc n) zero h = absurd (not-suc-le-zero h)
+local-over (w ∷ ws) (suc n) (suc i) h = local-over ws n i (le-of-suc-le-suc h)
 
-pub local-set : (xs : List Local) (n i : ℕ) (x : Local) → localsIn (set xs i x) n ≡ set (localsIn xs n) i (localOf x)
+pub local-set : (ws : List ℕ) (n i w : ℕ) (x : S.Local) → localIn w ≡ x → localsIn (set ws i w) n ≡ set (localsIn ws n) i x
 unfolding localsIn
-local-set [] zero i x = refl
-local-set [] (suc n) i x = refl
-local-set (y ∷ xs) zero zero x = refl
-local-set (y ∷ xs) zero (suc i) x = refl
-local-set (y ∷ xs) (suc n) zero x = refl
-local-set (y ∷ xs) (suc n) (suc i) x = ap (λ (l : List S.Local). localOf y ∷ l) (local-set xs n i x)
+local-set [] zero i w x e = refl
+local-set [] (suc n) i w x e = refl
+local-set (u ∷ ws) zero zero w x e = refl
+local-set (u ∷ ws) zero (suc i) w x e = refl
+local-set (u ∷ ws) (suc n) zero w x e = ap (λ (y : S.Local). y ∷ localsIn ws n) e
+local-set (u ∷ ws) (suc n) (suc i) w x e = ap (λ (l : List S.Local). localIn u ∷ l) (local-set ws n i w x e)
 
-pub local-unset : (xs : List Local) (n i : ℕ) (x : Local) → length xs ≤ i → localsIn xs n ≡ set (localsIn xs n) i (localOf x)
+pub local-unset : (ws : List ℕ) (n i : ℕ) (x : S.Local) → length ws ≤ i → localsIn ws n ≡ set (localsIn ws n) i x
 unfolding localsIn
 local-unset [] zero i x h = refl
 local-unset [] (suc n) i x h = refl
-local-unset (y ∷ xs) zero i x h = refl
-local-unset (y ∷ xs) (suc n) zero x h = absurd (not-suc-le-zero h)
-local-unset (y ∷ xs) (suc n) (suc i) x h = ap (λ (l : List S.Local). localOf y ∷ l) (local-unset xs n i x (le-of-suc-le-suc h))
+local-unset (u ∷ ws) zero i x h = refl
+local-unset (u ∷ ws) (suc n) zero x h = absurd (not-suc-le-zero h)
+local-unset (u ∷ ws) (suc n) (suc i) x h = ap (λ (l : List S.Local). localIn u ∷ l) (local-unset ws n i x (le-of-suc-le-suc h))
 
--- ---- locals one by one
-
--- what lies past the end of an array
-abbrev pub no-local : Local
-no-local = record { present = false; value = Reference (record { 0 = 0 }) }
-
-pub locals-step : (xs : List Local) (n i : ℕ) → i < length (localsIn xs n) → drop i (localsIn xs n) ≡ localOf (getD xs i no-local) ∷ drop (i + 1) (localsIn xs n)
-unfolding localsIn
-locals-step xs n i h = front-map-step localOf n xs no-local i h
-
-pub locals-count : (xs : List Local) (n : ℕ) → length xs ≡ 16 → length (localsIn xs n) ≡ min n 16
-unfolding localsIn
-locals-count xs n e = simp (length-map, length-take, e)
+-- the state with other locals
+pub relocated : (v n : ℕ) (r : Running) (i : ℕ) (x : S.Local) (l : List S.Local) → l ≡ set (r .locals) i x
+    → halted v n (record { locals = l; graph = r .graph; next = r .next; root = r .root }) ≡ then (halted v n r) (λ s. done (R.withLocal s i x))
+relocated v n r i x l e =
+    ap {B = Outcome Running} (λ (k : List S.Local). halted v n (record { locals = k; graph = r .graph; next = r .next; root = r .root })) e
+    ∙ halted-then {B = Running} v n r (λ s. R.withLocal s i x)

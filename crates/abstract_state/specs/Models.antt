@@ -1,28 +1,34 @@
--- What the values of the code stand for in the definitions.
-use Prim.Native.Nat.{ℕ}
+-- What the arrays and structs of the code stand for in the definitions.
+use Prim.Native.Nat.{ℕ, _/_, _%_}
+use mathlib.Core.Path.{_≡_}
 use mathlib.Core.Bool.{Bool, cond}
 use mathlib.Core.List.{List, map}
-use lib.Dec.{eqb}
-use lib.ListN.{take}
+use lib.Dec.{eqb, ltb}
+use lib.ListN.{length, take}
+use Rattle.meaning.specs.Limits.{maxLocals, u16End}
+use Rattle.meaning.specs.Area.{localIn}
 use Rattle.meaning.specs.Answers.{Ans, Outcome, done, violated, refused, then, lift}
 use Rattle.meaning.specs.AbstractState as S
 use Rattle.meaning.specs.AbstractState.{State, Operand, nonRef, reference}
 use Rattle.meaning.specs.EntryPoints as R
 use Rattle.meaning.specs.EntryPoints.{Running, Answer}
-use Rattle.borrow_graph.specs.Models.{graphOf}
+use Rattle.borrow_graph.specs.Models.{graphIn, Tells}
 use Rattle.abstract_state.specs.declared.state.AbstractValue.{AbstractValue}
 use Rattle.abstract_state.specs.declared.state.AbstractValue.the-variants.{Reference, NonReference}
 use Rattle.abstract_state.specs.declared.state.Local.{Local}
-use Rattle.abstract_state.specs.declared.state.AbstractState.{AbstractState}
-use Rattle.abstract_state.specs.declared.state.Operand as D
 use Rattle.abstract_state.specs.declared.state.Operands.{Operands}
+use Rattle.abstract_state.specs.declared.state.AbstractState.{AbstractState}
 
 abbrev pub operandOf : AbstractValue → Operand
 operandOf (Reference n) = reference (n .0)
 operandOf NonReference = nonRef
 
-unfoldable pub operandsIn : List D.Operand → ℕ → List Operand
-operandsIn xs n = map (λ x. operandOf (x .0)) (take n xs)
+-- an operand's word: as a local's that is present
+abbrev pub operandIn : ℕ → Operand
+operandIn w = cond (ltb (w / u16End % 4) 2) nonRef (reference (w % u16End))
+
+unfoldable pub operandsIn : List ℕ → ℕ → List Operand
+operandsIn ws n = map operandIn (take n ws)
 
 abbrev pub operandsOf : Operands → List Operand
 operandsOf s = operandsIn (s .list) (s .len)
@@ -30,21 +36,45 @@ operandsOf s = operandsIn (s .list) (s .len)
 abbrev pub localOf : Local → S.Local
 localOf x = cond (x .present) (R.localOf (operandOf (x .value))) S.Local.absent
 
-unfoldable pub localsIn : List Local → ℕ → List S.Local
-localsIn xs n = map localOf (take n xs)
+-- the first n locals
+unfoldable pub localsIn : List ℕ → ℕ → List S.Local
+localsIn ws n = map localIn (take n ws)
 
-abbrev pub runningOf : AbstractState → Running
-runningOf s = record { locals = localsIn (s .locals) (s .«num_locals»); graph = graphOf (s .«borrow_graph»); next = s .«next_id»; root = s .«num_locals» }
+-- a state with its arrays
+pub record Words : Type 0 where
+  pub locals : List ℕ
+  pub names : List ℕ
+  pub edges : List (List ℕ)
+  pub state : AbstractState
+
+abbrev pub words : List ℕ → List ℕ → List (List ℕ) → AbstractState → Words
+words ls ns es s = record { locals = ls; names = ns; edges = es; state = s }
+
+-- that the arrays have their lengths, and the graph's struct tells the truth of them
+pub record Fits (a : Words) : Type 0 where
+  pub locals : length (a .locals) ≡ maxLocals
+  pub tells : Tells (a .names) (a .edges) (a .state .«borrow_graph»)
+
+abbrev pub runningOf : Words → Running
+runningOf a = record {
+  locals = localsIn (a .locals) (a .state .«num_locals»);
+  graph = graphIn (a .names) (a .edges) (a .state .«borrow_graph»);
+  next = a .state .«next_id»;
+  root = a .state .«num_locals»;
+}
+
+abbrev pub stateOf : Words → State
+stateOf a = record { locals = runningOf a .locals; graph = runningOf a .graph }
 
 -- done, or where it stopped: the violation's code, the refusal's number
 abbrev pub halted : {A : Type 0} → ℕ → ℕ → A → Outcome A
 halted v n a = cond (eqb v 0) (cond (eqb n 0) (done a) (refused n)) (violated v)
 
-abbrev pub outcomeOf : AbstractState → Outcome Running
-outcomeOf s = halted (s .violation) (s .refusal) (runningOf s)
+abbrev pub outcomeOf : Words → Outcome Running
+outcomeOf a = halted (a .state .violation) (a .state .refusal) (runningOf a)
 
-abbrev pub answerOf : AbstractState → Outcome Answer
-answerOf s = halted (s .violation) (s .refusal) (record { state = runningOf s; operand = operandOf (s .value) })
+abbrev pub answerOf : Words → Outcome Answer
+answerOf a = halted (a .state .violation) (a .state .refusal) (record { state = runningOf a; operand = operandOf (a .state .value) })
 
 -- what a question's answer does to a state: refused where the question was; then, nothing, or the violation of a yes, or the refusal of a no
 abbrev pub heeding : Ans Bool → Running → Outcome Running
@@ -56,5 +86,12 @@ failing t c s = then (lift t) (λ b. halted (cond b c 0) 0 s)
 abbrev pub needing : Ans Bool → ℕ → Running → Outcome Running
 needing t n s = then (lift t) (λ b. halted 0 (cond b 0 n) s)
 
-abbrev pub stateOf : AbstractState → State
-stateOf s = record { locals = localsIn (s .locals) (s .«num_locals»); graph = graphOf (s .«borrow_graph») }
+-- From a to b the state does f. Of words that fit no state nothing is said.
+pub record Does (f : Running → Outcome Running) (a b : Words) : Type 0 where
+  pub fits : Fits a → Fits b
+  pub does : Fits a → outcomeOf b ≡ then (outcomeOf a) f
+
+-- the same, with an operand as the answer
+pub record Gives (f : Running → Outcome Answer) (a b : Words) : Type 0 where
+  pub fits : Fits a → Fits b
+  pub gives : Fits a → answerOf b ≡ then (outcomeOf a) f

@@ -1,210 +1,280 @@
-// The calls that every entry point is made of. Of a state that has stopped each hands on the number; what else it leaves is free.
+// The calls that every entry point is made of. Of a state that has stopped each hands on the number; what else it leaves is free. Where
+// each stands in the Rust (abstract_state.rs):
+//
+//   here                   the Rust
+//   frame_root             115 `frame_root`
+//   fresh, new_ref         139 `new_ref`: the name, and the state that has it
+//   add_copy               146 `add_copy`
+//   add_borrow             150 `add_borrow`
+//   add_field_borrow       154 `add_field_borrow`
+//   add_local_borrow       159 `add_local_borrow`
+//   add_resource_borrow    164 `add_resource_borrow`
+//   release                170 `release`
+//   local, set_local       `self.locals.get`, `insert` and `remove`
+//   violate_if             119 `error`, where a test holds
+//   give, refuse, pass_refusal, require_yes    what the Rust's answers and panics become
 use crate::state::AbstractState;
 use crate::state::AbstractValue;
+use crate::state::LOCALS;
 use crate::state::Local;
+use crate::words::local_of;
+use crate::words::local_word;
 use borrow_graph::graph::Answer;
-use borrow_graph::graph::Told;
-use borrow_graph_edit::borrow::add_strong_borrow;
-use borrow_graph_edit::borrow::add_strong_field_borrow;
-use borrow_graph_edit::borrow::add_weak_borrow;
-use borrow_graph_edit::borrow::add_weak_field_borrow;
-use borrow_graph_edit::release::release;
+use borrow_graph::graph::YesOrNo;
 use file_format::LocalIndex;
+use meaning::MAX_EDGES;
+use meaning::MAX_LOCALS;
+use meaning::MAX_NAMES;
 use paths::Label;
 use references::RefID;
+use references::rows::LabelFilter;
 ghost use mathlib.Core.Path.{_≡_};
 ghost use mathlib.Core.Bool.{cond};
+ghost use mathlib.Core.List.{List};
+ghost use Prim.Native.Nat.{ℕ};
 ghost use lib.Dec.{ltb};
 ghost use lib.ListN.{getD};
 ghost use Rattle.meaning.specs.AbstractState as S;
-ghost use Rattle.meaning.specs.Answers.{done, then};
+ghost use Rattle.meaning.specs.Answers.{Ans, done};
+ghost use Rattle.meaning.specs.BorrowGraph as L;
 ghost use Rattle.meaning.specs.EntryPoints.{answer, withLocal, onGraph, newRef, addCopy, addBorrow, addFieldBorrow, addLocalBorrow, addResourceBorrow, releaseName};
 ghost use Rattle.borrow_graph.specs.Models as G;
-ghost use Rattle.abstract_state.specs.Models.{operandOf, localOf, localsIn, halted, heeding, failing, needing, outcomeOf, answerOf};
+ghost use Rattle.abstract_state.specs.Models.{operandOf, localOf, localsIn, words, Fits, Does, Gives, halted, heeding, failing, needing};
 
-impl AbstractState {
-    pub fn frame_root(self) -> RefID
-        ensures { λ r. ⌜ r .0 ≡ self .«num_locals» ⌝ }
-    {
-        RefID(self.num_locals as u16)
+// A name is below this.
+const NAME_END: u32 = 65536;
+
+pub fn frame_root(state: AbstractState) -> RefID
+    ensures { λ r. ⌜ r .0 ≡ state .«num_locals» ⌝ }
+{
+    RefID(state.num_locals as u16)
+}
+
+// The name that new_ref gives next, if it does not refuse.
+pub fn fresh(state: AbstractState) -> RefID
+    ensures { λ r. ⌜ r .0 ≡ cond (ltb (state .«next_id») 65536) (state .«next_id») 0 ⌝ }
+{
+    if state.next_id < NAME_END {
+        return RefID(state.next_id as u16);
     }
+    RefID(0)
+}
 
-    // The name that new_ref gives next, if it does not refuse.
-    pub fn fresh(self) -> RefID
-        ensures { λ r. ⌜ r .0 ≡ cond (ltb (self .«next_id») 65536) (self .«next_id») 0 ⌝ }
-    {
-        if self.next_id < 65536 {
-            return RefID(self.next_id as u16);
-        }
-        RefID(0)
+pub fn give(state: AbstractState, value: AbstractValue) -> AbstractState
+    ensures { λ r. ⌜ ((ls ns : List ℕ) (es : List (List ℕ)) → Gives (λ s. answer s (operandOf value)) (words ls ns es state) (words ls ns es r)) ⌝ }
+{
+    let g = state.borrow_graph;
+    AbstractState {
+        violation: state.violation,
+        refusal: state.refusal,
+        value: value,
+        num_locals: state.num_locals,
+        next_id: state.next_id,
+        borrow_graph: g,
     }
+}
 
-    pub fn give(self, value: AbstractValue) -> Self
-        ensures { λ r. ⌜ answerOf r ≡ then (outcomeOf self) (λ s. answer s (operandOf value)) ⌝ }
-    {
-        let locals = self.locals;
-        let g = self.borrow_graph;
-        Self {
-            violation: self.violation,
-            refusal: self.refusal,
-            value: value,
-            locals: locals,
-            num_locals: self.num_locals,
-            next_id: self.next_id,
-            borrow_graph: g,
-        }
+pub fn refuse(state: AbstractState, number: u8) -> AbstractState
+    ensures { λ r. ⌜ ((ls ns : List ℕ) (es : List (List ℕ)) → Does (λ s. halted 0 number s) (words ls ns es state) (words ls ns es r)) ⌝ }
+{
+    let mut s = state;
+    if (state.violation == 0) & (state.refusal == 0) {
+        s.refusal = number;
     }
+    s
+}
 
-    pub fn refuse(self, number: u8) -> Self
-        ensures { λ r. ⌜ outcomeOf r ≡ then (outcomeOf self) (λ s. halted 0 number s) ⌝ }
-    {
-        let mut s = self;
-        if (self.violation == 0) & (self.refusal == 0) {
+// Refused, where the question was.
+pub fn pass_refusal(state: AbstractState, t: YesOrNo) -> AbstractState
+    ensures { λ r. ⌜ ((ls ns : List ℕ) (es : List (List ℕ)) → Does (heeding (G.toldOf t)) (words ls ns es state) (words ls ns es r)) ⌝ }
+{
+    let mut s = state;
+    if (state.violation == 0) & (state.refusal == 0) {
+        s.refusal = t.refusal;
+    }
+    s
+}
+
+// Refused, where the question was or its answer is no.
+pub fn require_yes(state: AbstractState, t: YesOrNo, number: u8) -> AbstractState
+    ensures { λ r. ⌜ ((ls ns : List ℕ) (es : List (List ℕ)) → Does (needing (G.toldOf t) number) (words ls ns es state) (words ls ns es r)) ⌝ }
+{
+    let mut s = state;
+    if (state.violation == 0) & (state.refusal == 0) {
+        if (t.refusal == 0) & !t.yes {
             s.refusal = number;
-        }
-        s
-    }
-
-    // Refused, where the question was.
-    pub fn heed(self, t: Told) -> Self
-        ensures { λ r. ⌜ outcomeOf r ≡ then (outcomeOf self) (heeding (G.toldOf t)) ⌝ }
-    {
-        let mut s = self;
-        if (self.violation == 0) & (self.refusal == 0) {
+        } else {
             s.refusal = t.refusal;
         }
-        s
     }
+    s
+}
 
-    // Refused, where the question was or its answer is no.
-    pub fn need(self, t: Told, number: u8) -> Self
-        ensures { λ r. ⌜ outcomeOf r ≡ then (outcomeOf self) (needing (G.toldOf t) number) ⌝ }
-    {
-        let mut s = self;
-        if (self.violation == 0) & (self.refusal == 0) {
-            if (t.refusal == 0) & !t.yes {
-                s.refusal = number;
-            } else {
-                s.refusal = t.refusal;
-            }
-        }
-        s
-    }
-
-    // Refused where the question was; violated where its answer is yes.
-    pub fn fail(self, t: Told, code: u8) -> Self
-        ensures { λ r. ⌜ outcomeOf r ≡ then (outcomeOf self) (failing (G.toldOf t) code) ⌝ }
-    {
-        let mut s = self;
-        if (self.violation == 0) & (self.refusal == 0) {
-            if (t.refusal == 0) & t.yes {
-                s.violation = code;
-            } else {
-                s.refusal = t.refusal;
-            }
-        }
-        s
-    }
-
-    // What a local holds; one that there is not is absent.
-    pub fn local(self, i: LocalIndex) -> Local
-        ensures { λ r. ⌜ localOf r ≡ getD (localsIn (self .locals) (self .«num_locals»)) (i .0) S.Local.absent ⌝ }
-    {
-        let k = i.0 as usize;
-        if i.0 < self.num_locals {
-            if k < 16 {
-                return self.locals[k];
-            }
-        }
-        Local {
-            present: false,
-            value: AbstractValue::NonReference,
+// Refused where the question was; violated where its answer is yes.
+pub fn violate_if(state: AbstractState, t: YesOrNo, code: u8) -> AbstractState
+    ensures { λ r. ⌜ ((ls ns : List ℕ) (es : List (List ℕ)) → Does (failing (G.toldOf t) code) (words ls ns es state) (words ls ns es r)) ⌝ }
+{
+    let mut s = state;
+    if (state.violation == 0) & (state.refusal == 0) {
+        if (t.refusal == 0) & t.yes {
+            s.violation = code;
+        } else {
+            s.refusal = t.refusal;
         }
     }
+    s
+}
 
-    pub fn set_local(self, i: LocalIndex, x: Local) -> Self
-        ensures { λ r. ⌜ outcomeOf r ≡ then (outcomeOf self) (λ s. done (withLocal s (i .0) (localOf x))) ⌝ }
-    {
-        let mut s = self;
-        let k = i.0 as usize;
-        if k < 16 {
-            s.locals[k] = x;
+// What a local holds; one that there is not is absent.
+pub fn local(locals: &[u32; LOCALS], state: AbstractState, i: LocalIndex) -> Local
+    ensures { λ r. ⌜ ((ns : List ℕ) (es : List (List ℕ)) → Fits (words (now (locals .entry)) ns es state) → localOf r ≡ getD (localsIn (now (locals .entry)) (state .«num_locals»)) (i .0) S.Local.absent) ⌝ }
+{
+    if i.0 < state.num_locals {
+        if i.0 < MAX_LOCALS {
+            let w = locals[i.0 as usize];
+            return local_of(w);
         }
-        s
     }
+    Local {
+        present: false,
+        value: AbstractValue::NonReference,
+    }
+}
 
-    pub fn new_ref(self, mutable: bool) -> Self
-        ensures { λ r. ⌜ outcomeOf r ≡ then (outcomeOf self) (newRef mutable) ⌝ }
-    {
-        if self.next_id < 65536 {
-            let g = self.borrow_graph;
-            let a = g.new_ref(RefID(self.next_id as u16), mutable);
-            let mut s = self.on_graph(a);
-            s.next_id = self.next_id + 1;
-            return s;
-        }
-        self.refuse(9)
+pub fn set_local(locals: &mut [u32; LOCALS], i: LocalIndex, x: Local)
+    ensures { λ _. ⌜ ((ns : List ℕ) (es : List (List ℕ)) (s : AbstractState) → Does (λ q. done (withLocal q (i .0) (localOf x))) (words (now (locals .entry)) ns es s) (words (now (locals .exit)) ns es s)) ⌝ }
+{
+    if i.0 < MAX_LOCALS {
+        let w = local_word(x);
+        locals[i.0 as usize] = w;
     }
+}
 
-    fn on_graph(self, a: Answer) -> Self
-        ensures { λ r. ⌜ (outcomeOf r ≡ then (outcomeOf self) (λ s. onGraph s (G.answerOf a))) ⌝ }
-    {
-        let mut s = self;
-        if (self.violation == 0) & (self.refusal == 0) {
-            let g = a.graph;
-            s.refusal = a.refusal;
-            s.borrow_graph = g;
-        }
-        s
+pub fn new_ref(names: &mut [u32; MAX_NAMES], state: AbstractState, mutable: bool) -> AbstractState
+    ensures { λ r. ⌜ ((ls : List ℕ) (es : List (List ℕ)) → Does (newRef mutable) (words ls (now (names .entry)) es state) (words ls (now (names .exit)) es r)) ⌝ }
+{
+    if state.next_id < NAME_END {
+        let g = state.borrow_graph;
+        let a = borrow_graph::graph::new_ref(names, g, RefID(state.next_id as u16), mutable);
+        let mut s = on_graph(state, a);
+        s.next_id = state.next_id + 1;
+        return s;
     }
+    refuse(state, 9)
+}
 
-    pub fn add_copy(self, parent: RefID, child: RefID) -> Self
-        ensures { λ r. ⌜ outcomeOf r ≡ then (outcomeOf self) (addCopy (parent .0) (child .0)) ⌝ }
-    {
-        let g = self.borrow_graph;
-        let a = add_strong_borrow(g, parent, child);
-        self.on_graph(a)
+// What a graph call answered. A stopped state takes its graph too, since the arrays hold that one now.
+fn on_graph(state: AbstractState, a: Answer) -> AbstractState
+    ensures { λ r. ⌜ ((ls ns ns′ : List ℕ) (es es′ : List (List ℕ)) (f : L.Graph → Ans L.Graph) → (G.Tells ns es (state .«borrow_graph») → G.Answers (f (G.graphIn ns es (state .«borrow_graph»))) ns es (state .«borrow_graph») ns′ es′ a) → Does (λ s. onGraph s (f (s .graph))) (words ls ns es state) (words ls ns′ es′ r)) ⌝ }
+{
+    let g = a.graph;
+    let mut s = state;
+    s.borrow_graph = g;
+    if (state.violation == 0) & (state.refusal == 0) {
+        s.refusal = a.refusal;
     }
+    s
+}
 
-    pub fn add_borrow(self, parent: RefID, child: RefID) -> Self
-        ensures { λ r. ⌜ outcomeOf r ≡ then (outcomeOf self) (addBorrow (parent .0) (child .0)) ⌝ }
-    {
-        let g = self.borrow_graph;
-        let a = add_weak_borrow(g, parent, child);
-        self.on_graph(a)
-    }
+pub fn add_copy(
+    names: &[u32; MAX_NAMES],
+    edges: &mut [[u32; 10]; MAX_EDGES],
+    state: AbstractState,
+    parent: RefID,
+    child: RefID,
+) -> AbstractState
+    ensures { λ r. ⌜ ((ls : List ℕ) → Does (addCopy (parent .0) (child .0)) (words ls (now (names .entry)) (now (edges .entry)) state) (words ls (now (names .entry)) (now (edges .exit)) r)) ⌝ }
+{
+    let g = state.borrow_graph;
+    let a = borrow_graph_edit::borrow::add_strong_borrow(
+        names,
+        edges,
+        g,
+        parent,
+        LabelFilter::Any,
+        child,
+    );
+    on_graph(state, a)
+}
 
-    pub fn add_field_borrow(self, parent: RefID, field: u16, child: RefID) -> Self
-        ensures { λ r. ⌜ outcomeOf r ≡ then (outcomeOf self) (addFieldBorrow (parent .0) field (child .0)) ⌝ }
-    {
-        let g = self.borrow_graph;
-        let a = add_strong_field_borrow(g, parent, Label::Field(field), child);
-        self.on_graph(a)
-    }
+pub fn add_borrow(
+    names: &[u32; MAX_NAMES],
+    edges: &mut [[u32; 10]; MAX_EDGES],
+    state: AbstractState,
+    parent: RefID,
+    child: RefID,
+) -> AbstractState
+    ensures { λ r. ⌜ ((ls : List ℕ) → Does (addBorrow (parent .0) (child .0)) (words ls (now (names .entry)) (now (edges .entry)) state) (words ls (now (names .entry)) (now (edges .exit)) r)) ⌝ }
+{
+    let g = state.borrow_graph;
+    let a = borrow_graph_edit::borrow::add_weak_borrow(
+        names,
+        edges,
+        g,
+        parent,
+        LabelFilter::Any,
+        child,
+    );
+    on_graph(state, a)
+}
 
-    pub fn add_local_borrow(self, local: LocalIndex, child: RefID) -> Self
-        ensures { λ r. ⌜ outcomeOf r ≡ then (outcomeOf self) (addLocalBorrow (local .0) (child .0)) ⌝ }
-    {
-        let g = self.borrow_graph;
-        let root = RefID(self.num_locals as u16);
-        let a = add_strong_field_borrow(g, root, Label::Local(local.0 as u16), child);
-        self.on_graph(a)
-    }
+pub fn add_field_borrow(
+    names: &[u32; MAX_NAMES],
+    edges: &mut [[u32; 10]; MAX_EDGES],
+    state: AbstractState,
+    parent: RefID,
+    field: u16,
+    child: RefID,
+) -> AbstractState
+    ensures { λ r. ⌜ ((ls : List ℕ) → Does (addFieldBorrow (parent .0) field (child .0)) (words ls (now (names .entry)) (now (edges .entry)) state) (words ls (now (names .entry)) (now (edges .exit)) r)) ⌝ }
+{
+    let g = state.borrow_graph;
+    let path = LabelFilter::At(Label::Field(field));
+    let a = borrow_graph_edit::borrow::add_strong_borrow(names, edges, g, parent, path, child);
+    on_graph(state, a)
+}
 
-    pub fn add_resource_borrow(self, resource: u16, child: RefID) -> Self
-        ensures { λ r. ⌜ outcomeOf r ≡ then (outcomeOf self) (addResourceBorrow resource (child .0)) ⌝ }
-    {
-        let g = self.borrow_graph;
-        let root = RefID(self.num_locals as u16);
-        let a = add_weak_field_borrow(g, root, Label::Global(resource), child);
-        self.on_graph(a)
-    }
+pub fn add_local_borrow(
+    names: &[u32; MAX_NAMES],
+    edges: &mut [[u32; 10]; MAX_EDGES],
+    state: AbstractState,
+    local: LocalIndex,
+    child: RefID,
+) -> AbstractState
+    ensures { λ r. ⌜ ((ls : List ℕ) → Does (addLocalBorrow (local .0) (child .0)) (words ls (now (names .entry)) (now (edges .entry)) state) (words ls (now (names .entry)) (now (edges .exit)) r)) ⌝ }
+{
+    let g = state.borrow_graph;
+    let root = RefID(state.num_locals as u16);
+    let path = LabelFilter::At(Label::Local(local.0 as u16));
+    let a = borrow_graph_edit::borrow::add_strong_borrow(names, edges, g, root, path, child);
+    on_graph(state, a)
+}
 
-    pub fn release(self, id: RefID) -> Self
-        ensures { λ r. ⌜ outcomeOf r ≡ then (outcomeOf self) (releaseName (id .0)) ⌝ }
-    {
-        let g = self.borrow_graph;
-        let a = release(g, id);
-        self.on_graph(a)
-    }
+pub fn add_resource_borrow(
+    names: &[u32; MAX_NAMES],
+    edges: &mut [[u32; 10]; MAX_EDGES],
+    state: AbstractState,
+    resource: u16,
+    child: RefID,
+) -> AbstractState
+    ensures { λ r. ⌜ ((ls : List ℕ) → Does (addResourceBorrow resource (child .0)) (words ls (now (names .entry)) (now (edges .entry)) state) (words ls (now (names .entry)) (now (edges .exit)) r)) ⌝ }
+{
+    let g = state.borrow_graph;
+    let root = RefID(state.num_locals as u16);
+    let path = LabelFilter::At(Label::Global(resource));
+    let a = borrow_graph_edit::borrow::add_weak_borrow(names, edges, g, root, path, child);
+    on_graph(state, a)
+}
+
+pub fn release(
+    names: &mut [u32; MAX_NAMES],
+    edges: &mut [[u32; 10]; MAX_EDGES],
+    state: AbstractState,
+    id: RefID,
+) -> AbstractState
+    ensures { λ r. ⌜ ((ls : List ℕ) → Does (releaseName (id .0)) (words ls (now (names .entry)) (now (edges .entry)) state) (words ls (now (names .exit)) (now (edges .exit)) r)) ⌝ }
+{
+    let g = state.borrow_graph;
+    let a = borrow_graph_edit::release::release(names, edges, g, id);
+    on_graph(state, a)
 }

@@ -1,6 +1,17 @@
-// What a local or an operand is, and the state that the steps of a block go through.
+// What a local or an operand is, and what a state has beside its arrays. Where each stands in the Rust (abstract_state.rs):
+//
+//   here             the Rust
+//   AbstractValue    23 `AbstractValue`; a match on it stands for 30 `is_reference`, 38 `is_value` and 43 `ref_id`
+//   Local            an entry of 74 `locals`, or that there is none
+//   Operands         a `Vec<AbstractValue>`: a call's arguments and what it returns
+//   AbstractState    72 `AbstractState`, without the function and the locals; the graph's arrays stand beside it
 use borrow_graph::graph::BorrowGraph;
+use meaning::MAX_LOCALS;
+use meaning::MAX_OPERANDS;
 use references::RefID;
+
+// The words of the locals.
+pub const LOCALS: usize = MAX_LOCALS as usize;
 
 pub enum AbstractValue {
     Reference(RefID),
@@ -13,25 +24,20 @@ pub struct Local {
     pub value: AbstractValue,
 }
 
+// Operands as words. What lies from `len` on is free; a `len` beyond 16 reads as 16.
+pub struct Operands {
+    pub list: [u32; MAX_OPERANDS],
+    pub len: usize,
+}
+
 // A state stops at its first violation or refusal: one of the two is its number (the violation, where both are given), and both are 0
 // while it goes on. A stopped state's number is handed on; what else it holds is free. `value` is what the last step answered, if it
-// answers a value, else free. What lies from `num_locals` on is free; a number beyond 16 reads as 16. The frame root has the name
-// `num_locals`, and `next_id` is the next fresh name.
+// answers a value, else free. The frame root has the name `num_locals`, and `next_id` is the next fresh name.
 pub struct AbstractState {
     pub violation: u8,
     pub refusal: u8,
     pub value: AbstractValue,
-    pub locals: [Local; 16],
     pub num_locals: u8,
     pub next_id: u32,
     pub borrow_graph: BorrowGraph,
-}
-
-// An operand, so that operands can stand in an array.
-pub struct Operand(pub AbstractValue);
-
-// What lies from `len` on is free; a `len` beyond 16 reads as 16. In the operand stack the last one is the top.
-pub struct Operands {
-    pub list: [Operand; 16],
-    pub len: u8,
 }

@@ -1,38 +1,46 @@
 -- Call and Ret as the code makes them.
-use Prim.Native.Nat.{ℕ, _+_}
+use Prim.Native.Nat.{ℕ, suc, _+_}
 use mathlib.Core.Path.{_≡_, refl, sym, ap, _∙_}
 use mathlib.Core.Bool.{Bool, true, false, not, _&&_, _||_, cond}
 use mathlib.Core.List.{List, [], _∷_, _++_, append-assoc, append-nil}
 use mathlib.Core.Option.{none, some}
 use lib.Dec.{eqb, ltb}
+use lib.ListN.{drop}
 use Rattle.meaning.specs.Lists.{any, keep}
 use Rattle.meaning.specs.Laws.Base.{and-l, or-false}
 use Rattle.meaning.specs.Labels.{globalLabel}
-use Rattle.meaning.specs.BorrowGraph.{wellFormed, held, isMutable, borrowed}
+use Rattle.meaning.specs.BorrowGraph.{wellFormed, held, isMutable, borrowed, newName}
 use Rattle.meaning.specs.BorrowGraph as L
-use Rattle.meaning.specs.Answers.{Outcome, done, violated, refused, then, fails, needs}
+use Rattle.meaning.specs.Answers.{Outcome, done, violated, refused, then, lift, fails, needs}
 use Rattle.meaning.specs.EntryPoints.{needsName, Running, Answer, Answers, answer, writable, newRef, operandNames, localNames, ascend, releaseAll, borrowFrom, handOver, notAcquired, parentsOf, returnValues, call, ret}
 use Rattle.meaning.specs.AbstractState.{Token, ofValue, ofRef, Operand, nonRef, reference}
-use Rattle.abstract_state.specs.Models.{halted, heeding, failing}
-use Rattle.abstract_state.specs.ModelLaws.{here, halted-then, then-then}
-use Rattle.abstract_state_calls.specs.Models.{knownMutable}
+use Rattle.abstract_state.specs.Models.{Words, Fits, Does, Gives, operandOf, halted, heeding, failing, runningOf, outcomeOf}
+use Rattle.abstract_state.specs.ModelLaws.{here, halted-then, then-done, then-then}
+use Rattle.abstract_state_calls.specs.Models.{Calls, answersOf, acquiring, handing, framed, knownMutable}
 use Rattle.abstract_state_calls.specs.IdLaws.{mutable-known}
-use Rattle.abstract_state.specs.OutcomeLaws.{link, then-done, made}
-use Rattle.abstract_state_calls.specs.LoopLaws.{under, beside, heeding-at, failing-at, known-fails-then}
+use Rattle.abstract_state_calls.specs.LoopLaws.{under, beside, heeding-at, failing-at, known-fails-then, each-turn, each-done}
+
+-- ---- calls in a row, and the name that a new reference gets
+
+link : {A B C : Type 0} (h : Outcome A) (o : Outcome B) (p : Outcome C) (f : A → Outcome B) (g : B → Outcome C) → o ≡ then h f → p ≡ then o g → p ≡ then h (λ s. then (f s) g)
+link {A} {B} {C} h o p f g d e = e ∙ ap (λ (x : Outcome B). then x g) d ∙ then-then h f g
+
+-- the name that the code foresees is the one that a new reference gets
+made : {A : Type 0} (m : Bool) (r : Running) (x : ℕ) (k : ℕ → Running → Outcome A) → x ≡ cond (ltb (r .next) 65536) (r .next) 0 → then (newRef m r) (k x) ≡ then (newRef m r) (k (r .next))
+unfolding newRef
+made {A} m r x k e = ap (λ (y : ℕ). then (newRef m r) (k y)) e ∙ go (ltb (r .next) 65536)
+  where
+    go : (b : Bool) → then (needs b 9 (then (lift (newName (r .graph) (r .next) m)) (λ g. done (record { locals = r .locals; graph = g; next = suc (r .next); root = r .root })))) (k (cond b (r .next) 0))
+        ≡ then (needs b 9 (then (lift (newName (r .graph) (r .next) m)) (λ g. done (record { locals = r .locals; graph = g; next = suc (r .next); root = r .root })))) (k (r .next))
+    go true = refl
+    go false = refl
 
 -- ---- the steps of each loop
-
--- values handed over, and numbers that are acquired, with nothing done after
-abbrev pub handing : ℕ → List Operand → Running → Outcome Running
-handing c vs r = handOver (operandNames vs) c r (done r)
 
 pub hand-step : (c : ℕ) (v : Operand) (vs : List Operand) (r : Running) → handing c (v ∷ vs) r ≡ then (handing c (v ∷ []) r) (handing c vs)
 unfolding handOver
 hand-step c nonRef vs r = refl
 hand-step c (reference n) vs r = sym (known-fails-then (r .graph) n (isMutable (r .graph) n && not (writable (r .graph) n)) c (done r) (handing c vs))
-
-abbrev pub acquiring : List ℕ → Running → Outcome Running
-acquiring is r = notAcquired is r (done r)
 
 pub acquire-step : (i : ℕ) (is : List ℕ) (r : Running) → acquiring (i ∷ is) r ≡ then (acquiring (i ∷ []) r) (acquiring is)
 unfolding notAcquired
@@ -161,6 +169,48 @@ module _ (m : Bool) (ps : List ℕ) (v n : ℕ) (r : Running) (x : ℕ) (o₁ o�
       ∙ here v n r (λ s. then (newRef m s) (lend x)) (returnValues (ofRef m ∷ []) ps ps)
       (made m r x lend e ∙ ap (λ (l : List ℕ). then (newRef m r) (λ s. then (borrowFrom l (r .next) s) (one (r .next)))) (same-parents m ps))
 
+module _ (muts alls : List ℕ) where
+  pub calls-value : (a b : Words) → Gives (λ s. answer s nonRef) a b → Calls (returnValues (ofValue ∷ []) muts alls) a b (operandOf (b .state .value) ∷ [])
+  calls-value a b p = record {
+    fits = p .fits;
+    calls = λ h. value-returned muts alls (outcomeOf a) (b .state .violation) (b .state .refusal) (record { state = runningOf b; operand = operandOf (b .state .value) }) (p .gives h);
+  }
+
+pub calls-ref : (m : Bool) (ps : List ℕ) (x : ℕ) (a b c d : Words) → x ≡ cond (ltb (a .state .«next_id») 65536) (a .state .«next_id») 0
+    → Does (newRef m) a b → Does (borrowFrom ps x) b c → Gives (λ s. answer s (reference x)) c d → Calls (returnValues (ofRef m ∷ []) ps ps) a d (operandOf (d .state .value) ∷ [])
+calls-ref m ps x a b c d e p q r = record {
+  fits = λ h. r .fits (q .fits (p .fits h));
+  calls = λ h. ref-returned m ps (a .state .violation) (a .state .refusal) (runningOf a) x (outcomeOf b) (outcomeOf c) (d .state .violation) (d .state .refusal)
+      (record { state = runningOf d; operand = operandOf (d .state .value) }) e (p .does h) (q .does (p .fits h)) (r .gives (q .fits (p .fits h)));
+}
+
+-- The values of the tokens from i on are left to return, behind vs, where the state has come from a to b.
+pub record Pending (muts alls : List ℕ) (ts : List Token) (i : ℕ) (a b : Words) (vs : List Operand) : Type 0 where
+  pub fits : Fits a → Fits b
+  pub left : Fits a → then (answersOf b vs) (onward muts alls (drop i ts)) ≡ then (outcomeOf a) (returnValues ts muts alls)
+
+module _ (muts alls : List ℕ) (ts : List Token) where
+  pub pending-all : (a : Words) (vs : List Operand) → vs ≡ [] → Pending muts alls ts 0 a a vs
+  pending-all a vs e = record {
+    fits = λ h. h;
+    left = λ h. ap (λ (us : List Operand). then (answersOf a us) (onward muts alls ts)) e ∙ onward-start muts alls ts (a .state .violation) (a .state .refusal) (runningOf a);
+  }
+
+  pub pending-turn : (i : ℕ) (t : Token) (w : Operand) (a b c : Words) (vs us : List Operand) → drop i ts ≡ t ∷ drop (i + 1) ts → us ≡ vs ++ (w ∷ [])
+      → Calls (returnValues (t ∷ []) muts alls) b c (w ∷ []) → Pending muts alls ts i a b vs → Pending muts alls ts (i + 1) a c us
+  pending-turn i t w a b c vs us d e k p = record {
+    fits = λ h. k .fits (p .fits h);
+    left = λ h. each-turn (onward muts alls) ts (λ (u : Token). onward muts alls (u ∷ [])) (onward-step muts alls) i t (answersOf b vs) (answersOf c us) (then (outcomeOf a) (returnValues ts muts alls)) d
+        (returned (b .state .violation) (b .state .refusal) (runningOf b) (c .state .violation) (c .state .refusal) (runningOf c) w vs us (returnValues (t ∷ []) muts alls) e (k .calls (p .fits h)))
+        (p .left h);
+  }
+
+  pub pending-none : (i : ℕ) (a b : Words) (vs : List Operand) → drop i ts ≡ [] → Pending muts alls ts i a b vs → Calls (returnValues ts muts alls) a b vs
+  pending-none i a b vs e p = record {
+    fits = p .fits;
+    calls = λ h. onward-end muts alls (answersOf b vs) ∙ each-done (onward muts alls) ts i (answersOf b vs) (then (outcomeOf a) (returnValues ts muts alls)) e (p .left h);
+  }
+
 -- ---- call
 
 abbrev pub releasing : List ℕ → Answers → Outcome Answers
@@ -211,11 +261,19 @@ module _ (args : List Operand) (is : List ℕ) (ts : List Token) (ms ns : List �
       link (halted v n r) o₁ o (acquiring is) (λ s. then (handing 112 args s) (rest ms ns)) e₁ b
       ∙ here v n r (λ s. then (acquiring is s) (λ t. then (handing 112 args t) (rest ms ns))) (call args is ts) (call-at e m)
 
--- ---- ret
+pub calls-done : (args : List Operand) (is : List ℕ) (ts : List Token) (ms ns : List ℕ) (a b c d e : Words) (vs : List Operand)
+    → ns ≡ ascend (operandNames args) → (Fits a → ms ≡ keep (knownMutable (runningOf a .graph)) ns)
+    → Does (acquiring is) a b → Does (handing 112 args) b c → Calls (returnValues ts ms ns) c d vs → Does (releaseAll ns) d e → Calls (call args is ts) a e vs
+calls-done args is ts ms ns a b c d e vs n m p q k r =
+    let f : Fits a → Fits c = λ h. q .fits (p .fits h) in
+    record {
+      fits = λ h. r .fits (k .fits (f h));
+      calls = λ h. call-done args is ts ms ns (runningOf a) (a .state .violation) (a .state .refusal) (outcomeOf b) (outcomeOf c) (answersOf d vs) (answersOf e vs) n (m h)
+          (p .does h) (q .does (p .fits h)) (k .calls (f h))
+          (released (d .state .violation) (d .state .refusal) (runningOf d) (e .state .violation) (e .state .refusal) (runningOf e) vs ns (r .does (k .fits (f h))));
+    }
 
--- nothing may be borrowed from the frame
-abbrev pub framed : Running → Outcome Running
-framed s = needsName (s .graph) (s .root) (fails (borrowed (s .graph) (s .root) none) 113 (done s))
+-- ---- ret
 
 pub frame-one : (r : Running) → failing (L.ofName (r .graph) (r .root) (not (not (borrowed (r .graph) (r .root) none)))) 113 r ≡ framed r
 frame-one r = ap (λ (b : Bool). failing (L.ofName (r .graph) (r .root) b) 113 r) (twice (borrowed (r .graph) (r .root) none)) ∙ failing-at (r .graph) (r .root) (borrowed (r .graph) (r .root) none) r 113 refl
@@ -238,3 +296,10 @@ module _ (vs : List Operand) (ns : List ℕ) (r : Running) where
       let a : o ≡ then o₁ (λ s. then (framed s) (handing 114 vs)) = link o₁ o₂ o framed (handing 114 vs) e₂ e₃ in
       link (halted v n r) o₁ o (releaseAll ns) (λ s. then (framed s) (handing 114 vs)) e₁ a
       ∙ here v n r (λ s. then (releaseAll ns s) (λ t. then (framed t) (handing 114 vs))) (ret vs) (ret-at e)
+
+pub does-ret : (vs : List Operand) (ns : List ℕ) (a b c d : Words) → (Fits a → ns ≡ ascend (localNames (runningOf a .locals)))
+    → Does (releaseAll ns) a b → Does framed b c → Does (handing 114 vs) c d → Does (ret vs) a d
+does-ret vs ns a b c d e p q r = record {
+  fits = λ h. r .fits (q .fits (p .fits h));
+  does = λ h. ret-done vs ns (runningOf a) (a .state .violation) (a .state .refusal) (outcomeOf b) (outcomeOf c) (outcomeOf d) (e h) (p .does h) (q .does (p .fits h)) (r .does (q .fits (p .fits h)));
+}

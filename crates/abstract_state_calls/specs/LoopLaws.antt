@@ -9,8 +9,8 @@ use Rattle.meaning.specs.Answers.{Ans, ok, guard, Outcome, done, violated, refu
 use Rattle.meaning.specs.BorrowGraph.{Graph, wellFormed, held}
 use Rattle.meaning.specs.BorrowGraph as L
 use Rattle.meaning.specs.EntryPoints.{needsName, Running}
-use Rattle.abstract_state.specs.Models.{halted, heeding, failing}
-use Rattle.abstract_state.specs.ModelLaws.{here, halted-then, then-then}
+use Rattle.abstract_state.specs.Models.{Words, Fits, Does, outcomeOf, halted, heeding, failing}
+use Rattle.abstract_state.specs.ModelLaws.{halted-then, then-then}
 
 pub under : {A B : Type 0} (o : Outcome A) (f g : A → Outcome B) → ((a : A) → f a ≡ g a) → then o f ≡ then o g
 under (done a) f g h = h a
@@ -22,10 +22,6 @@ pub beside : {A B C : Type 0} (v n : ℕ) (a : A) (f : A → B) (k : B → Outco
 beside {A} {B} {C} v n a f k = ap (λ (o : Outcome B). then o k) (halted-then v n a f) ∙ then-then (halted v n a) (λ x. done (f x)) k
 
 -- ---- questions of a name
-
--- what a question's answer does, on the state that was asked
-pub asked : (v n : ℕ) (r : Running) (o : Outcome Running) (t k : Ans Bool) (does : Ans Bool → Running → Outcome Running) (f : Running → Outcome Running) → t ≡ k → does k r ≡ f r → o ≡ then (halted v n r) (does t) → o ≡ then (halted v n r) f
-asked v n r o t k does f q p e = e ∙ ap (λ (x : Ans Bool). then (halted v n r) (does x)) q ∙ here v n r (does k) f p
 
 module _ (g : Graph) (n : ℕ) (b : Bool) (r : Running) where
   pub heeding-at : heeding (L.ofName g n b) r ≡ needsName g n (done r)
@@ -66,3 +62,25 @@ module _ {A S B : Type 0} (F : List A → S → Outcome B) (xs : List A) where
 
   pub each-done : (i : ℕ) (o : Outcome S) (t : Outcome B) → drop i xs ≡ [] → then o (F (drop i xs)) ≡ t → then o (F []) ≡ t
   each-done i o t e h = sym (ap (λ (l : List A). then o (F l)) e) ∙ h
+
+-- Of f, g is left to do where the state has come from a to b.
+pub record Left (f g : Running → Outcome Running) (a b : Words) : Type 0 where
+  pub fits : Fits a → Fits b
+  pub left : Fits a → then (outcomeOf b) g ≡ then (outcomeOf a) f
+
+pub left-all : (f : Running → Outcome Running) (a : Words) → Left f f a a
+left-all f a = record { fits = λ h. h; left = λ h. refl }
+
+module _ {A : Type 0} (F : List A → Running → Outcome Running) (xs : List A) (i : ℕ) (a b c : Words) where
+  pub left-turn : (step : A → Running → Outcome Running) → ((x : A) (ys : List A) (s : Running) → F (x ∷ ys) s ≡ then (step x s) (F ys))
+      → (x : A) → drop i xs ≡ x ∷ drop (i + 1) xs → Does (step x) b c → Left (F xs) (F (drop i xs)) a b → Left (F xs) (F (drop (i + 1) xs)) a c
+  left-turn step law x e d p = record {
+    fits = λ h. d .fits (p .fits h);
+    left = λ h. each-turn F xs step law i x (outcomeOf b) (outcomeOf c) (then (outcomeOf a) (F xs)) e (d .does (p .fits h)) (p .left h);
+  }
+
+  pub left-done : drop i xs ≡ [] → Does (F []) b c → Left (F xs) (F (drop i xs)) a b → Does (F xs) a c
+  left-done e d p = record {
+    fits = λ h. d .fits (p .fits h);
+    does = λ h. d .does (p .fits h) ∙ each-done F xs i (outcomeOf b) (then (outcomeOf a) (F xs)) e (p .left h);
+  }

@@ -1,13 +1,13 @@
 -- The models read and written one element at a time.
 use Prim.Native.Nat.{ℕ, _+_, _≤_, _<_, min}
-use mathlib.Core.Path.{_≡_, refl, sym, _∙_}
+use mathlib.Core.Path.{_≡_, refl, sym, ap, _∙_}
 use mathlib.Core.List.{List, [], _∷_, _++_, map, append-nil}
 use lib.ListN.{length, take, drop, getD, set, drop-of-length-le, length-map, length-take}
+use Rattle.meaning.specs.Area.{localIn}
+use Rattle.meaning.specs.AbstractState.{Local, Operand}
 use Rattle.meaning.specs.Laws.Array.{front-map-step, push-map}
 use Rattle.references.specs.declared.RefID.{RefID}
-use Rattle.abstract_state.specs.Models.{operandOf, operandsIn}
-use Rattle.abstract_state.specs.declared.state.AbstractValue.the-variants.{Reference}
-use Rattle.abstract_state.specs.declared.state.Operand as D
+use Rattle.abstract_state.specs.Models.{operandIn, operandsIn, localsIn}
 use Rattle.abstract_state_calls.specs.Models.{idOf, idsOf}
 use Rattle.abstract_state_calls.specs.declared.ids.Ids.{Ids}
 
@@ -30,21 +30,27 @@ ids-made l n = refl
 pub front-count : {A B : Type 0} (f : A → B) (n : ℕ) (l : List A) → length l ≡ 16 → length (map f (take n l)) ≡ min n 16
 front-count f n l e = simp (length-map, length-take, e)
 
-abbrev pub past-operand : D.Operand
-past-operand = record { 0 = Reference (record { 0 = 0 }) }
-
-pub operands-step : (xs : List D.Operand) (n i : ℕ) → i < length (operandsIn xs n) → drop i (operandsIn xs n) ≡ operandOf (getD xs i past-operand .0) ∷ drop (i + 1) (operandsIn xs n)
+pub operands-step : (xs : List ℕ) (n i : ℕ) (v : Operand) → v ≡ operandIn (getD xs i 0) → i < length (operandsIn xs n) → drop i (operandsIn xs n) ≡ v ∷ drop (i + 1) (operandsIn xs n)
 unfolding operandsIn
-operands-step xs n i h = front-map-step (λ (x : D.Operand). operandOf (x .0)) n xs past-operand i h
+operands-step xs n i v e h = front-map-step operandIn n xs 0 i h ∙ ap (λ (w : Operand). w ∷ drop (i + 1) (operandsIn xs n)) (sym e)
 
-pub operands-count : (xs : List D.Operand) (n : ℕ) → length xs ≡ 16 → length (operandsIn xs n) ≡ min n 16
+pub operands-count : (xs : List ℕ) (n : ℕ) → length xs ≡ 16 → length (operandsIn xs n) ≡ min n 16
 unfolding operandsIn
-operands-count xs n e = front-count (λ (x : D.Operand). operandOf (x .0)) n xs e
+operands-count xs n e = front-count operandIn n xs e
 
-pub operands-none : (xs : List D.Operand) → operandsIn xs 0 ≡ []
+pub operands-none : (xs : List ℕ) → operandsIn xs 0 ≡ []
 unfolding operandsIn
 operands-none xs = refl
 
-pub operands-push : (xs : List D.Operand) (i : ℕ) (x : D.Operand) → i < length xs → operandsIn (set xs i x) (i + 1) ≡ operandsIn xs i ++ (operandOf (x .0) ∷ [])
+pub operands-push : (xs : List ℕ) (i w : ℕ) (v : Operand) → operandIn w ≡ v → i < length xs → operandsIn (set xs i w) (i + 1) ≡ operandsIn xs i ++ (v ∷ [])
 unfolding operandsIn
-operands-push xs i x h = sym (append-nil (operandsIn (set xs i x) (i + 1))) ∙ push-map (λ (y : D.Operand). operandOf (y .0)) xs i (i + 1) x [] refl h
+operands-push xs i w v e h =
+    sym (append-nil (operandsIn (set xs i w) (i + 1))) ∙ push-map operandIn xs i (i + 1) w [] refl h ∙ ap (λ (u : Operand). operandsIn xs i ++ (u ∷ [])) e
+
+pub locals-step : (xs : List ℕ) (n i : ℕ) (x : Local) → x ≡ localIn (getD xs i 0) → i < length (localsIn xs n) → drop i (localsIn xs n) ≡ x ∷ drop (i + 1) (localsIn xs n)
+unfolding localsIn
+locals-step xs n i x e h = front-map-step localIn n xs 0 i h ∙ ap (λ (y : Local). y ∷ drop (i + 1) (localsIn xs n)) (sym e)
+
+pub locals-count : (xs : List ℕ) (n : ℕ) → length xs ≡ 16 → length (localsIn xs n) ≡ min n 16
+unfolding localsIn
+locals-count xs n e = front-count localIn n xs e

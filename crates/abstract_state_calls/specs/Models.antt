@@ -1,17 +1,17 @@
 -- What the values of the code stand for in the definitions.
 use Prim.Native.Nat.{ℕ}
+use mathlib.Core.Path.{_≡_}
 use mathlib.Core.Bool.{Bool, _&&_}
 use mathlib.Core.Option.{Option, none, some}
-use mathlib.Core.List.{List, [], _∷_, map}
+use mathlib.Core.List.{List, map}
 use lib.ListN.{take}
-use Rattle.meaning.specs.BorrowGraph.{Graph, wellFormed, held, isMutable}
+use Rattle.meaning.specs.Limits.{UNSAFE-RET}
+use Rattle.meaning.specs.BorrowGraph.{Graph, wellFormed, held, isMutable, borrowed}
 use Rattle.meaning.specs.AbstractState.{Local, absent, value, ref, Operand, nonRef, reference}
-use Rattle.meaning.specs.Answers.{Outcome}
-use Rattle.meaning.specs.EntryPoints.{Answers, putNumber}
+use Rattle.meaning.specs.Answers.{Outcome, done, then, fails}
+use Rattle.meaning.specs.EntryPoints.{Running, Answers, putNumber, operandNames, handOver, notAcquired, needsName}
 use Rattle.references.specs.declared.RefID.{RefID}
-use Rattle.abstract_state.specs.Models.{halted, runningOf, operandOf, operandsOf}
-use Rattle.abstract_state.specs.declared.state.AbstractState.{AbstractState}
-use Rattle.abstract_state_calls.specs.declared.Called.{Called}
+use Rattle.abstract_state.specs.Models.{Words, Fits, halted, runningOf, outcomeOf}
 use Rattle.abstract_state_calls.specs.declared.ids.Ids.{Ids}
 
 abbrev pub idOf : RefID → ℕ
@@ -20,12 +20,25 @@ idOf x = x .0
 unfoldable pub idsOf : Ids → List ℕ
 idsOf s = map idOf (take (s .len) (s .list))
 
-abbrev pub calledOf : Called → Outcome Answers
-calledOf c = halted (c .state .violation) (c .state .refusal) (record { state = runningOf (c .state); operands = operandsOf (c .values) })
+-- a state with the values that a call answers
+abbrev pub answersOf : Words → List Operand → Outcome Answers
+answersOf b vs = halted (b .state .violation) (b .state .refusal) (record { state = runningOf b; operands = vs })
 
--- a state with the one value that its last step answered
-abbrev pub oneOf : AbstractState → Outcome Answers
-oneOf s = halted (s .violation) (s .refusal) (record { state = runningOf s; operands = operandOf (s .value) ∷ [] })
+-- From a to b the state does f, with these values as the answer.
+pub record Calls (f : Running → Outcome Answers) (a b : Words) (vs : List Operand) : Type 0 where
+  pub fits : Fits a → Fits b
+  pub calls : Fits a → answersOf b vs ≡ then (outcomeOf a) f
+
+-- values handed over, and numbers that are acquired, with nothing done after
+abbrev pub handing : ℕ → List Operand → Running → Outcome Running
+handing c vs r = handOver (operandNames vs) c r (done r)
+
+abbrev pub acquiring : List ℕ → Running → Outcome Running
+acquiring is r = notAcquired is r (done r)
+
+-- nothing may be borrowed from the frame
+abbrev pub framed : Running → Outcome Running
+framed s = needsName (s .graph) (s .root) (fails (borrowed (s .graph) (s .root) none) UNSAFE-RET (done s))
 
 -- the name that an operand or a local holds, and a name placed if there is one
 abbrev pub nameOf : Operand → Option ℕ

@@ -1,25 +1,55 @@
-// Call and Ret of the abstract state, in the Rust's order of tests.
+// Call and Ret of the abstract state, in the Rust's order of tests. Where each stands in the Rust (abstract_state.rs):
+//
+//   here                                      the Rust
+//   call                                      493 `call`
+//   fail_acquired, fail_global                500 "Check acquires"
+//   ask_root                                  (the Rust's graph always answers for the root)
+//   hand_over, hand_value                     507 and 570 "Check mutable references can be transfered"
+//   all, mutable                              508 `all_references_to_borrow_from`, 509 `mutable_references_to_borrow_from`
+//   return_values, return_value, return_ref   522 "Track borrow relationships of return values on inputs"
+//   ret                                       552 `ret`
+//   fail_frame                                562 "Check that no local or global is borrowed"
 mod ids;
 
 use crate::ids::Ids;
 use crate::ids::local_ids;
 use crate::ids::operand_ids;
+use abstract_state::codes::CALL_BORROWED_MUTABLE_REFERENCE;
+use abstract_state::codes::GLOBAL_REFERENCE;
+use abstract_state::codes::RET_BORROWED_MUTABLE_REFERENCE;
+use abstract_state::codes::UNSAFE_RET;
+use abstract_state::core::frame_root;
+use abstract_state::core::fresh;
+use abstract_state::core::give;
+use abstract_state::core::new_ref;
+use abstract_state::core::pass_refusal;
+use abstract_state::core::violate_if;
+use abstract_state::predicates::is_frame_safe_to_destroy;
+use abstract_state::predicates::is_global_borrowed;
+use abstract_state::predicates::is_mutable;
+use abstract_state::predicates::is_writable;
 use abstract_state::state::AbstractState;
 use abstract_state::state::AbstractValue;
-use abstract_state::state::Operand;
+use abstract_state::state::LOCALS;
 use abstract_state::state::Operands;
-use borrow_graph::graph::Told;
+use abstract_state::words::value_of;
+use abstract_state::words::value_word;
+use borrow_graph::graph::YesOrNo;
+use meaning::MAX_EDGES;
+use meaning::MAX_NAMES;
+use meaning::MAX_OPERANDS;
 use meaning::lesser;
 ghost use mathlib.Core.Path.{_≡_};
-ghost use mathlib.Core.List.{[], _∷_, map};
+ghost use mathlib.Core.List.{List, [], _∷_, map};
+ghost use Prim.Native.Nat.{ℕ};
 ghost use lib.ListN.{take};
 ghost use Rattle.meaning.specs.Listing.{tokenAs};
 ghost use Rattle.meaning.specs.EntryPoints as R;
-ghost use Rattle.meaning.specs.Answers.{done, then};
+ghost use Rattle.meaning.specs.Answers.{then};
 ghost use Rattle.meaning.specs.AbstractState.{ofRef};
-ghost use Rattle.meaning.specs.EntryPoints.{operandNames, handOver, notAcquired, returnValues};
-ghost use Rattle.abstract_state.specs.Models.{operandOf, operandsOf, outcomeOf};
-ghost use Rattle.abstract_state_calls.specs.Models.{idsOf, oneOf, calledOf};
+ghost use Rattle.meaning.specs.EntryPoints.{returnValues};
+ghost use Rattle.abstract_state.specs.Models.{operandOf, operandsOf, words, Fits, Does, outcomeOf};
+ghost use Rattle.abstract_state_calls.specs.Models.{idsOf, answersOf, Calls, acquiring, handing, framed};
 
 // What a call leaves, and the values that it returns. Where the state has stopped, the values are free.
 pub struct Called {
@@ -29,6 +59,8 @@ pub struct Called {
 
 // The acquired numbers come in any order, with repeats; the tokens are 0 a value, 1 a reference, 2 a mutable reference.
 pub fn call(
+    names: &mut [u32; MAX_NAMES],
+    edges: &mut [[u32; 10]; MAX_EDGES],
     state: AbstractState,
     arguments: Operands,
     acquired: [u16; 16],
@@ -36,93 +68,133 @@ pub fn call(
     tokens: [u8; 16],
     token_count: usize,
 ) -> Called
-    ensures { λ r. ⌜ calledOf r ≡ then (outcomeOf state) (R.call (operandsOf arguments) (take «acquired_count» acquired) (map tokenAs (take «token_count» tokens))) ⌝ }
+    ensures { λ r. ⌜ ((ls : List ℕ) → (Fits (words ls (now (names .entry)) (now (edges .entry)) state) → Fits (words ls (now (names .exit)) (now (edges .exit)) (r .state))) × (Fits (words ls (now (names .entry)) (now (edges .entry)) state) → answersOf (words ls (now (names .exit)) (now (edges .exit)) (r .state)) (operandsOf (r .values)) ≡ then (outcomeOf (words ls (now (names .entry)) (now (edges .entry)) state)) (R.call (operandsOf arguments) (take «acquired_count» acquired) (map tokenAs (take «token_count» tokens))))) ⌝ }
 {
     let all = operand_ids(arguments);
-    let mutable = all.mutable(state);
-    let s = fail_acquired(state, acquired, acquired_count);
-    let t = hand_over(s, arguments, 112);
-    let u = return_values(t, tokens, token_count, mutable, all);
+    let mutable = all.mutable(names, state);
+    let s = fail_acquired(names, edges, state, acquired, acquired_count);
+    let t = hand_over(names, edges, s, arguments, CALL_BORROWED_MUTABLE_REFERENCE);
+    let u = return_values(names, edges, t, tokens, token_count, mutable, all);
     let v = u.state;
     let values = u.values;
-    let w = all.release_all(v);
+    let w = all.release_all(names, edges, v);
     Called { state: w, values }
 }
 
-pub fn ret(state: AbstractState, values: Operands) -> AbstractState
-    ensures { λ r. ⌜ outcomeOf r ≡ then (outcomeOf state) (R.ret (operandsOf values)) ⌝ }
+pub fn ret(
+    locals: &[u32; LOCALS],
+    names: &mut [u32; MAX_NAMES],
+    edges: &mut [[u32; 10]; MAX_EDGES],
+    state: AbstractState,
+    values: Operands,
+) -> AbstractState
+    ensures { λ r. ⌜ Does (R.ret (operandsOf values)) (words (now (locals .entry)) (now (names .entry)) (now (edges .entry)) state) (words (now (locals .entry)) (now (names .exit)) (now (edges .exit)) r) ⌝ }
 {
-    let locals = state.locals;
-    let held = local_ids(locals, state.num_locals);
-    let s = held.release_all(state);
-    let b = s.is_frame_safe_to_destroy();
-    let t = s.fail(
-        Told {
+    let released = local_ids(locals, state.num_locals);
+    let s = released.release_all(names, edges, state);
+    let t = fail_frame(names, edges, s);
+    hand_over(names, edges, t, values, RET_BORROWED_MUTABLE_REFERENCE)
+}
+
+// Nothing of the frame may be borrowed when it ends.
+fn fail_frame(
+    names: &[u32; MAX_NAMES],
+    edges: &[[u32; 10]; MAX_EDGES],
+    state: AbstractState,
+) -> AbstractState
+    ensures { λ r. ⌜ ((ls : List ℕ) → Does framed (words ls (now (names .entry)) (now (edges .entry)) state) (words ls (now (names .entry)) (now (edges .entry)) r)) ⌝ }
+{
+    let b = is_frame_safe_to_destroy(names, edges, state);
+    violate_if(
+        state,
+        YesOrNo {
             refusal: b.refusal,
             yes: !b.yes,
         },
-        113,
-    );
-    hand_over(t, values, 114)
+        UNSAFE_RET,
+    )
 }
 
 // A call fails on a borrow of any number that it acquires.
-fn fail_acquired(state: AbstractState, acquired: [u16; 16], count: usize) -> AbstractState
-    ensures { λ r. ⌜ outcomeOf r ≡ then (outcomeOf state) (λ s. notAcquired (take count acquired) s (done s)) ⌝ }
+fn fail_acquired(
+    names: &[u32; MAX_NAMES],
+    edges: &[[u32; 10]; MAX_EDGES],
+    state: AbstractState,
+    acquired: [u16; 16],
+    count: usize,
+) -> AbstractState
+    ensures { λ r. ⌜ ((ls : List ℕ) → Does (acquiring (take count acquired)) (words ls (now (names .entry)) (now (edges .entry)) state) (words ls (now (names .entry)) (now (edges .entry)) r)) ⌝ }
 {
     let n = lesser(count, 16);
     let mut s = state;
     let mut i: usize = 0;
     while i < n {
-        s = fail_global(s, acquired[i]);
+        s = fail_global(names, edges, s, acquired[i]);
         i += 1;
     }
-    heed_root(s)
+    ask_root(names, s)
 }
 
-fn fail_global(state: AbstractState, resource: u16) -> AbstractState
-    ensures { λ r. ⌜ outcomeOf r ≡ then (outcomeOf state) (λ s. notAcquired (resource ∷ []) s (done s)) ⌝ }
+fn fail_global(
+    names: &[u32; MAX_NAMES],
+    edges: &[[u32; 10]; MAX_EDGES],
+    state: AbstractState,
+    resource: u16,
+) -> AbstractState
+    ensures { λ r. ⌜ ((ls : List ℕ) → Does (acquiring (resource ∷ [])) (words ls (now (names .entry)) (now (edges .entry)) state) (words ls (now (names .entry)) (now (edges .entry)) r)) ⌝ }
 {
-    let b = state.is_global_borrowed(resource);
-    state.fail(b, 109)
+    let b = is_global_borrowed(names, edges, state, resource);
+    violate_if(state, b, GLOBAL_REFERENCE)
 }
 
 // Refused where the root cannot be asked.
-fn heed_root(state: AbstractState) -> AbstractState
-    ensures { λ r. ⌜ outcomeOf r ≡ then (outcomeOf state) (λ s. notAcquired [] s (done s)) ⌝ }
+fn ask_root(names: &[u32; MAX_NAMES], state: AbstractState) -> AbstractState
+    ensures { λ r. ⌜ ((ls : List ℕ) (es : List (List ℕ)) → Does (acquiring []) (words ls (now (names .entry)) es state) (words ls (now (names .entry)) es r)) ⌝ }
 {
-    let root = state.frame_root();
-    let m = state.is_mutable(root);
-    state.heed(m)
+    let root = frame_root(state);
+    let m = is_mutable(names, state, root);
+    pass_refusal(state, m)
 }
 
 // References go to a callee or to the caller: the violation, where a mutable one is borrowed.
-fn hand_over(state: AbstractState, values: Operands, code: u8) -> AbstractState
+fn hand_over(
+    names: &[u32; MAX_NAMES],
+    edges: &[[u32; 10]; MAX_EDGES],
+    state: AbstractState,
+    values: Operands,
+    code: u8,
+) -> AbstractState
     requires { ⌜ (code ≡ 0 → ⊥) ⌝ }
-    ensures { λ r. ⌜ outcomeOf r ≡ then (outcomeOf state) (λ s. handOver (operandNames (operandsOf values)) code s (done s)) ⌝ }
+    ensures { λ r. ⌜ ((ls : List ℕ) → Does (handing code (operandsOf values)) (words ls (now (names .entry)) (now (edges .entry)) state) (words ls (now (names .entry)) (now (edges .entry)) r)) ⌝ }
 {
-    let n = lesser(values.len as usize, 16);
+    let n = lesser(values.len, MAX_OPERANDS);
     let mut s = state;
     let mut i: usize = 0;
     while i < n {
-        let x = values.list[i];
-        let v = x.0;
-        s = hand_value(s, v, code);
+        let v = value_of(values.list[i]);
+        s = hand_value(names, edges, s, v, code);
         i += 1;
     }
     s
 }
 
-fn hand_value(state: AbstractState, v: AbstractValue, code: u8) -> AbstractState
+fn hand_value(
+    names: &[u32; MAX_NAMES],
+    edges: &[[u32; 10]; MAX_EDGES],
+    state: AbstractState,
+    v: AbstractValue,
+    code: u8,
+) -> AbstractState
     requires { ⌜ (code ≡ 0 → ⊥) ⌝ }
-    ensures { λ r. ⌜ outcomeOf r ≡ then (outcomeOf state) (λ s. handOver (operandNames (operandOf v ∷ [])) code s (done s)) ⌝ }
+    ensures { λ r. ⌜ ((ls : List ℕ) → Does (handing code (operandOf v ∷ [])) (words ls (now (names .entry)) (now (edges .entry)) state) (words ls (now (names .entry)) (now (edges .entry)) r)) ⌝ }
 {
     match v {
         AbstractValue::Reference(id) => {
-            let m = state.is_mutable(id);
-            let w = state.is_writable(id);
-            state.fail(
-                Told {
+            let m = is_mutable(names, state, id);
+            let w = is_writable(names, edges, state, id);
+            violate_if(
+                state,
+                YesOrNo {
                     refusal: w.refusal,
                     yes: m.yes & !w.yes,
                 },
@@ -134,44 +206,59 @@ fn hand_value(state: AbstractState, v: AbstractValue, code: u8) -> AbstractState
 }
 
 fn return_values(
+    names: &mut [u32; MAX_NAMES],
+    edges: &mut [[u32; 10]; MAX_EDGES],
     state: AbstractState,
     tokens: [u8; 16],
     count: usize,
     mutable: Ids,
     all: Ids,
 ) -> Called
-    ensures { λ r. ⌜ calledOf r ≡ then (outcomeOf state) (returnValues (map tokenAs (take count tokens)) (idsOf mutable) (idsOf all)) ⌝ }
+    ensures { λ r. ⌜ ((ls : List ℕ) → Calls (returnValues (map tokenAs (take count tokens)) (idsOf mutable) (idsOf all)) (words ls (now (names .entry)) (now (edges .entry)) state) (words ls (now (names .exit)) (now (edges .exit)) (r .state)) (operandsOf (r .values))) ⌝ }
 {
-    let n = lesser(count, 16);
-    let mut list = [Operand(AbstractValue::NonReference); 16];
+    let n = lesser(count, MAX_OPERANDS);
+    let mut list = [0u32; MAX_OPERANDS];
     let mut s = state;
     let mut i: usize = 0;
     while i < n {
-        s = return_value(s, tokens[i], mutable, all);
+        s = return_value(names, edges, s, tokens[i], mutable, all);
         let v = s.value;
-        list[i] = Operand(v);
+        list[i] = value_word(v);
         i += 1;
     }
-    let values = Operands { list, len: n as u8 };
+    let values = Operands { list, len: n };
     Called { state: s, values }
 }
 
 // The value that a token stands for. A mutable reference borrows from the mutable arguments, another one from all.
-fn return_value(state: AbstractState, token: u8, mutable: Ids, all: Ids) -> AbstractState
-    ensures { λ r. ⌜ oneOf r ≡ then (outcomeOf state) (returnValues (tokenAs token ∷ []) (idsOf mutable) (idsOf all)) ⌝ }
+fn return_value(
+    names: &mut [u32; MAX_NAMES],
+    edges: &mut [[u32; 10]; MAX_EDGES],
+    state: AbstractState,
+    token: u8,
+    mutable: Ids,
+    all: Ids,
+) -> AbstractState
+    ensures { λ r. ⌜ ((ls : List ℕ) → Calls (returnValues (tokenAs token ∷ []) (idsOf mutable) (idsOf all)) (words ls (now (names .entry)) (now (edges .entry)) state) (words ls (now (names .exit)) (now (edges .exit)) r) (operandOf (r .value) ∷ [])) ⌝ }
 {
     match token {
-        0 => state.give(AbstractValue::NonReference),
-        2 => return_ref(state, true, mutable),
-        _ => return_ref(state, false, all),
+        0 => give(state, AbstractValue::NonReference),
+        2 => return_ref(names, edges, state, true, mutable),
+        _ => return_ref(names, edges, state, false, all),
     }
 }
 
-fn return_ref(state: AbstractState, mutable: bool, parents: Ids) -> AbstractState
-    ensures { λ r. ⌜ oneOf r ≡ then (outcomeOf state) (returnValues (ofRef mutable ∷ []) (idsOf parents) (idsOf parents)) ⌝ }
+fn return_ref(
+    names: &mut [u32; MAX_NAMES],
+    edges: &mut [[u32; 10]; MAX_EDGES],
+    state: AbstractState,
+    mutable: bool,
+    parents: Ids,
+) -> AbstractState
+    ensures { λ r. ⌜ ((ls : List ℕ) → Calls (returnValues (ofRef mutable ∷ []) (idsOf parents) (idsOf parents)) (words ls (now (names .entry)) (now (edges .entry)) state) (words ls (now (names .exit)) (now (edges .exit)) r) (operandOf (r .value) ∷ [])) ⌝ }
 {
-    let id = state.fresh();
-    let s = state.new_ref(mutable);
-    let t = parents.lend_all(s, id);
-    t.give(AbstractValue::Reference(id))
+    let id = fresh(state);
+    let s = new_ref(names, state, mutable);
+    let t = parents.lend_all(names, edges, s, id);
+    give(t, AbstractValue::Reference(id))
 }

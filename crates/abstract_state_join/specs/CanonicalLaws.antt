@@ -6,7 +6,7 @@ use mathlib.Core.Path.{_≡_, refl, sym, ap, _∙_}
 use mathlib.Core.Bool.{Bool, true, false, _&&_, _||_, cond}
 use mathlib.Core.List.{List, [], _∷_}
 use lib.Dec.{eqb, ltb}
-use Rattle.meaning.specs.Answers.{ok, refuse, then}
+use Rattle.meaning.specs.Answers.{ok, refuse, Outcome, done, violated, refused, then}
 use Rattle.meaning.specs.Lists.{any}
 use Rattle.meaning.specs.Laws.Base.{decide, and-l, and-r, eqb-eq, eqb-self, eqb-no, eqb-ne}
 use Rattle.meaning.specs.BorrowGraph.{Graph, renamed, nameAfter}
@@ -115,6 +115,15 @@ module _ (l : ℕ) (s : State) where
   canonical-ok xs g e p q =
       let r : renamed (newNameOf l (s .locals)) (s .graph) ≡ g = sym (q ∙ (λ i. renamed (λ n. new-name l (s .locals) n i) (s .graph))) in
       rw e (λ i. ok (record { locals = sym p i; graph = r i }))
+
+-- a stopped state stays as it is
+pub stays : (v n : ℕ) (r : Running) (f : Running → Outcome Running) → eqb v 0 && eqb n 0 ≡ false → halted v n r ≡ then (halted v n r) f
+stays v n r f e = go (eqb v 0) (eqb n 0) e
+  where
+    go : (x y : Bool) → x && y ≡ false → cond x (cond y (done r) (refused n)) (violated v) ≡ then (cond x (cond y (done r) (refused n)) (violated v)) f
+    go true true e = let w : _≡_ {A = ℕ} 0 1 = cc in absurd (omega arith)
+    go true false e = refl
+    go false y e = refl
 
 -- a state that goes on: refused with 16, or renamed
 pub end-16 : (v n : ℕ) (r q : Running) → eqb v 0 && eqb n 0 ≡ true → canonical (r .root) (record { locals = r .locals; graph = r .graph }) ≡ refuse 16 → halted v 16 q ≡ then (halted v n r) canonicalEnd

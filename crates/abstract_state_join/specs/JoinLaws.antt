@@ -1,14 +1,14 @@
 -- The join, local by local, and whether it changed the state.
-use Prim.Native.Nat.{ℕ, _+_, _<_}
+use Prim.Native.Nat.{ℕ, _+_, _<_, _≤_}
 use native.Mathlib.Omega.{arith}
 use mathlib.Core.Path.{_≡_, refl, sym, ap, _∙_, subst}
 use mathlib.Core.Logic.{_⊎_, inl, inr}
 use mathlib.Core.Bool.{Bool, true, false, not, _&&_, _||_, cond}
 use mathlib.Core.List.{List, [], _∷_, _++_, map, append-nil}
 use lib.Dec.{eqb}
-use lib.ListN.{length, take, set}
+use lib.ListN.{length, take, drop, getD, set}
 use lib.Seq.{append-snoc}
-use Rattle.meaning.specs.Answers.{Ans, ok, refuse, andThen, guard, leaves}
+use Rattle.meaning.specs.Answers.{Ans, ok, refuse, andThen, guard}
 use Rattle.meaning.specs.Lists.{all, empty}
 use Rattle.meaning.specs.Laws.Base.{and-l, and-i, or-l, or-r, andThen-ok, guard-ok, ok-inj, eqb-self}
 use Rattle.meaning.specs.Laws.Array.{push-map}
@@ -19,13 +19,13 @@ use Rattle.meaning.specs.AbstractState.{State, Step, absent, joinLocal, joinLoc
 use Rattle.meaning.specs.Laws.State.{Joined, join-law}
 use Rattle.meaning.specs.Laws.Change.{leq, rustChanged, changed-is-rust, eqLocals-eq}
 use Rattle.meaning.specs.EntryPoints as R
-use Rattle.borrow_graph.specs.Models.{told}
-use Rattle.borrow_graph.specs.ModelLaws.{told-no, told-on, told-off}
+use Rattle.references.specs.Models.{told}
+use Rattle.references.specs.ModelLaws.{told-on, told-off}
 use Rattle.references.specs.declared.RefID.{RefID}
-use Rattle.abstract_state.specs.Models.{localOf, stateOf}
-use Rattle.abstract_state.specs.declared.state.Local.{Local}
-use Rattle.abstract_state.specs.declared.state.AbstractState.{AbstractState}
-use Rattle.abstract_state_join.specs.Models.{heldBy, acted, stepBy, Joins}
+use Rattle.meaning.specs.Area.{localIn}
+use Rattle.abstract_state.specs.Models.{localOf, localsIn}
+use Rattle.abstract_state_join.specs.Models.{heldBy, acted, stepBy}
+use Rattle.abstract_state_join.specs.LocalLaws.{local-next, unread}
 use Rattle.abstract_state_join.specs.declared.join.Meeting.{Meeting}
 use Rattle.abstract_state_join.specs.declared.join.Action.{Action}
 use Rattle.abstract_state_join.specs.declared.join.Action.the-variants.{ReleaseOurs, ReleaseTheirs}
@@ -143,8 +143,8 @@ start (ok r) = refl
 start (refuse n) = refl
 
 -- one more local is written
-pub front-next : (out : List Local) (i : ℕ) (x : Local) → i < length out → map localOf (take (i + 1) (set out i x)) ≡ map localOf (take i out) ++ (localOf x ∷ [])
-front-next out i x h = sym (append-nil (map localOf (take (i + 1) (set out i x)))) ∙ push-map localOf out i (i + 1) x [] refl h
+pub front-next : (out : List ℕ) (i w : ℕ) → i < length out → map localIn (take (i + 1) (set out i w)) ≡ map localIn (take i out) ++ (localIn w ∷ [])
+front-next out i w h = sym (append-nil (map localIn (take (i + 1) (set out i w)))) ∙ push-map localIn out i (i + 1) w [] refl h
 
 -- the rest after a local's step
 abbrev on : List S.Local → List S.Local → List S.Local → Step → Ans S.Parts
@@ -174,6 +174,18 @@ module _ (as′ bs : List S.Local) (a b : S.Local) (xs ys : List S.Local) (g h :
 
     pub turn-off : (n ≡ 0 → ⊥) → (p : S.Parts) → told n p ≡ j
     turn-off z p = told-off n s (joinLocal a b g h) (on pre xs ys) j e turned z p
+
+-- a turn of the loop: the local at i is written, its step is told by a number and the graphs
+module _ (ls ls₂ : List ℕ) (n m i w : ℕ) (g h : Graph) (j : Ans S.Parts) (l : length ls ≡ 16) (l₂ : length ls₂ ≡ 16) (hn : n ≤ 16) (hm : m ≤ 16) (hi : i < n) (hj : i < m)
+    (inv : andThen (joinLocals (drop i (localsIn ls n)) (drop i (localsIn ls₂ m)) g h) (after (map localIn (take i ls))) ≡ j) (k : ℕ) (g′ h′ : Graph)
+    (e : told {A = Step} k (record { local = localIn w; ours = g′; theirs = h′ }) ≡ joinLocal (localIn (getD ls i 0)) (localIn (getD ls₂ i 0)) g h) where
+  pub goes-on : k ≡ 0 → andThen (joinLocals (drop (i + 1) (localsIn (set ls i w) n)) (drop (i + 1) (localsIn ls₂ m)) g′ h′) (after (map localIn (take (i + 1) (set ls i w)))) ≡ j
+  goes-on z =
+      ap (λ (zs : List S.Local). andThen (joinLocals zs (drop (i + 1) (localsIn ls₂ m)) g′ h′) (after (map localIn (take (i + 1) (set ls i w))))) (unread ls n i w)
+      ∙ turn-on (drop i (localsIn ls n)) (drop i (localsIn ls₂ m)) (localIn (getD ls i 0)) (localIn (getD ls₂ i 0)) (drop (i + 1) (localsIn ls n)) (drop (i + 1) (localsIn ls₂ m)) g h (map localIn (take i ls)) j (local-next ls n n l (omega arith) i hi) (local-next ls₂ m m l₂ (omega arith) i hj) inv k (record { local = localIn w; ours = g′; theirs = h′ }) e z _ (front-next ls i w (omega arith))
+
+  pub ends : (k ≡ 0 → ⊥) → (p : S.Parts) → told k p ≡ j
+  ends z p = turn-off (drop i (localsIn ls n)) (drop i (localsIn ls₂ m)) (localIn (getD ls i 0)) (localIn (getD ls₂ i 0)) (drop (i + 1) (localsIn ls n)) (drop (i + 1) (localsIn ls₂ m)) g h (map localIn (take i ls)) j (local-next ls n n l (omega arith) i hi) (local-next ls₂ m m l₂ (omega arith) i hj) inv k (record { local = localIn w; ours = g′; theirs = h′ }) e z p
 
 one-left : (as′ bs : List S.Local) (g h : Graph) → (length as′ ≡ 0) ⊎ (length bs ≡ 0) → (length as′ ≡ length bs → ⊥) → joinLocals as′ bs g h ≡ refuse 9
 unfolding joinLocals
@@ -207,13 +219,13 @@ module _ (s o : State) where
       ap (λ (r : Ans S.Parts). andThen r (λ q. andThen (joinGraphs (q .ours) (q .theirs)) (λ g. ok (record { locals = q .locals; graph = g })))) e
       ∙ ap (λ (b : Ans Graph). andThen b (λ g. ok (record { locals = p .locals; graph = g }))) f
 
-pub joins-refused : (s o : AbstractState) (n : ℕ) → (n ≡ 0 → ⊥) → join (stateOf s) (stateOf o) ≡ refuse n → Joins s o n s
-joins-refused s o n z e = record {
-  answer = told-no n (stateOf s) z ∙ sym e;
-  left = ap (leaves (stateOf s)) (sym e);
-  rest = refl;
-  stop = (refl, refl);
-}
+-- a graph that is told, and the state with it
+pub told-state : (n : ℕ) (xs : List S.Local) (g : Graph) → told {A = State} n (record { locals = xs; graph = g }) ≡ andThen (told n g) (λ k. ok (record { locals = xs; graph = k }))
+told-state n xs g = go (eqb n 0)
+  where
+    go : (b : Bool) → cond {A = Ans State} b (ok (record { locals = xs; graph = g })) (refuse n) ≡ andThen (cond {A = Ans Graph} b (ok g) (refuse n)) (λ k. ok (record { locals = xs; graph = k }))
+    go true = refl
+    go false = refl
 
 -- ---- whether it changed the state
 

@@ -3,15 +3,18 @@ use Prim.Native.Nat.{ℕ, suc}
 use mathlib.Core.Path.{_≡_}
 use mathlib.Core.Bool.{Bool, false, cond}
 use mathlib.Core.List.{List, [], _∷_}
+use lib.ListN.{length}
+use Rattle.meaning.specs.Limits.{maxLocals}
 use Rattle.meaning.specs.Answers.{Ans, ok, refuse, andThen, Outcome, done, then, lift, leaves}
 use Rattle.meaning.specs.BorrowGraph.{Graph, release, Change}
 use Rattle.meaning.specs.AbstractState as S
-use Rattle.meaning.specs.AbstractState.{State, Step, absent, value, ref, join, changed, canonical, Operand, nonRef, reference, Token, ofValue, ofRef, firstState}
+use Rattle.meaning.specs.AbstractState.{State, Step, absent, value, ref, joinLocals, join, changed, canonical, Operand, nonRef, reference, Token, ofValue, ofRef, firstState}
 use Rattle.meaning.specs.EntryPoints.{Running}
 use Rattle.meaning.specs.Blocks.{startMachine}
-use Rattle.borrow_graph.specs.Models.{graphOf, told}
-use Rattle.abstract_state.specs.Models.{localOf, localsIn, runningOf, stateOf}
-use Rattle.abstract_state.specs.declared.state.AbstractState.{AbstractState}
+use Rattle.references.specs.Models.{told}
+use Rattle.borrow_graph.specs.Models.{graphIn, Tells}
+use Rattle.borrow_graph.specs.declared.graph.BorrowGraph.{BorrowGraph}
+use Rattle.abstract_state.specs.Models.{localOf, localsIn, Words, Fits, runningOf, stateOf}
 use Rattle.abstract_state_join.specs.declared.join.Action.{Action}
 use Rattle.abstract_state_join.specs.declared.join.Action.the-variants.{ReleaseOurs, ReleaseTheirs, Refuse}
 use Rattle.abstract_state_join.specs.declared.join.Meeting.{Meeting}
@@ -54,9 +57,6 @@ renames i (ref n ∷ xs) = record { old = n; new = i } ∷ renames (suc i) xs
 
 -- ---- the join
 
-abbrev pub stepOf : Parts → S.Local → Step
-stepOf p l = record { local = l; ours = graphOf (p .ours); theirs = graphOf (p .theirs) }
-
 -- what is left of two locals, and an action on the graphs
 abbrev pub acted : S.Local → Action → Graph → Graph → Ans Step
 acted l (ReleaseOurs n) g h = andThen (release g (n .0)) (λ g′. ok (record { local = l; ours = g′; theirs = h }))
@@ -66,19 +66,38 @@ acted l Refuse g h = refuse 15
 abbrev pub stepBy : Meeting → Graph → Graph → Ans Step
 stepBy m g h = cond (m .idle) (ok (record { local = localOf (m .local); ours = g; theirs = h })) (acted (localOf (m .local)) (m .action) g h)
 
--- the first n locals
-abbrev pub partsOf : Parts → ℕ → S.Parts
-partsOf p n = record { locals = localsIn (p .locals) n; ours = graphOf (p .ours); theirs = graphOf (p .theirs) }
+-- The action on the two graphs, in their arrays.
+pub record Acts (action : Action) (ns : List ℕ) (es : List (List ℕ)) (g : BorrowGraph) (ns₂ : List ℕ) (es₂ : List (List ℕ)) (h : BorrowGraph)
+    (ns′ : List ℕ) (es′ : List (List ℕ)) (ns₂′ : List ℕ) (es₂′ : List (List ℕ)) (r : Parts) : Type 0 where
+  pub step : (l : S.Local) → told {A = Step} (r .refusal) (record { local = l; ours = graphIn ns′ es′ (r .ours); theirs = graphIn ns₂′ es₂′ (r .theirs) }) ≡ acted l action (graphIn ns es g) (graphIn ns₂ es₂ h)
+  pub ours : Tells ns′ es′ (r .ours)
+  pub theirs : Tells ns₂′ es₂′ (r .theirs)
+
+-- The locals of a and b joined, in their arrays.
+pub record LocalsJoin (a b : Words) (ls′ ns′ : List ℕ) (es′ : List (List ℕ)) (ns₂′ : List ℕ) (es₂′ : List (List ℕ)) (r : Parts) : Type 0 where
+  pub parts : told {A = S.Parts} (r .refusal) (record { locals = localsIn ls′ (a .state .«num_locals»); ours = graphIn ns′ es′ (r .ours); theirs = graphIn ns₂′ es₂′ (r .theirs) })
+      ≡ joinLocals (runningOf a .locals) (runningOf b .locals) (runningOf a .graph) (runningOf b .graph)
+  pub locals : length ls′ ≡ maxLocals
+  pub ours : Tells ns′ es′ (r .ours)
+  pub theirs : Tells ns₂′ es₂′ (r .theirs)
 
 abbrev pub withState : Running → State → Running
 withState r s = record { locals = s .locals; graph = s .graph; next = r .next; root = r .root }
 
--- A join with the refusal n (0: none) left the state t. Of both states, stopped or not, only locals and graph count; all else of the first is kept.
-pub record Joins (s o : AbstractState) (n : ℕ) (t : AbstractState) : Type 0 where
-  pub answer : told n (stateOf t) ≡ join (stateOf s) (stateOf o)
-  pub left : stateOf t ≡ leaves (stateOf s) (join (stateOf s) (stateOf o))
-  pub rest : runningOf t ≡ withState (runningOf s) (stateOf t)
-  pub stop : (t .violation ≡ s .violation) × (t .refusal ≡ s .refusal)
+-- A join of b into a with the refusal n (0: none) came to t. Of both, stopped or not, only locals and graph count; all else of the first is kept.
+pub record Merges (a b : Words) (n : ℕ) (t : Words) : Type 0 where
+  pub answer : told n (stateOf t) ≡ join (stateOf a) (stateOf b)
+  pub fits : n ≡ 0 → Fits t
+  pub rest : runningOf t ≡ withState (runningOf a) (stateOf t)
+  pub stop : (t .state .violation ≡ a .state .violation) × (t .state .refusal ≡ a .state .refusal)
+
+-- The same, and refused, the first state is left.
+pub record Joins (a b : Words) (n : ℕ) (t : Words) : Type 0 where
+  pub answer : told n (stateOf t) ≡ join (stateOf a) (stateOf b)
+  pub left : stateOf t ≡ leaves (stateOf a) (join (stateOf a) (stateOf b))
+  pub fits : Fits t
+  pub rest : runningOf t ≡ withState (runningOf a) (stateOf t)
+  pub stop : (t .state .violation ≡ a .state .violation) × (t .state .refusal ≡ a .state .refusal)
 
 -- a refused join changes nothing
 abbrev pub changedBy : State → Ans State → Bool

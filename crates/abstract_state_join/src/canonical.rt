@@ -1,31 +1,46 @@
-// The end of a block with successors: each local's reference takes the local's index for its name.
+// The end of a block with successors: each local's reference takes the local's index for its name. Where each stands in the Rust
+// (abstract_state.rs):
+//
+//   here                        the Rust
+//   construct_canonical_state   584 `construct_canonical_state`
+//   id_map                      its `id_map`, 585 to 602
+//   own_names, own_name         its `locals`, 587 to 602
+//   crosses, crossed            whether `remap_refs` would overwrite a name: the refusal 16
 use crate::locals::count;
 use crate::locals::value_of;
 use abstract_state::state::AbstractState;
 use abstract_state::state::AbstractValue;
+use abstract_state::state::LOCALS;
 use abstract_state::state::Local;
+use abstract_state::words::local_of;
+use abstract_state::words::local_word;
 use borrow_graph::remap::IdMap;
 use borrow_graph::remap::IdPair;
+use borrow_graph::remap::renamed;
+use meaning::MAX_EDGES;
+use meaning::MAX_NAMES;
 use references::RefID;
 ghost use mathlib.Core.Path.{_≡_};
 ghost use mathlib.Core.List.{_∷_};
 ghost use Prim.Native.Nat.{_<_};
+ghost use lib.ListN.{length};
+ghost use Rattle.meaning.specs.Limits.{maxLocals};
 ghost use Rattle.meaning.specs.Lists.{any};
 ghost use Rattle.meaning.specs.AbstractState as S;
 ghost use Rattle.meaning.specs.AbstractState.{eqLocal, ownNames};
-ghost use Rattle.meaning.specs.Answers.{then};
 ghost use Rattle.borrow_graph.specs.Models.{mapOf};
-ghost use Rattle.abstract_state.specs.Models.{localOf, localsIn, outcomeOf};
+ghost use Rattle.abstract_state.specs.Models.{localOf, localsIn, words, Does};
 ghost use Rattle.abstract_state_join.specs.Models.{canonicalEnd, ownName, renames};
 
 // Whether some local holds the name.
-fn is_named(locals: [Local; 16], n: u8, id: RefID) -> bool
-    ensures { λ r. ⌜ r ≡ any (λ y. eqLocal y (S.Local.ref (id .0))) (localsIn locals n) ⌝ }
+fn is_named(locals: &[u32; LOCALS], n: u8, id: RefID) -> bool
+    ensures { λ r. ⌜ (length (now (locals .entry)) ≡ maxLocals → r ≡ any (λ y. eqLocal y (S.Local.ref (id .0))) (localsIn (now (locals .entry)) n)) ⌝ }
 {
     let k = count(n);
     let mut i: usize = 0;
     while i < k {
-        let v = value_of(locals[i]);
+        let x = local_of(locals[i]);
+        let v = value_of(x);
         match v {
             AbstractValue::Reference(held) => {
                 if held.0 == id.0 {
@@ -42,9 +57,9 @@ fn is_named(locals: [Local; 16], n: u8, id: RefID) -> bool
 }
 
 // The local at the index holds a name below the index, and some local holds the index as its name.
-fn crossed(locals: [Local; 16], n: u8, x: Local, i: usize) -> bool
+fn crossed(locals: &[u32; LOCALS], n: u8, x: Local, i: usize) -> bool
     requires { ⌜ i < 16 ⌝ }
-    ensures { λ r. ⌜ r ≡ S.crossed (localsIn locals n) i (localOf x) ⌝ }
+    ensures { λ r. ⌜ (length (now (locals .entry)) ≡ maxLocals → r ≡ S.crossed (localsIn (now (locals .entry)) n) i (localOf x)) ⌝ }
 {
     let v = value_of(x);
     match v {
@@ -60,13 +75,14 @@ fn crossed(locals: [Local; 16], n: u8, x: Local, i: usize) -> bool
 }
 
 // The test for 16.
-fn crosses(locals: [Local; 16], n: u8) -> bool
-    ensures { λ r. ⌜ r ≡ S.crosses (localsIn locals n) 0 (localsIn locals n) ⌝ }
+fn crosses(locals: &[u32; LOCALS], n: u8) -> bool
+    ensures { λ r. ⌜ (length (now (locals .entry)) ≡ maxLocals → r ≡ S.crosses (localsIn (now (locals .entry)) n) 0 (localsIn (now (locals .entry)) n)) ⌝ }
 {
     let k = count(n);
     let mut i: usize = 0;
     while i < k {
-        if crossed(locals, n, locals[i], i) {
+        let x = local_of(locals[i]);
+        if crossed(locals, n, x, i) {
             return true;
         }
         i += 1;
@@ -75,19 +91,20 @@ fn crosses(locals: [Local; 16], n: u8) -> bool
 }
 
 // The root keeps its name; a local's reference gets the local's index.
-fn id_map(locals: [Local; 16], n: u8, root: RefID) -> IdMap
-    ensures { λ r. ⌜ mapOf r ≡ record { old = root .0; new = root .0 } ∷ renames 0 (localsIn locals n) ⌝ }
+fn id_map(locals: &[u32; LOCALS], n: u8, root: RefID) -> IdMap
+    ensures { λ r. ⌜ (length (now (locals .entry)) ≡ maxLocals → mapOf r ≡ record { old = root .0; new = root .0 } ∷ renames 0 (localsIn (now (locals .entry)) n)) ⌝ }
 {
     let kept = IdPair {
         old: root,
         new: root,
     };
-    let mut list = [kept; 48];
+    let mut list = [kept; MAX_NAMES];
     let mut len: usize = 1;
     let k = count(n);
     let mut i: usize = 0;
     while i < k {
-        let v = value_of(locals[i]);
+        let x = local_of(locals[i]);
+        let v = value_of(x);
         match v {
             AbstractValue::Reference(held) => {
                 let pair = IdPair {
@@ -124,37 +141,40 @@ fn own_name(x: Local, i: usize) -> Local
     }
 }
 
-fn own_names(locals: [Local; 16], n: u8) -> [Local; 16]
-    ensures { λ r. ⌜ localsIn r n ≡ ownNames 0 (localsIn locals n) ⌝ }
+fn own_names(locals: &mut [u32; LOCALS], n: u8)
+    ensures { λ _. ⌜ (length (now (locals .entry)) ≡ maxLocals → (localsIn (now (locals .exit)) n ≡ ownNames 0 (localsIn (now (locals .entry)) n)) × (length (now (locals .exit)) ≡ maxLocals)) ⌝ }
 {
     let k = count(n);
-    let mut out = locals;
     let mut i: usize = 0;
     while i < k {
-        let x = own_name(locals[i], i);
-        out[i] = x;
+        let x = local_of(locals[i]);
+        let y = own_name(x, i);
+        let w = local_word(y);
+        locals[i] = w;
         i += 1;
     }
-    out
 }
 
 // 16 where renaming one by one would overwrite a name. Fresh names start behind the root's again.
-pub fn construct_canonical_state(state: AbstractState) -> AbstractState
-    ensures { λ r. ⌜ outcomeOf r ≡ then (outcomeOf state) canonicalEnd ⌝ }
+pub fn construct_canonical_state(
+    locals: &mut [u32; LOCALS],
+    names: &mut [u32; MAX_NAMES],
+    edges: &mut [[u32; 10]; MAX_EDGES],
+    state: AbstractState,
+) -> AbstractState
+    ensures { λ r. ⌜ Does canonicalEnd (words (now (locals .entry)) (now (names .entry)) (now (edges .entry)) state) (words (now (locals .exit)) (now (names .exit)) (now (edges .exit)) r) ⌝ }
 {
     if (state.violation == 0) & (state.refusal == 0) {
         let mut s = state;
         let n = state.num_locals;
-        let locals = state.locals;
         if crosses(locals, n) {
             s.refusal = 16;
             return s;
         }
         let map = id_map(locals, n, RefID(n as u16));
-        let own = own_names(locals, n);
+        own_names(locals, n);
         let g = state.borrow_graph;
-        let h = g.renamed(map);
-        s.locals = own;
+        let h = renamed(names, edges, g, map);
         s.borrow_graph = h;
         s.next_id = n as u32 + 1;
         return s;

@@ -1,21 +1,26 @@
-// The state of a routine's start: the parameters present, the root held, no edges.
+// The state of a routine's start: the parameters present, the root held, no edges. `new` is abstract_state.rs, 82 `new`.
 use crate::locals;
 use crate::locals::absent;
 use abstract_state::state::AbstractState;
 use abstract_state::state::AbstractValue;
+use abstract_state::state::LOCALS;
 use abstract_state::state::Local;
+use abstract_state::words::local_word;
 use borrow_graph::graph::BorrowGraph;
+use meaning::MAX_NAMES;
 use meaning::lesser;
 use references::RefID;
+use references::words::name_word;
 ghost use mathlib.Core.Path.{_≡_};
-ghost use mathlib.Core.List.{[], map};
-ghost use Prim.Native.Nat.{_<_, _≤_, min};
-ghost use lib.ListN.{take, drop};
+ghost use mathlib.Core.List.{List, map};
+ghost use Prim.Native.Nat.{ℕ, _<_, _≤_, min};
+ghost use lib.ListN.{length, take, drop};
+ghost use Rattle.meaning.specs.Limits.{maxLocals, maxNames, maxEdges};
 ghost use Rattle.meaning.specs.AbstractState.{nonRef, firstLocals, firstNames};
 ghost use Rattle.meaning.specs.EntryPoints.{answer};
 ghost use Rattle.meaning.specs.Listing.{tokenAs};
-ghost use Rattle.borrow_graph.specs.Models.{graphOf};
-ghost use Rattle.abstract_state.specs.Models.{localOf, localsIn, answerOf};
+ghost use Rattle.references.specs.Models.{namesIn};
+ghost use Rattle.abstract_state.specs.Models.{localOf, localsIn, words, Fits, answerOf};
 ghost use Rattle.abstract_state_join.specs.Models.{firstRunning, firstAt};
 
 // The local at an index: the parameter that stands there, if there is one.
@@ -38,56 +43,68 @@ fn first_local(params: [u8; 16], count: usize, i: usize) -> Local
     absent()
 }
 
-fn first_locals(n: usize, params: [u8; 16], count: usize) -> [Local; 16]
+fn first_locals(locals: &mut [u32; LOCALS], n: usize, params: [u8; 16], count: usize)
     requires { ⌜ n ≤ 16 ⌝ }
-    ensures { λ r. ⌜ localsIn r n ≡ firstLocals 0 n (map tokenAs (take count params)) ⌝ }
+    ensures { λ _. ⌜ (length (now (locals .entry)) ≡ maxLocals → (localsIn (now (locals .exit)) n ≡ firstLocals 0 n (map tokenAs (take count params))) × (length (now (locals .exit)) ≡ maxLocals)) ⌝ }
 {
-    let mut out = [absent(); 16];
     let mut i: usize = 0;
     while i < n {
         let x = first_local(params, count, i);
-        out[i] = x;
+        let w = local_word(x);
+        locals[i] = w;
         i += 1;
     }
-    out
 }
 
-// The names of the references among the parameters, and the root's.
-fn first_graph(n: usize, params: [u8; 16], count: usize) -> BorrowGraph
+// The names of the references among the parameters, and the root's, ascending.
+fn first_names(names: &mut [u32; MAX_NAMES], n: usize, params: [u8; 16], count: usize) -> usize
     requires { ⌜ n ≤ 16 ⌝ }
-    ensures { λ r. ⌜ graphOf r ≡ record { names = firstNames 0 n (map tokenAs (take count params)); edges = [] } ⌝ }
+    ensures { λ r. ⌜ (r ≤ maxNames) × (length (now (names .entry)) ≡ maxNames → (namesIn (now (names .exit)) r ≡ firstNames 0 n (map tokenAs (take count params))) × (length (now (names .exit)) ≡ maxNames)) ⌝ }
 {
     let k = lesser(n, count);
-    let mut g = BorrowGraph::new();
+    let mut len: usize = 0;
     let mut i: usize = 0;
     while i < k {
         if params[i] == 0 {
             i += 1;
         } else {
-            let a = g.new_ref(RefID(i as u16), params[i] == 2);
-            let h = a.graph;
-            g = h;
+            let w = name_word(RefID(i as u16), params[i] == 2);
+            names[len] = w;
+            len += 1;
             i += 1;
         }
     }
-    let a = g.new_ref(RefID(n as u16), true);
-    a.graph
+    let root = name_word(RefID(n as u16), true);
+    names[len] = root;
+    len + 1
 }
 
-// The parameters' tokens are numbers as a listing has them, `count` of them. More than 16 locals count as 16.
-pub fn new(num_locals: u8, params: [u8; 16], count: usize) -> AbstractState
-    ensures { λ r. ⌜ answerOf r ≡ answer (firstRunning (min «num_locals» 16) (map tokenAs (take count params))) nonRef ⌝ }
+// The parameters' tokens are numbers as a listing has them, `count` of them. More than 16 locals count as 16. The rows are not touched:
+// there are no edges.
+pub fn new(
+    locals: &mut [u32; LOCALS],
+    names: &mut [u32; MAX_NAMES],
+    num_locals: u8,
+    params: [u8; 16],
+    count: usize,
+) -> AbstractState
+    ensures { λ r. ⌜ ((es : List (List ℕ)) → length (now (locals .entry)) ≡ maxLocals → length (now (names .entry)) ≡ maxNames → length es ≡ maxEdges →
+        Fits (words (now (locals .exit)) (now (names .exit)) es r)
+        × (answerOf (words (now (locals .exit)) (now (names .exit)) es r) ≡ answer (firstRunning (min «num_locals» 16) (map tokenAs (take count params))) nonRef)) ⌝ }
 {
     let n = locals::count(num_locals);
-    let locals = first_locals(n, params, count);
-    let g = first_graph(n, params, count);
+    first_locals(locals, n, params, count);
+    let refs = first_names(names, n, params, count);
     AbstractState {
         violation: 0,
         refusal: 0,
         value: AbstractValue::NonReference,
-        locals: locals,
         num_locals: n as u8,
         next_id: (n + 1) as u32,
-        borrow_graph: g,
+        borrow_graph: BorrowGraph {
+            refs: refs,
+            edges: 0,
+            formed: true,
+        },
     }
 }

@@ -1,4 +1,4 @@
-// The locals of a state.
+// The locals of a state (abstract_state.rs, 74).
 use abstract_state::state::AbstractValue;
 use abstract_state::state::Local;
 use meaning::MAX_LOCALS;

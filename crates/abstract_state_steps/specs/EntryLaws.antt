@@ -1,24 +1,26 @@
 -- The entry points as the code makes them: one call after the other, each on the state that the last one left.
-use Prim.Native.Nat.{ℕ}
+use Prim.Native.Nat.{ℕ, suc}
 use mathlib.Core.Path.{_≡_, refl, sym, ap, _∙_}
 use mathlib.Core.Bool.{Bool, true, false, not, _&&_, _||_, cond}
 use mathlib.Core.Option.{Option, none, some}
 use lib.Dec.{eqb, ltb}
 use lib.ListN.{getD}
-use Rattle.meaning.specs.Answers.{Ans, ok, refuse, guard, Outcome, done, violated, refused, then, fails, needs}
+use Rattle.meaning.specs.Answers.{Ans, ok, refuse, guard, Outcome, done, refused, then, lift, fails, needs}
 use Rattle.meaning.specs.Laws.Base.{ok-inj, refuse≢ok}
 use Rattle.meaning.specs.Labels.{localLabel, globalLabel, fieldLabel}
-use Rattle.meaning.specs.BorrowGraph.{Graph, wellFormed, held, isMutable, fullyBorrowed, borrowed, mutablyBorrowed}
+use Rattle.meaning.specs.BorrowGraph.{Graph, wellFormed, held, isMutable, fullyBorrowed, borrowed, mutablyBorrowed, newName}
 use Rattle.meaning.specs.BorrowGraph as L
 use Rattle.meaning.specs.AbstractState.{Local, absent, value, ref, Operand, nonRef, reference, ofRef}
-use Rattle.meaning.specs.EntryPoints.{needsName, Running, Answer, answer, withLocal, writable, readable, newRef, addCopy, addBorrow, addFieldBorrow, addLocalBorrow, addResourceBorrow, releaseName, valueFor, copyOf, copyLoc, moveOf, moveLoc, localOf, overwrite, stLoc, freezeRef, comparison, readRef, writeRef, borrowLoc, borrowField, borrowGlobal, moveFrom, vectorTest, vectorOp, vectorElementBorrow}
-use Rattle.borrow_graph.specs.Models.{told}
+use Rattle.meaning.specs.EntryPoints.{needsName, Running, Answer, answer, withLocal, writable, readable, newRef, addCopy, addBorrow, addFieldBorrow}
+use Rattle.meaning.specs.EntryPoints.{addLocalBorrow, addResourceBorrow, releaseName, valueFor, copyOf, copyLoc, moveOf, moveLoc, localOf, overwrite}
+use Rattle.meaning.specs.EntryPoints.{stLoc, freezeRef, comparison, readRef, writeRef, borrowLoc, borrowField, borrowGlobal, moveFrom, vectorTest}
+use Rattle.meaning.specs.EntryPoints.{vectorOp, vectorElementBorrow}
+use Rattle.references.specs.Models.{told}
 use Rattle.abstract_state.specs.Models as M
-use Rattle.abstract_state.specs.Models.{halted, heeding, failing, needing, operandOf}
+use Rattle.abstract_state.specs.Models.{heeding, failing, needing, operandOf}
 use Rattle.abstract_state.specs.declared.state.AbstractValue.{AbstractValue}
 use Rattle.abstract_state.specs.declared.state.Local as D
-use Rattle.abstract_state.specs.OutcomeLaws.{link, then-done, made}
-use Rattle.abstract_state.specs.ModelLaws.{here, then-then}
+use Rattle.abstract_state.specs.ModelLaws.{then-done}
 
 -- ---- questions of a name, on the state that was asked
 
@@ -100,6 +102,16 @@ needs-under {A} b c k l e = ap (λ (o : Outcome A). needs b c o) e
 
 -- ---- a new name, and what is done with it
 
+-- the name that the code foresees is the one that a new reference gets
+pub made : {A : Type 0} (m : Bool) (r : Running) (x : ℕ) (k : ℕ → Running → Outcome A) → x ≡ cond (ltb (r .next) 65536) (r .next) 0 → then (newRef m r) (k x) ≡ then (newRef m r) (k (r .next))
+unfolding newRef
+made {A} m r x k e = ap (λ (y : ℕ). then (newRef m r) (k y)) e ∙ go (ltb (r .next) 65536)
+  where
+    go : (b : Bool) → then (needs b 9 (then (lift (newName (r .graph) (r .next) m)) (λ g. done (record { locals = r .locals; graph = g; next = suc (r .next); root = r .root })))) (k (cond b (r .next) 0))
+        ≡ then (needs b 9 (then (lift (newName (r .graph) (r .next) m)) (λ g. done (record { locals = r .locals; graph = g; next = suc (r .next); root = r .root })))) (k (r .next))
+    go true = refl
+    go false = refl
+
 -- a new reference x borrows as `f` says, and is the answer
 abbrev pub lend : (ℕ → Running → Outcome Running) → ℕ → Running → Outcome Answer
 lend f x s = then (f x s) (λ t. answer t (reference x))
@@ -108,206 +120,163 @@ lend f x s = then (f x s) (λ t. answer t (reference x))
 abbrev pub pass : (ℕ → Running → Outcome Running) → ℕ → ℕ → Running → Outcome Answer
 pass f n x s = then (f x s) (λ t. then (releaseName n t) (λ u. answer u (reference x)))
 
-module _ (h : Outcome Running) (p : Running → Outcome Running) (m : Bool) (f : ℕ → Running → Outcome Running) (x : ℕ) (o₁ o₂ o₃ : Outcome Running) where
-  pub lends : (o : Outcome Answer) → o₁ ≡ then h p → o₂ ≡ then o₁ (newRef m) → o₃ ≡ then o₂ (f x) → o ≡ then o₃ (λ s. answer s (reference x))
-      → o ≡ then h (λ s. then (p s) (λ t. then (newRef m t) (lend f x)))
-  lends o e₁ e₂ e₃ e₄ =
-      let a : o₂ ≡ then h (λ s. then (p s) (newRef m)) = link h o₁ o₂ p (newRef m) e₁ e₂ in
-      let b : o ≡ then o₂ (lend f x) = link o₂ o₃ o (f x) (λ s. answer s (reference x)) e₃ e₄ in
-      link h o₂ o (λ s. then (p s) (newRef m)) (lend f x) a b ∙ again h
-    where
-      again : (i : Outcome Running) → then i (λ s. then (then (p s) (newRef m)) (lend f x)) ≡ then i (λ s. then (p s) (λ t. then (newRef m t) (lend f x)))
-      again (done s) = then-then (p s) (newRef m) (lend f x)
-      again (violated c) = refl
-      again (refused n) = refl
-
-  pub passes : (n : ℕ) (o₄ : Outcome Running) (o : Outcome Answer) → o₁ ≡ then h p → o₂ ≡ then o₁ (newRef m) → o₃ ≡ then o₂ (f x) → o₄ ≡ then o₃ (releaseName n) → o ≡ then o₄ (λ s. answer s (reference x))
-      → o ≡ then h (λ s. then (p s) (λ t. then (newRef m t) (pass f n x)))
-  passes n o₄ o e₁ e₂ e₃ e₄ e₅ =
-      let a : o₂ ≡ then h (λ s. then (p s) (newRef m)) = link h o₁ o₂ p (newRef m) e₁ e₂ in
-      let b : o ≡ then o₃ (λ s. then (releaseName n s) (λ u. answer u (reference x))) = link o₃ o₄ o (releaseName n) (λ s. answer s (reference x)) e₄ e₅ in
-      let d : o ≡ then o₂ (pass f n x) = link o₂ o₃ o (f x) (λ s. then (releaseName n s) (λ u. answer u (reference x))) e₃ b in
-      link h o₂ o (λ s. then (p s) (newRef m)) (pass f n x) a d ∙ again h
-    where
-      again : (i : Outcome Running) → then i (λ s. then (then (p s) (newRef m)) (pass f n x)) ≡ then i (λ s. then (p s) (λ t. then (newRef m t) (pass f n x)))
-      again (done s) = then-then (p s) (newRef m) (pass f n x)
-      again (violated c) = refl
-      again (refused k) = refl
-
--- ---- the entry points: h is the state handed over, going on with r or stopped
+-- ---- the entry points, on the state r that goes on
 
 -- what a local holds, as the code sees it
-pub local-told : (x : D.Local) (w : AbstractValue) → x .present ≡ true → x .value ≡ w → M.localOf x ≡ localOf (operandOf w)
-local-told x w p e = rw (p, e) refl
+pub local-told : (x : D.Local) (w : AbstractValue) (l : Local) → M.localOf x ≡ l → x .present ≡ true → x .value ≡ w → l ≡ localOf (operandOf w)
+local-told x w l e p q = sym e ∙ rw (p, q) refl
 
-pub local-absent : (x : D.Local) → x .present ≡ false → M.localOf x ≡ absent
-local-absent x p = rw p refl
+pub local-absent : (x : D.Local) (l : Local) → M.localOf x ≡ l → x .present ≡ false → l ≡ absent
+local-absent x l e p = sym e ∙ rw p refl
 
-module _ (v n : ℕ) (r : Running) where
-  pub value-for-law : (m : Bool) (x : ℕ) (o₁ : Outcome Running) (o : Outcome Answer) → x ≡ cond (ltb (r .next) 65536) (r .next) 0
-      → o₁ ≡ then (halted v n r) (newRef m) → o ≡ then o₁ (λ s. answer s (reference x)) → o ≡ then (halted v n r) (valueFor (ofRef m))
-  unfolding valueFor
-  value-for-law m x o₁ o z e₁ e₂ =
-      link (halted v n r) o₁ o (newRef m) (λ s. answer s (reference x)) e₁ e₂
-      ∙ here v n r (λ s. then (newRef m s) (λ t. answer t (reference x))) (valueFor (ofRef m)) (made m r x (λ y s. answer s (reference y)) z)
-
-  -- a test, then a value
-  pub test-law : (p : Running → Outcome Running) (q : Running → Outcome Answer) (w : Operand) (o₁ : Outcome Running) (o : Outcome Answer) → then (p r) (λ s. answer s w) ≡ q r
-      → o₁ ≡ then (halted v n r) p → o ≡ then o₁ (λ s. answer s w) → o ≡ then (halted v n r) q
-  test-law p q w o₁ o e e₁ e₂ = link (halted v n r) o₁ o p (λ s. answer s w) e₁ e₂ ∙ here v n r (λ s. then (p s) (λ t. answer t w)) q e
-
-  -- a test, then a call
-  pub test-call : (p f q : Running → Outcome Running) (o₁ o : Outcome Running) → then (p r) f ≡ q r → o₁ ≡ then (halted v n r) p → o ≡ then o₁ f → o ≡ then (halted v n r) q
-  test-call p f q o₁ o e e₁ e₂ = link (halted v n r) o₁ o p f e₁ e₂ ∙ here v n r (λ s. then (p s) f) q e
-
-  -- a test, a new reference, its borrow
-  pub lend-law : (p : Running → Outcome Running) (m : Bool) (f : ℕ → Running → Outcome Running) (x : ℕ) (o₁ o₂ o₃ : Outcome Running) (o : Outcome Answer) (q : Running → Outcome Answer)
-      → then (p r) (λ t. then (newRef m t) (lend f x)) ≡ q r
-      → o₁ ≡ then (halted v n r) p → o₂ ≡ then o₁ (newRef m) → o₃ ≡ then o₂ (f x) → o ≡ then o₃ (λ s. answer s (reference x)) → o ≡ then (halted v n r) q
-  lend-law p m f x o₁ o₂ o₃ o q e e₁ e₂ e₃ e₄ = lends (halted v n r) p m f x o₁ o₂ o₃ o e₁ e₂ e₃ e₄ ∙ here v n r (λ s. then (p s) (λ t. then (newRef m t) (lend f x))) q e
-
-  pub pass-law : (p : Running → Outcome Running) (m : Bool) (f : ℕ → Running → Outcome Running) (x k : ℕ) (o₁ o₂ o₃ o₄ : Outcome Running) (o : Outcome Answer) (q : Running → Outcome Answer)
-      → then (p r) (λ t. then (newRef m t) (pass f k x)) ≡ q r
-      → o₁ ≡ then (halted v n r) p → o₂ ≡ then o₁ (newRef m) → o₃ ≡ then o₂ (f x) → o₄ ≡ then o₃ (releaseName k) → o ≡ then o₄ (λ s. answer s (reference x)) → o ≡ then (halted v n r) q
-  pass-law p m f x k o₁ o₂ o₃ o₄ o q e e₁ e₂ e₃ e₄ e₅ = passes (halted v n r) p m f x o₁ o₂ o₃ k o₄ o e₁ e₂ e₃ e₄ e₅ ∙ here v n r (λ s. then (p s) (λ t. then (newRef m t) (pass f k x))) q e
-
--- the same on the state r that goes on; `foreseen`: the code's x
+-- `x` is the name that the code foresees
 module _ (r : Running) (x : ℕ) (z : x ≡ cond (ltb (r .next) 65536) (r .next) 0) where
-  pub copy-ref : (i k m : ℕ) (b : Bool) → getD (r .locals) i absent ≡ ref k → told m b ≡ L.ofName (r .graph) k (isMutable (r .graph) k)
-      → then (heeding (told m b) r) (λ t. then (newRef b t) (lend (addCopy k) x)) ≡ copyLoc i r
-  unfolding copyLoc
-  copy-ref i k m b l e =
-      heed-told (r .graph) k m b (isMutable (r .graph) k) r (λ c t. then (newRef c t) (lend (addCopy k) x)) e
-      ∙ known-under (r .graph) k (then (newRef (isMutable (r .graph) k) r) (lend (addCopy k) x)) (then (newRef (isMutable (r .graph) k) r) (lend (addCopy k) (r .next))) (made (isMutable (r .graph) k) r x (lend (addCopy k)) z)
-      ∙ ap (copyOf r i) (sym l)
+  pub value-at : (m : Bool) → then (newRef m r) (λ s. answer s (reference x)) ≡ valueFor (ofRef m) r
+  unfolding valueFor
+  value-at m = made m r x (λ y s. answer s (reference y)) z
 
-  pub freeze-at : (k : ℕ) → then (needing (L.ofName (r .graph) k (isMutable (r .graph) k)) 13 r) (λ s. then (failing (L.ofName (r .graph) k (mutablyBorrowed (r .graph) k none)) 104 s) (λ t. then (newRef false t) (pass (addCopy k) k x))) ≡ freezeRef k r
+  pub copy-at : (k m : ℕ) (b : Bool) → told m b ≡ L.ofName (r .graph) k (isMutable (r .graph) k)
+      → then (heeding (told m b) r) (λ t. then (newRef b t) (lend (addCopy k) x)) ≡ copyOf r 0 (ref k)
+  copy-at k m b e =
+      heed-told (r .graph) k m b (isMutable (r .graph) k) r (λ c t. then (newRef c t) (lend (addCopy k) x)) e
+      ∙ known-under (r .graph) k _ _ (made (isMutable (r .graph) k) r x (lend (addCopy k)) z)
+
+  pub freeze-at : (k : ℕ) (t u : Ans Bool) → t ≡ L.ofName (r .graph) k (isMutable (r .graph) k) → u ≡ L.ofName (r .graph) k (mutablyBorrowed (r .graph) k none)
+      → then (needing t 13 r) (λ s. then (failing u 104 s) (λ s. then (newRef false s) (pass (addCopy k) k x))) ≡ freezeRef k r
   unfolding freezeRef
-  freeze-at k =
-      let b : Bool = isMutable (r .graph) k in
-      let d : Bool = mutablyBorrowed (r .graph) k none in
+  freeze-at k t u e h =
       let g : Graph = r .graph in
-      let rest : ℕ → Outcome Answer = λ y. then (newRef false r) (pass (addCopy k) k y) in
-      need-at g k b r (λ s. then (failing (L.ofName g k d) 104 s) (λ t. then (newRef false t) (pass (addCopy k) k x))) 13 refl
-      ∙ known-under g k _ _ (needs-under b 13 _ _ (fail-at g k d r (λ t. then (newRef false t) (pass (addCopy k) k x)) 104 refl))
-      ∙ known-needs g k b 13 (fails d 104 (rest x))
-      ∙ known-under g k _ _ (needs-under b 13 _ _ (again d (made false r x (pass (addCopy k) k) z)))
+      let b : Bool = isMutable g k in
+      let d : Bool = mutablyBorrowed g k none in
+      rw (e, h)
+      (need-at g k b r (λ s. then (failing (L.ofName g k d) 104 s) (λ s. then (newRef false s) (pass (addCopy k) k x))) 13 refl
+      ∙ known-under g k _ _ (needs-under b 13 _ _ (fail-at g k d r (λ s. then (newRef false s) (pass (addCopy k) k x)) 104 refl))
+      ∙ known-needs g k b 13 (fails d 104 (then (newRef false r) (pass (addCopy k) k x)))
+      ∙ known-under g k _ _ (needs-under b 13 _ _ (again d (made false r x (pass (addCopy k) k) z))))
     where
       again : (d : Bool) → then (newRef false r) (pass (addCopy k) k x) ≡ then (newRef false r) (pass (addCopy k) k (r .next))
           → fails d 104 (then (newRef false r) (pass (addCopy k) k x)) ≡ fails (not (not d)) 104 (then (newRef false r) (pass (addCopy k) k (r .next)))
       again true e = refl
       again false e = e
 
-  pub borrow-loc-at : (m : Bool) (i : ℕ) → then (failing (L.ofName (r .graph) (r .root) (not m && mutablyBorrowed (r .graph) (r .root) (some (localLabel i)))) 107 r) (λ t. then (newRef m t) (lend (addLocalBorrow i) x)) ≡ borrowLoc m i r
+  pub borrow-loc-at : (m : Bool) (i : ℕ) (t : Ans Bool) → t ≡ L.ofName (r .graph) (r .root) (not m && mutablyBorrowed (r .graph) (r .root) (some (localLabel i)))
+      → then (failing t 107 r) (λ s. then (newRef m s) (lend (addLocalBorrow i) x)) ≡ borrowLoc m i r
   unfolding borrowLoc
-  borrow-loc-at m i =
-      fail-at (r .graph) (r .root) (not m && mutablyBorrowed (r .graph) (r .root) (some (localLabel i))) r (λ t. then (newRef m t) (lend (addLocalBorrow i) x)) 107 refl
-      ∙ known-under (r .graph) (r .root) _ _ (fails-under (not m && mutablyBorrowed (r .graph) (r .root) (some (localLabel i))) 107 _ _ (made m r x (lend (addLocalBorrow i)) z))
+  borrow-loc-at m i t e =
+      let b : Bool = not m && mutablyBorrowed (r .graph) (r .root) (some (localLabel i)) in
+      rw e
+      (fail-at (r .graph) (r .root) b r (λ s. then (newRef m s) (lend (addLocalBorrow i) x)) 107 refl
+      ∙ known-under (r .graph) (r .root) _ _ (fails-under b 107 _ _ (made m r x (lend (addLocalBorrow i)) z)))
 
-  pub borrow-global-at : (m : Bool) (i : ℕ) → then (failing (L.ofName (r .graph) (r .root) ((m && borrowed (r .graph) (r .root) (some (globalLabel i))) || mutablyBorrowed (r .graph) (r .root) (some (globalLabel i)))) 109 r) (λ t. then (newRef m t) (lend (addResourceBorrow i) x)) ≡ borrowGlobal m i r
+  pub borrow-global-at : (m : Bool) (i : ℕ) (t : Ans Bool)
+      → t ≡ L.ofName (r .graph) (r .root) ((m && borrowed (r .graph) (r .root) (some (globalLabel i))) || mutablyBorrowed (r .graph) (r .root) (some (globalLabel i)))
+      → then (failing t 109 r) (λ s. then (newRef m s) (lend (addResourceBorrow i) x)) ≡ borrowGlobal m i r
   unfolding borrowGlobal
-  borrow-global-at m i =
+  borrow-global-at m i t e =
       let b : Bool = (m && borrowed (r .graph) (r .root) (some (globalLabel i))) || mutablyBorrowed (r .graph) (r .root) (some (globalLabel i)) in
-      fail-at (r .graph) (r .root) b r (λ t. then (newRef m t) (lend (addResourceBorrow i) x)) 109 refl
-      ∙ known-under (r .graph) (r .root) _ _ (fails-under b 109 _ _ (made m r x (lend (addResourceBorrow i)) z))
+      rw e
+      (fail-at (r .graph) (r .root) b r (λ s. then (newRef m s) (lend (addResourceBorrow i) x)) 109 refl
+      ∙ known-under (r .graph) (r .root) _ _ (fails-under b 109 _ _ (made m r x (lend (addResourceBorrow i)) z)))
 
-  pub borrow-field-at : (m : Bool) (k i : ℕ) → then (needsName (r .graph) k (fails (cond m (fullyBorrowed (r .graph) k) (not (readable (r .graph) k (some (fieldLabel i))))) 108 (done r))) (λ t. then (newRef m t) (pass (λ y. addFieldBorrow k i y) k x)) ≡ borrowField m k i r
+  pub borrow-field-at : (m : Bool) (k i : ℕ)
+      → then (needsName (r .graph) k (fails (cond m (fullyBorrowed (r .graph) k) (not (readable (r .graph) k (some (fieldLabel i))))) 108 (done r))) (λ s. then (newRef m s) (pass (addFieldBorrow k i) k x))
+      ≡ borrowField m k i r
   unfolding borrowField
   borrow-field-at m k i =
       let b : Bool = cond m (fullyBorrowed (r .graph) k) (not (readable (r .graph) k (some (fieldLabel i)))) in
-      known-then (r .graph) k (fails b 108 (done r)) (λ t. then (newRef m t) (pass (λ y. addFieldBorrow k i y) k x))
-      ∙ known-under (r .graph) k _ _ (fails-then b 108 (done r) (λ t. then (newRef m t) (pass (λ y. addFieldBorrow k i y) k x)) ∙ fails-under b 108 _ _ (made m r x (pass (λ y. addFieldBorrow k i y) k) z))
+      known-then (r .graph) k (fails b 108 (done r)) (λ s. then (newRef m s) (pass (addFieldBorrow k i) k x))
+      ∙ known-under (r .graph) k _ _ (fails-then b 108 (done r) (λ s. then (newRef m s) (pass (addFieldBorrow k i) k x)) ∙ fails-under b 108 _ _ (made m r x (pass (addFieldBorrow k i) k) z))
 
-  pub element-at : (m : Bool) (k : ℕ) → then (needsName (r .graph) k (vectorTest m (r .graph) k 111 (done r))) (λ t. then (newRef m t) (pass (addBorrow k) k x)) ≡ vectorElementBorrow (reference k) m r
+  pub element-at : (m : Bool) (k : ℕ) → then (needsName (r .graph) k (vectorTest m (r .graph) k 111 (done r))) (λ s. then (newRef m s) (pass (addBorrow k) k x)) ≡ vectorElementBorrow (reference k) m r
   unfolding vectorElementBorrow
   element-at m k =
-      known-then (r .graph) k (vectorTest m (r .graph) k 111 (done r)) (λ t. then (newRef m t) (pass (addBorrow k) k x))
-      ∙ known-under (r .graph) k _ _ (vector-then m (r .graph) k 111 (done r) (λ t. then (newRef m t) (pass (addBorrow k) k x)) ∙ ap {B = Outcome Answer} (λ (o : Outcome Answer). vectorTest m (r .graph) k 111 o) (made m r x (pass (addBorrow k) k) z))
+      known-then (r .graph) k (vectorTest m (r .graph) k 111 (done r)) (λ s. then (newRef m s) (pass (addBorrow k) k x))
+      ∙ known-under (r .graph) k _ _ (vector-then m (r .graph) k 111 (done r) (λ s. then (newRef m s) (pass (addBorrow k) k x)) ∙ ap {B = Outcome Answer} (λ (o : Outcome Answer). vectorTest m (r .graph) k 111 o) (made m r x (pass (addBorrow k) k) z))
 
 module _ (r : Running) where
-  pub copy-value : (i : ℕ) → getD (r .locals) i absent ≡ value → then (failing (L.ofName (r .graph) (r .root) (mutablyBorrowed (r .graph) (r .root) (some (localLabel i)))) 101 r) (λ s. answer s nonRef) ≡ copyLoc i r
+  pub copy-over : (i : ℕ) (l : Local) → getD (r .locals) i absent ≡ l → copyOf r i l ≡ copyLoc i r
   unfolding copyLoc
-  copy-value i l = fail-at (r .graph) (r .root) (mutablyBorrowed (r .graph) (r .root) (some (localLabel i))) r (λ s. answer s nonRef) 101 refl ∙ ap (copyOf r i) (sym l)
+  copy-over i l e = ap (copyOf r i) (sym e)
 
-  pub copy-absent : (i : ℕ) → getD (r .locals) i absent ≡ absent → refused 12 ≡ copyLoc i r
-  unfolding copyLoc
-  copy-absent i l = ap (copyOf r i) (sym l)
+  pub copy-value : (i : ℕ) (t : Ans Bool) → getD (r .locals) i absent ≡ value → t ≡ L.ofName (r .graph) (r .root) (mutablyBorrowed (r .graph) (r .root) (some (localLabel i)))
+      → then (failing t 101 r) (λ s. answer s nonRef) ≡ copyLoc i r
+  copy-value i t l e = rw e (fail-at (r .graph) (r .root) (mutablyBorrowed (r .graph) (r .root) (some (localLabel i))) r (λ s. answer s nonRef) 101 refl ∙ copy-over i value l)
 
-  pub move-ref : (i k : ℕ) → getD (r .locals) i absent ≡ ref k → answer (withLocal r i absent) (reference k) ≡ moveLoc i r
+  pub move-over : (i : ℕ) (l : Local) → getD (r .locals) i absent ≡ l → moveOf r i l ≡ moveLoc i r
   unfolding moveLoc
-  move-ref i k l = ap (moveOf r i) (sym l)
+  move-over i l e = ap (moveOf r i) (sym e)
 
-  pub move-value : (i : ℕ) → getD (r .locals) i absent ≡ value
-      → then (then (failing (L.ofName (r .graph) (r .root) (borrowed (r .graph) (r .root) (some (localLabel i)))) 102 r) (λ s. done (withLocal s i absent))) (λ s. answer s nonRef) ≡ moveLoc i r
-  unfolding moveLoc
-  move-value i l =
-      then-then (failing (L.ofName (r .graph) (r .root) (borrowed (r .graph) (r .root) (some (localLabel i)))) 102 r) (λ s. done (withLocal s i absent)) (λ s. answer s nonRef)
-      ∙ fail-at (r .graph) (r .root) (borrowed (r .graph) (r .root) (some (localLabel i))) r (λ s. answer (withLocal s i absent) nonRef) 102 refl
-      ∙ ap (moveOf r i) (sym l)
-
-  pub move-absent : (i : ℕ) → getD (r .locals) i absent ≡ absent → refused 12 ≡ moveLoc i r
-  unfolding moveLoc
-  move-absent i l = ap (moveOf r i) (sym l)
+  pub move-value : (i : ℕ) (t : Ans Bool) → getD (r .locals) i absent ≡ value → t ≡ L.ofName (r .graph) (r .root) (borrowed (r .graph) (r .root) (some (localLabel i)))
+      → then (failing t 102 r) (λ s. answer (withLocal s i absent) nonRef) ≡ moveLoc i r
+  move-value i t l e =
+      rw e
+      (fail-at (r .graph) (r .root) (borrowed (r .graph) (r .root) (some (localLabel i))) r (λ s. answer (withLocal s i absent) nonRef) 102 refl
+      ∙ move-over i value l)
 
   pub store-over : (i : ℕ) (w : Operand) (l : Local) → getD (r .locals) i absent ≡ l → overwrite i (withLocal r i (localOf w)) l ≡ stLoc i w r
   unfolding stLoc
   store-over i w l e = ap (overwrite i (withLocal r i (localOf w))) (sym e)
 
-  pub store-value : (i : ℕ) (w : Operand) → getD (r .locals) i absent ≡ value
-      → failing (L.ofName (r .graph) (r .root) (borrowed (r .graph) (r .root) (some (localLabel i)))) 103 (withLocal r i (localOf w)) ≡ stLoc i w r
-  store-value i w l =
-      then-done (failing (L.ofName (r .graph) (r .root) (borrowed (r .graph) (r .root) (some (localLabel i)))) 103 (withLocal r i (localOf w)))
-      ∙ fail-at (r .graph) (r .root) (borrowed (r .graph) (r .root) (some (localLabel i))) (withLocal r i (localOf w)) done 103 refl
-      ∙ store-over i w value l
+  pub store-value : (i : ℕ) (w : Operand) (t : Ans Bool) → getD (r .locals) i absent ≡ value → t ≡ L.ofName (r .graph) (r .root) (borrowed (r .graph) (r .root) (some (localLabel i)))
+      → failing t 103 (withLocal r i (localOf w)) ≡ stLoc i w r
+  store-value i w t l e =
+      let b : Bool = borrowed (r .graph) (r .root) (some (localLabel i)) in
+      rw e
+      (then-done (failing (L.ofName (r .graph) (r .root) b) 103 (withLocal r i (localOf w)))
+      ∙ fail-at (r .graph) (r .root) b (withLocal r i (localOf w)) done 103 refl
+      ∙ store-over i w value l)
 
-  -- the state goes on where the reference is readable
-  abbrev pub unreadable : ℕ → Option ℕ → ℕ → Running → Outcome Running
-  unreadable k at c s = needsName (s .graph) k (fails (not (readable (s .graph) k at)) c (done s))
+  -- a test alone
+  pub test-at : (k c : ℕ) (b : Bool) (t : Ans Bool) → eqb c 0 ≡ false → t ≡ L.ofName (r .graph) k b → failing t c r ≡ needsName (r .graph) k (fails b c (done r))
+  test-at k c b t z e = rw e (then-done (failing (L.ofName (r .graph) k b) c r) ∙ fail-at (r .graph) k b r done c z)
 
-  pub unreadable-then : {A : Type 0} (k : ℕ) (at : Option ℕ) (c : ℕ) (f : Running → Outcome A) → then (needsName (r .graph) k (fails (not (readable (r .graph) k at)) c (done r))) f ≡ needsName (r .graph) k (fails (not (readable (r .graph) k at)) c (f r))
+  pub unreadable-then : {A : Type 0} (k : ℕ) (at : Option ℕ) (c : ℕ) (f : Running → Outcome A)
+      → then (needsName (r .graph) k (fails (not (readable (r .graph) k at)) c (done r))) f ≡ needsName (r .graph) k (fails (not (readable (r .graph) k at)) c (f r))
   unreadable-then k at c f =
       known-then (r .graph) k (fails (not (readable (r .graph) k at)) c (done r)) f
       ∙ known-under (r .graph) k _ _ (fails-then (not (readable (r .graph) k at)) c (done r) f)
 
-  pub read-at : (k : ℕ) → then (then (needsName (r .graph) k (fails (not (readable (r .graph) k none)) 105 (done r))) (releaseName k)) (λ s. answer s nonRef) ≡ readRef k r
+  pub read-at : (k : ℕ) → then (needsName (r .graph) k (fails (not (readable (r .graph) k none)) 105 (done r))) (λ s. then (releaseName k s) (λ t. answer t nonRef)) ≡ readRef k r
   unfolding readRef
-  read-at k =
-      then-then (needsName (r .graph) k (fails (not (readable (r .graph) k none)) 105 (done r))) (releaseName k) (λ s. answer s nonRef)
-      ∙ unreadable-then k none 105 (λ s. then (releaseName k s) (λ t. answer t nonRef))
+  read-at k = unreadable-then k none 105 (λ s. then (releaseName k s) (λ t. answer t nonRef))
 
-  pub write-at : (k : ℕ) → then (then (needing (L.ofName (r .graph) k (isMutable (r .graph) k)) 13 r) (failing (L.ofName (r .graph) k (borrowed (r .graph) k none)) 106)) (releaseName k) ≡ writeRef k r
+  -- a mutable reference with no borrow, then f
+  pub writable-then : {A : Type 0} (k c : ℕ) (t u : Ans Bool) (f : Running → Outcome A) → eqb c 0 ≡ false → t ≡ L.ofName (r .graph) k (isMutable (r .graph) k) → u ≡ L.ofName (r .graph) k (borrowed (r .graph) k none)
+      → then (needing t 13 r) (λ s. then (failing u c s) f) ≡ needsName (r .graph) k (vectorTest true (r .graph) k c (f r))
+  writable-then {A} k c t u f z e h =
+      let g : Graph = r .graph in
+      let b : Bool = isMutable g k in
+      let d : Bool = borrowed g k none in
+      rw (e, h)
+      (need-at g k b r (λ s. then (failing (L.ofName g k d) c s) f) 13 refl
+      ∙ known-under g k _ _ (needs-under b 13 _ _ (fail-at g k d r f c z))
+      ∙ known-needs g k b 13 (fails d c (f r))
+      ∙ known-under g k _ _ (needs-under b 13 _ _ (twice d)))
+    where
+      twice : (d : Bool) → fails d c (f r) ≡ fails (not (not d)) c (f r)
+      twice true = refl
+      twice false = refl
+
+  pub write-at : (k : ℕ) (t u : Ans Bool) → t ≡ L.ofName (r .graph) k (isMutable (r .graph) k) → u ≡ L.ofName (r .graph) k (borrowed (r .graph) k none)
+      → then (needing t 13 r) (λ s. then (failing u 106 s) (releaseName k)) ≡ writeRef k r
   unfolding writeRef
-  write-at k =
-      let g : Graph = r .graph in
-      let b : Bool = isMutable g k in
-      let d : Bool = borrowed g k none in
-      then-then (needing (L.ofName g k b) 13 r) (failing (L.ofName g k d) 106) (releaseName k)
-      ∙ need-at g k b r (λ s. then (failing (L.ofName g k d) 106 s) (releaseName k)) 13 refl
-      ∙ known-under g k _ _ (needs-under b 13 _ _ (fail-at g k d r (releaseName k) 106 refl))
-      ∙ known-needs g k b 13 (fails d 106 (releaseName k r))
-      ∙ known-under g k _ _ (needs-under b 13 _ _ (twice d))
-    where
-      twice : (d : Bool) → fails d 106 (releaseName k r) ≡ fails (not (not d)) 106 (releaseName k r)
-      twice true = refl
-      twice false = refl
+  write-at k t u e h = writable-then k 106 t u (releaseName k) refl e h
 
-  pub move-from-at : (i : ℕ) → then (failing (L.ofName (r .graph) (r .root) (borrowed (r .graph) (r .root) (some (globalLabel i)))) 109 r) (λ s. answer s nonRef) ≡ moveFrom i r
+  pub vector-mutable : (k c : ℕ) (t u : Ans Bool) → eqb c 0 ≡ false → t ≡ L.ofName (r .graph) k (isMutable (r .graph) k) → u ≡ L.ofName (r .graph) k (borrowed (r .graph) k none)
+      → then (needing t 13 r) (failing u c) ≡ needsName (r .graph) k (vectorTest true (r .graph) k c (done r))
+  vector-mutable k c t u z e h = under (needing t 13 r) ∙ writable-then k c t u done z e h
+    where
+      under : (o : Outcome Running) → then o (failing u c) ≡ then o (λ s. then (failing u c s) done)
+      under (done s) = then-done (failing u c s)
+      under (Outcome.violated n) = refl
+      under (refused n) = refl
+
+  pub heed-alone : (k : ℕ) (b : Bool) (t : Ans Bool) → t ≡ L.ofName (r .graph) k b → heeding t r ≡ needsName (r .graph) k (done r)
+  heed-alone k b t e = rw e (then-done (heeding (L.ofName (r .graph) k b) r) ∙ heed-at (r .graph) k b r done)
+
+  pub move-from-at : (i : ℕ) (t : Ans Bool) → t ≡ L.ofName (r .graph) (r .root) (borrowed (r .graph) (r .root) (some (globalLabel i))) → then (failing t 109 r) (λ s. answer s nonRef) ≡ moveFrom i r
   unfolding moveFrom
-  move-from-at i = fail-at (r .graph) (r .root) (borrowed (r .graph) (r .root) (some (globalLabel i))) r (λ s. answer s nonRef) 109 refl
-
-  pub vector-mutable : (k c : ℕ) → eqb c 0 ≡ false → then (needing (L.ofName (r .graph) k (isMutable (r .graph) k)) 13 r) (failing (L.ofName (r .graph) k (borrowed (r .graph) k none)) c) ≡ needsName (r .graph) k (vectorTest true (r .graph) k c (done r))
-  vector-mutable k c z =
-      let g : Graph = r .graph in
-      let b : Bool = isMutable g k in
-      let d : Bool = borrowed g k none in
-      need-at g k b r (failing (L.ofName g k d) c) 13 refl
-      ∙ known-under g k _ _ (needs-under b 13 _ _ (then-done (failing (L.ofName g k d) c r) ∙ fail-at g k d r done c z))
-      ∙ known-needs g k b 13 (fails d c (done r))
-      ∙ known-under g k _ _ (needs-under b 13 _ _ (twice d))
-    where
-      twice : (d : Bool) → fails d c (done r) ≡ fails (not (not d)) c (done r)
-      twice true = refl
-      twice false = refl
+  move-from-at i t e = rw e (fail-at (r .graph) (r .root) (borrowed (r .graph) (r .root) (some (globalLabel i))) r (λ s. answer s nonRef) 109 refl)
 
   pub vector-op-at : (m : Bool) (k : ℕ) → then (needsName (r .graph) k (vectorTest m (r .graph) k 110 (done r))) (releaseName k) ≡ vectorOp (reference k) m r
   unfolding vectorOp
@@ -315,15 +284,14 @@ module _ (r : Running) where
       known-then (r .graph) k (vectorTest m (r .graph) k 110 (done r)) (releaseName k)
       ∙ known-under (r .graph) k _ _ (vector-then m (r .graph) k 110 (done r) (releaseName k))
 
-  pub compare-at : (j k : ℕ) → then (then (then (then (unreadable j none 105 r) (unreadable k none 105)) (releaseName j)) (releaseName k)) (λ s. answer s nonRef) ≡ comparison (reference j) (reference k) r
-  unfolding comparison
-  compare-at j k =
-      let end : Running → Outcome Answer = λ s. then (releaseName j s) (λ t. then (releaseName k t) (λ u. answer u nonRef)) in
-      last (then (then (unreadable j none 105 r) (unreadable k none 105)) (releaseName j))
-      ∙ then-then (then (unreadable j none 105 r) (unreadable k none 105)) (releaseName j) (λ t. then (releaseName k t) (λ u. answer u nonRef))
-      ∙ then-then (unreadable j none 105 r) (unreadable k none 105) end
-      ∙ unreadable-then j none 105 (λ s. then (unreadable k none 105 s) end)
-      ∙ known-under (r .graph) j _ _ (fails-under (not (readable (r .graph) j none)) 105 _ _ (unreadable-then k none 105 end))
-    where
-      last : (o : Outcome Running) → then (then o (releaseName k)) (λ s. answer s nonRef) ≡ then o (λ t. then (releaseName k t) (λ u. answer u nonRef))
-      last o = then-then o (releaseName k) (λ s. answer s nonRef)
+-- the state goes on where the reference is readable
+abbrev pub unreadable : ℕ → Option ℕ → ℕ → Running → Outcome Running
+unreadable k at c s = needsName (s .graph) k (fails (not (readable (s .graph) k at)) c (done s))
+
+pub compare-at : (r : Running) (j k : ℕ)
+    → then (unreadable j none 105 r) (λ s. then (unreadable k none 105 s) (λ t. then (releaseName j t) (λ u. then (releaseName k u) (λ v. answer v nonRef)))) ≡ comparison (reference j) (reference k) r
+unfolding comparison
+compare-at r j k =
+    let end : Running → Outcome Answer = λ s. then (releaseName j s) (λ t. then (releaseName k t) (λ u. answer u nonRef)) in
+    unreadable-then r j none 105 (λ s. then (unreadable k none 105 s) end)
+    ∙ known-under (r .graph) j _ _ (fails-under (not (readable (r .graph) j none)) 105 _ _ (unreadable-then r k none 105 end))

@@ -1,83 +1,171 @@
-// The entry points of the instructions, each in the Rust's order of tests.
+// The entry points of the instructions, each in the Rust's order of tests. Where each stands in the Rust (abstract_state.rs):
+//
+//   here                     the Rust
+//   value_for                130 `value_for`
+//   release_value            275 `release_value`
+//   copy_loc                 282 `copy_loc`
+//   move_loc                 301 `move_loc`
+//   st_loc                   315 `st_loc`
+//   freeze_ref               335 `freeze_ref`
+//   comparison               346 `comparison`
+//   read_ref                 371 `read_ref`
+//   write_ref                380 `write_ref`
+//   borrow_loc               389 `borrow_loc`
+//   borrow_field             406 `borrow_field`
+//   borrow_global            430 `borrow_global`
+//   move_from                446 `move_from`
+//   vector_op                458 `vector_op`
+//   vector_element_borrow    472 `vector_element_borrow`
+use abstract_state::codes::BORROWFIELD_EXISTS_MUTABLE_BORROW;
+use abstract_state::codes::BORROWLOC_EXISTS_BORROW;
+use abstract_state::codes::COPYLOC_EXISTS_BORROW;
+use abstract_state::codes::FREEZEREF_EXISTS_MUTABLE_BORROW;
+use abstract_state::codes::GLOBAL_REFERENCE;
+use abstract_state::codes::MOVELOC_EXISTS_BORROW;
+use abstract_state::codes::READREF_EXISTS_MUTABLE_BORROW;
+use abstract_state::codes::STLOC_UNSAFE_TO_DESTROY;
+use abstract_state::codes::VEC_BORROW_ELEMENT;
+use abstract_state::codes::VEC_UPDATE;
+use abstract_state::codes::WRITEREF_EXISTS_BORROW;
+use abstract_state::core::add_borrow;
+use abstract_state::core::add_copy;
+use abstract_state::core::add_field_borrow;
+use abstract_state::core::add_local_borrow;
+use abstract_state::core::add_resource_borrow;
+use abstract_state::core::fresh;
+use abstract_state::core::give;
+use abstract_state::core::local;
+use abstract_state::core::new_ref;
+use abstract_state::core::pass_refusal;
+use abstract_state::core::refuse;
+use abstract_state::core::release;
+use abstract_state::core::require_yes;
+use abstract_state::core::set_local;
+use abstract_state::core::violate_if;
+use abstract_state::predicates::has_consistent_borrows;
+use abstract_state::predicates::has_consistent_mutable_borrows;
+use abstract_state::predicates::has_full_borrows;
+use abstract_state::predicates::is_global_borrowed;
+use abstract_state::predicates::is_global_mutably_borrowed;
+use abstract_state::predicates::is_local_borrowed;
+use abstract_state::predicates::is_local_mutably_borrowed;
+use abstract_state::predicates::is_mutable;
+use abstract_state::predicates::is_readable;
 use abstract_state::state::AbstractState;
 use abstract_state::state::AbstractValue;
+use abstract_state::state::LOCALS;
 use abstract_state::state::Local;
-use borrow_graph::graph::Told;
-use borrow_graph::lookups::LabelFilter;
+use borrow_graph::graph::YesOrNo;
 use file_format::LocalIndex;
 use file_format::SignatureToken;
+use meaning::MAX_EDGES;
+use meaning::MAX_NAMES;
 use paths::Label;
 use references::RefID;
+use references::rows::LabelFilter;
 ghost use mathlib.Core.Path.{_≡_};
 ghost use mathlib.Core.Bool.{not, cond};
+ghost use mathlib.Core.List.{List};
 ghost use mathlib.Core.Option.{some};
-ghost use Rattle.meaning.specs.Labels.{fieldLabel};
-ghost use Rattle.borrow_graph.specs.Models.{filterOf};
-ghost use Rattle.meaning.specs.EntryPoints as R;
-ghost use Rattle.meaning.specs.AbstractState as S;
-ghost use Rattle.meaning.specs.BorrowGraph as G;
+ghost use Prim.Native.Nat.{ℕ};
+ghost use Rattle.meaning.specs.Limits.{BORROWFIELD-EXISTS-MUTABLE-BORROW};
 ghost use Rattle.meaning.specs.Answers as Out;
-ghost use Rattle.meaning.specs.Answers.{then};
+ghost use Rattle.meaning.specs.Labels.{fieldLabel};
+ghost use Rattle.meaning.specs.BorrowGraph as L;
+ghost use Rattle.meaning.specs.AbstractState as S;
+ghost use Rattle.meaning.specs.EntryPoints as R;
+ghost use Rattle.references.specs.Models.{filterOf};
 ghost use Rattle.file_format.specs.Models.{tokenOf};
-ghost use Rattle.abstract_state.specs.Models.{operandOf, outcomeOf, answerOf};
+ghost use Rattle.abstract_state.specs.Models.{operandOf, words, Does, Gives};
 
-pub fn value_for(state: AbstractState, token: SignatureToken) -> AbstractState
-    ensures { λ r. ⌜ answerOf r ≡ then (outcomeOf state) (R.valueFor (tokenOf token)) ⌝ }
+pub fn value_for(
+    names: &mut [u32; MAX_NAMES],
+    state: AbstractState,
+    token: SignatureToken,
+) -> AbstractState
+    ensures { λ r. ⌜ ((ls : List ℕ) (es : List (List ℕ)) → Gives (R.valueFor (tokenOf token)) (words ls (now (names .entry)) es state) (words ls (now (names .exit)) es r)) ⌝ }
 {
     match token {
-        SignatureToken::Value => state.give(AbstractValue::NonReference),
-        SignatureToken::Reference => value_for_ref(state, false),
-        SignatureToken::MutableReference => value_for_ref(state, true),
+        SignatureToken::Value => give(state, AbstractValue::NonReference),
+        SignatureToken::Reference => value_for_ref(names, state, false),
+        SignatureToken::MutableReference => value_for_ref(names, state, true),
     }
 }
 
-fn value_for_ref(state: AbstractState, mutable: bool) -> AbstractState
-    ensures { λ r. ⌜ answerOf r ≡ then (outcomeOf state) (R.valueFor (S.Token.ofRef mutable)) ⌝ }
+fn value_for_ref(names: &mut [u32; MAX_NAMES], state: AbstractState, mutable: bool) -> AbstractState
+    ensures { λ r. ⌜ ((ls : List ℕ) (es : List (List ℕ)) → Gives (R.valueFor (S.Token.ofRef mutable)) (words ls (now (names .entry)) es state) (words ls (now (names .exit)) es r)) ⌝ }
 {
-    let id = state.fresh();
-    let s = state.new_ref(mutable);
-    s.give(AbstractValue::Reference(id))
+    let id = fresh(state);
+    let s = new_ref(names, state, mutable);
+    give(s, AbstractValue::Reference(id))
 }
 
-pub fn release_value(state: AbstractState, value: AbstractValue) -> AbstractState
-    ensures { λ r. ⌜ outcomeOf r ≡ then (outcomeOf state) (R.releaseValue (operandOf value)) ⌝ }
+pub fn release_value(
+    names: &mut [u32; MAX_NAMES],
+    edges: &mut [[u32; 10]; MAX_EDGES],
+    state: AbstractState,
+    value: AbstractValue,
+) -> AbstractState
+    ensures { λ r. ⌜ ((ls : List ℕ) → Does (R.releaseValue (operandOf value)) (words ls (now (names .entry)) (now (edges .entry)) state) (words ls (now (names .exit)) (now (edges .exit)) r)) ⌝ }
 {
     match value {
-        AbstractValue::Reference(id) => state.release(id),
+        AbstractValue::Reference(id) => release(names, edges, state, id),
         AbstractValue::NonReference => state,
     }
 }
 
-pub fn copy_loc(state: AbstractState, local: LocalIndex) -> AbstractState
-    ensures { λ r. ⌜ answerOf r ≡ then (outcomeOf state) (R.copyLoc (local .0)) ⌝ }
+pub fn copy_loc(
+    locals: &[u32; LOCALS],
+    names: &mut [u32; MAX_NAMES],
+    edges: &mut [[u32; 10]; MAX_EDGES],
+    state: AbstractState,
+    i: LocalIndex,
+) -> AbstractState
+    ensures { λ r. ⌜ Gives (R.copyLoc (i .0)) (words (now (locals .entry)) (now (names .entry)) (now (edges .entry)) state) (words (now (locals .entry)) (now (names .exit)) (now (edges .exit)) r) ⌝ }
 {
-    let x = state.local(local);
+    let x = local(locals, state, i);
     if x.present {
         let v = x.value;
         match v {
-            AbstractValue::Reference(id) => {
-                let m = state.is_mutable(id);
-                let new = state.fresh();
-                let s = state.heed(m);
-                let t = s.new_ref(m.yes);
-                let u = t.add_copy(id, new);
-                return u.give(AbstractValue::Reference(new));
-            }
+            AbstractValue::Reference(id) => return copy_ref(names, edges, state, id),
             AbstractValue::NonReference => {
-                let b = state.is_local_mutably_borrowed(local);
-                let s = state.fail(b, 101);
-                return s.give(AbstractValue::NonReference);
+                let b = is_local_mutably_borrowed(names, edges, state, i);
+                let s = violate_if(state, b, COPYLOC_EXISTS_BORROW);
+                return give(s, AbstractValue::NonReference);
             }
         }
     }
-    let s = state.refuse(12);
-    s.give(AbstractValue::NonReference)
+    let s = refuse(state, 12);
+    give(s, AbstractValue::NonReference)
 }
 
-pub fn move_loc(state: AbstractState, local: LocalIndex) -> AbstractState
-    ensures { λ r. ⌜ answerOf r ≡ then (outcomeOf state) (R.moveLoc (local .0)) ⌝ }
+// The copy of a reference.
+fn copy_ref(
+    names: &mut [u32; MAX_NAMES],
+    edges: &mut [[u32; 10]; MAX_EDGES],
+    state: AbstractState,
+    id: RefID,
+) -> AbstractState
+    ensures { λ r. ⌜ ((ls : List ℕ) → Gives (λ s. R.copyOf s 0 (S.Local.ref (id .0))) (words ls (now (names .entry)) (now (edges .entry)) state) (words ls (now (names .exit)) (now (edges .exit)) r)) ⌝ }
 {
-    let x = state.local(local);
+    let m = is_mutable(names, state, id);
+    let new = fresh(state);
+    let s = pass_refusal(state, m);
+    let t = new_ref(names, s, m.yes);
+    let u = add_copy(names, edges, t, id, new);
+    give(u, AbstractValue::Reference(new))
+}
+
+pub fn move_loc(
+    locals: &mut [u32; LOCALS],
+    names: &[u32; MAX_NAMES],
+    edges: &[[u32; 10]; MAX_EDGES],
+    state: AbstractState,
+    i: LocalIndex,
+) -> AbstractState
+    ensures { λ r. ⌜ Gives (R.moveLoc (i .0)) (words (now (locals .entry)) (now (names .entry)) (now (edges .entry)) state) (words (now (locals .exit)) (now (names .entry)) (now (edges .entry)) r) ⌝ }
+{
+    let x = local(locals, state, i);
     let absent = Local {
         present: false,
         value: AbstractValue::NonReference,
@@ -86,27 +174,35 @@ pub fn move_loc(state: AbstractState, local: LocalIndex) -> AbstractState
         let v = x.value;
         match v {
             AbstractValue::Reference(id) => {
-                let s = state.set_local(local, absent);
-                return s.give(AbstractValue::Reference(id));
+                set_local(locals, i, absent);
+                return give(state, AbstractValue::Reference(id));
             }
             AbstractValue::NonReference => {
-                let b = state.is_local_borrowed(local);
-                let s = state.fail(b, 102);
-                let t = s.set_local(local, absent);
-                return t.give(AbstractValue::NonReference);
+                let b = is_local_borrowed(names, edges, state, i);
+                let s = violate_if(state, b, MOVELOC_EXISTS_BORROW);
+                set_local(locals, i, absent);
+                return give(s, AbstractValue::NonReference);
             }
         }
     }
-    let s = state.refuse(12);
-    s.give(AbstractValue::NonReference)
+    let s = refuse(state, 12);
+    give(s, AbstractValue::NonReference)
 }
 
-pub fn st_loc(state: AbstractState, local: LocalIndex, new: AbstractValue) -> AbstractState
-    ensures { λ r. ⌜ outcomeOf r ≡ then (outcomeOf state) (R.stLoc (local .0) (operandOf new)) ⌝ }
+pub fn st_loc(
+    locals: &mut [u32; LOCALS],
+    names: &mut [u32; MAX_NAMES],
+    edges: &mut [[u32; 10]; MAX_EDGES],
+    state: AbstractState,
+    i: LocalIndex,
+    new: AbstractValue,
+) -> AbstractState
+    ensures { λ r. ⌜ Does (R.stLoc (i .0) (operandOf new)) (words (now (locals .entry)) (now (names .entry)) (now (edges .entry)) state) (words (now (locals .exit)) (now (names .exit)) (now (edges .exit)) r) ⌝ }
 {
-    let x = state.local(local);
-    let s = state.set_local(
-        local,
+    let x = local(locals, state, i);
+    set_local(
+        locals,
+        i,
         Local {
             present: true,
             value: new,
@@ -115,69 +211,96 @@ pub fn st_loc(state: AbstractState, local: LocalIndex, new: AbstractValue) -> Ab
     if x.present {
         let v = x.value;
         match v {
-            AbstractValue::Reference(id) => return s.release(id),
+            AbstractValue::Reference(id) => return release(names, edges, state, id),
             AbstractValue::NonReference => {
-                let b = state.is_local_borrowed(local);
-                return s.fail(b, 103);
+                let b = is_local_borrowed(names, edges, state, i);
+                return violate_if(state, b, STLOC_UNSAFE_TO_DESTROY);
             }
         }
     }
-    s
+    state
 }
 
-pub fn freeze_ref(state: AbstractState, id: RefID) -> AbstractState
-    ensures { λ r. ⌜ answerOf r ≡ then (outcomeOf state) (R.freezeRef (id .0)) ⌝ }
+pub fn freeze_ref(
+    names: &mut [u32; MAX_NAMES],
+    edges: &mut [[u32; 10]; MAX_EDGES],
+    state: AbstractState,
+    id: RefID,
+) -> AbstractState
+    ensures { λ r. ⌜ ((ls : List ℕ) → Gives (R.freezeRef (id .0)) (words ls (now (names .entry)) (now (edges .entry)) state) (words ls (now (names .exit)) (now (edges .exit)) r)) ⌝ }
 {
-    let m = state.is_mutable(id);
-    let b = state.has_consistent_mutable_borrows(id, LabelFilter::Any);
-    let new = state.fresh();
-    let s = state.need(m, 13);
-    let t = s.fail(b, 104);
-    let u = t.new_ref(false);
-    let v = u.add_copy(id, new);
-    let w = v.release(id);
-    w.give(AbstractValue::Reference(new))
+    let m = is_mutable(names, state, id);
+    let b = has_consistent_mutable_borrows(names, edges, state, id, LabelFilter::Any);
+    let new = fresh(state);
+    let s = require_yes(state, m, 13);
+    let t = violate_if(s, b, FREEZEREF_EXISTS_MUTABLE_BORROW);
+    let u = new_ref(names, t, false);
+    let v = add_copy(names, edges, u, id, new);
+    let w = release(names, edges, v, id);
+    give(w, AbstractValue::Reference(new))
 }
 
-pub fn comparison(state: AbstractState, v1: AbstractValue, v2: AbstractValue) -> AbstractState
-    ensures { λ r. ⌜ answerOf r ≡ then (outcomeOf state) (R.comparison (operandOf v1) (operandOf v2)) ⌝ }
+pub fn comparison(
+    names: &mut [u32; MAX_NAMES],
+    edges: &mut [[u32; 10]; MAX_EDGES],
+    state: AbstractState,
+    v1: AbstractValue,
+    v2: AbstractValue,
+) -> AbstractState
+    ensures { λ r. ⌜ ((ls : List ℕ) → Gives (R.comparison (operandOf v1) (operandOf v2)) (words ls (now (names .entry)) (now (edges .entry)) state) (words ls (now (names .exit)) (now (edges .exit)) r)) ⌝ }
 {
     match v1 {
         AbstractValue::Reference(id1) => match v2 {
-            AbstractValue::Reference(id2) => compare_refs(state, id1, id2),
+            AbstractValue::Reference(id2) => compare_refs(names, edges, state, id1, id2),
             AbstractValue::NonReference => {
-                let s = state.refuse(11);
-                s.give(AbstractValue::NonReference)
+                let s = refuse(state, 11);
+                give(s, AbstractValue::NonReference)
             }
         },
         AbstractValue::NonReference => match v2 {
             AbstractValue::Reference(id2) => {
-                let s = state.refuse(11);
-                s.give(AbstractValue::NonReference)
+                let s = refuse(state, 11);
+                give(s, AbstractValue::NonReference)
             }
-            AbstractValue::NonReference => state.give(AbstractValue::NonReference),
+            AbstractValue::NonReference => give(state, AbstractValue::NonReference),
         },
     }
 }
 
-fn compare_refs(state: AbstractState, id1: RefID, id2: RefID) -> AbstractState
-    ensures { λ r. ⌜ answerOf r ≡ then (outcomeOf state) (R.comparison (S.Operand.reference (id1 .0)) (S.Operand.reference (id2 .0))) ⌝ }
+fn compare_refs(
+    names: &mut [u32; MAX_NAMES],
+    edges: &mut [[u32; 10]; MAX_EDGES],
+    state: AbstractState,
+    id1: RefID,
+    id2: RefID,
+) -> AbstractState
+    ensures { λ r. ⌜ ((ls : List ℕ) → Gives (R.comparison (S.Operand.reference (id1 .0)) (S.Operand.reference (id2 .0))) (words ls (now (names .entry)) (now (edges .entry)) state) (words ls (now (names .exit)) (now (edges .exit)) r)) ⌝ }
 {
-    let s = fail_unreadable(state, id1, LabelFilter::Any, 105);
-    let t = fail_unreadable(s, id2, LabelFilter::Any, 105);
-    let u = t.release(id1);
-    let v = u.release(id2);
-    v.give(AbstractValue::NonReference)
+    let at = LabelFilter::Any;
+    let code = READREF_EXISTS_MUTABLE_BORROW;
+    let s = violate_if_unreadable(names, edges, state, id1, at, code);
+    let t = violate_if_unreadable(names, edges, s, id2, at, code);
+    let u = release(names, edges, t, id1);
+    let v = release(names, edges, u, id2);
+    give(v, AbstractValue::NonReference)
 }
 
 // The violation, where the reference is not readable.
-fn fail_unreadable(state: AbstractState, id: RefID, at: LabelFilter, code: u8) -> AbstractState
+fn violate_if_unreadable(
+    names: &[u32; MAX_NAMES],
+    edges: &[[u32; 10]; MAX_EDGES],
+    state: AbstractState,
+    id: RefID,
+    at: LabelFilter,
+    code: u8,
+) -> AbstractState
     requires { ⌜ (code ≡ 0 → ⊥) ⌝ }
-    ensures { λ r. ⌜ outcomeOf r ≡ then (outcomeOf state) (λ s. R.needsName (s .graph) (id .0) (Out.fails (not (R.readable (s .graph) (id .0) (filterOf at))) code (Out.Outcome.done s))) ⌝ }
+    ensures { λ r. ⌜ ((ls : List ℕ) → Does (λ s. R.needsName (s .graph) (id .0) (Out.fails (not (R.readable (s .graph) (id .0) (filterOf at))) code (Out.Outcome.done s))) (words ls (now (names .entry)) (now (edges .entry)) state) (words ls (now (names .entry)) (now (edges .entry)) r)) ⌝ }
 {
-    let b = state.is_readable(id, at);
-    state.fail(
-        Told {
+    let b = is_readable(names, edges, state, id, at);
+    violate_if(
+        state,
+        YesOrNo {
             refusal: b.refusal,
             yes: !b.yes,
         },
@@ -185,134 +308,195 @@ fn fail_unreadable(state: AbstractState, id: RefID, at: LabelFilter, code: u8) -
     )
 }
 
-pub fn read_ref(state: AbstractState, id: RefID) -> AbstractState
-    ensures { λ r. ⌜ answerOf r ≡ then (outcomeOf state) (R.readRef (id .0)) ⌝ }
+pub fn read_ref(
+    names: &mut [u32; MAX_NAMES],
+    edges: &mut [[u32; 10]; MAX_EDGES],
+    state: AbstractState,
+    id: RefID,
+) -> AbstractState
+    ensures { λ r. ⌜ ((ls : List ℕ) → Gives (R.readRef (id .0)) (words ls (now (names .entry)) (now (edges .entry)) state) (words ls (now (names .exit)) (now (edges .exit)) r)) ⌝ }
 {
-    let s = fail_unreadable(state, id, LabelFilter::Any, 105);
-    let t = s.release(id);
-    t.give(AbstractValue::NonReference)
+    let at = LabelFilter::Any;
+    let s = violate_if_unreadable(names, edges, state, id, at, READREF_EXISTS_MUTABLE_BORROW);
+    let t = release(names, edges, s, id);
+    give(t, AbstractValue::NonReference)
 }
 
-pub fn write_ref(state: AbstractState, id: RefID) -> AbstractState
-    ensures { λ r. ⌜ outcomeOf r ≡ then (outcomeOf state) (R.writeRef (id .0)) ⌝ }
+pub fn write_ref(
+    names: &mut [u32; MAX_NAMES],
+    edges: &mut [[u32; 10]; MAX_EDGES],
+    state: AbstractState,
+    id: RefID,
+) -> AbstractState
+    ensures { λ r. ⌜ ((ls : List ℕ) → Does (R.writeRef (id .0)) (words ls (now (names .entry)) (now (edges .entry)) state) (words ls (now (names .exit)) (now (edges .exit)) r)) ⌝ }
 {
-    let m = state.is_mutable(id);
-    let b = state.has_consistent_borrows(id, LabelFilter::Any);
-    let s = state.need(m, 13);
-    let t = s.fail(b, 106);
-    t.release(id)
+    let m = is_mutable(names, state, id);
+    let b = has_consistent_borrows(names, edges, state, id, LabelFilter::Any);
+    let s = require_yes(state, m, 13);
+    let t = violate_if(s, b, WRITEREF_EXISTS_BORROW);
+    release(names, edges, t, id)
 }
 
-pub fn borrow_loc(state: AbstractState, mutable: bool, local: LocalIndex) -> AbstractState
-    ensures { λ r. ⌜ answerOf r ≡ then (outcomeOf state) (R.borrowLoc mutable (local .0)) ⌝ }
+pub fn borrow_loc(
+    names: &mut [u32; MAX_NAMES],
+    edges: &mut [[u32; 10]; MAX_EDGES],
+    state: AbstractState,
+    mutable: bool,
+    i: LocalIndex,
+) -> AbstractState
+    ensures { λ r. ⌜ ((ls : List ℕ) → Gives (R.borrowLoc mutable (i .0)) (words ls (now (names .entry)) (now (edges .entry)) state) (words ls (now (names .exit)) (now (edges .exit)) r)) ⌝ }
 {
-    let b = state.is_local_mutably_borrowed(local);
-    let new = state.fresh();
-    let s = state.fail(
-        Told {
+    let b = is_local_mutably_borrowed(names, edges, state, i);
+    let new = fresh(state);
+    let s = violate_if(
+        state,
+        YesOrNo {
             refusal: b.refusal,
             yes: !mutable & b.yes,
         },
-        107,
+        BORROWLOC_EXISTS_BORROW,
     );
-    let t = s.new_ref(mutable);
-    let u = t.add_local_borrow(local, new);
-    u.give(AbstractValue::Reference(new))
+    let t = new_ref(names, s, mutable);
+    let u = add_local_borrow(names, edges, t, i, new);
+    give(u, AbstractValue::Reference(new))
 }
 
-pub fn borrow_field(state: AbstractState, mutable: bool, id: RefID, field: u16) -> AbstractState
-    ensures { λ r. ⌜ answerOf r ≡ then (outcomeOf state) (R.borrowField mutable (id .0) field) ⌝ }
+pub fn borrow_field(
+    names: &mut [u32; MAX_NAMES],
+    edges: &mut [[u32; 10]; MAX_EDGES],
+    state: AbstractState,
+    mutable: bool,
+    id: RefID,
+    field: u16,
+) -> AbstractState
+    ensures { λ r. ⌜ ((ls : List ℕ) → Gives (R.borrowField mutable (id .0) field) (words ls (now (names .entry)) (now (edges .entry)) state) (words ls (now (names .exit)) (now (edges .exit)) r)) ⌝ }
 {
-    let new = state.fresh();
-    let s = fail_field(state, mutable, id, field);
-    let t = s.new_ref(mutable);
-    let u = t.add_field_borrow(id, field, new);
-    let v = u.release(id);
-    v.give(AbstractValue::Reference(new))
+    let new = fresh(state);
+    let s = violate_if_field_borrowed(names, edges, state, mutable, id, field);
+    let t = new_ref(names, s, mutable);
+    let u = add_field_borrow(names, edges, t, id, field, new);
+    let v = release(names, edges, u, id);
+    give(v, AbstractValue::Reference(new))
 }
 
 // A mutable borrow fails on an empty-path borrow; another one, where the field is not readable.
-fn fail_field(state: AbstractState, mutable: bool, id: RefID, field: u16) -> AbstractState
-    ensures { λ r. ⌜ outcomeOf r ≡ then (outcomeOf state) (λ s. R.needsName (s .graph) (id .0) (Out.fails (cond mutable (G.fullyBorrowed (s .graph) (id .0)) (not (R.readable (s .graph) (id .0) (some (fieldLabel field))))) 108 (Out.Outcome.done s))) ⌝ }
+fn violate_if_field_borrowed(
+    names: &[u32; MAX_NAMES],
+    edges: &[[u32; 10]; MAX_EDGES],
+    state: AbstractState,
+    mutable: bool,
+    id: RefID,
+    field: u16,
+) -> AbstractState
+    ensures { λ r. ⌜ ((ls : List ℕ) → Does (λ s. R.needsName (s .graph) (id .0) (Out.fails (cond mutable (L.fullyBorrowed (s .graph) (id .0)) (not (R.readable (s .graph) (id .0) (some (fieldLabel field))))) BORROWFIELD-EXISTS-MUTABLE-BORROW (Out.Outcome.done s))) (words ls (now (names .entry)) (now (edges .entry)) state) (words ls (now (names .entry)) (now (edges .entry)) r)) ⌝ }
 {
+    let code = BORROWFIELD_EXISTS_MUTABLE_BORROW;
     if mutable {
-        let b = state.has_full_borrows(id);
-        return state.fail(b, 108);
+        let b = has_full_borrows(names, edges, state, id);
+        return violate_if(state, b, code);
     }
-    fail_unreadable(state, id, LabelFilter::At(Label::Field(field)), 108)
+    let at = LabelFilter::At(Label::Field(field));
+    violate_if_unreadable(names, edges, state, id, at, code)
 }
 
-pub fn borrow_global(state: AbstractState, mutable: bool, resource: u16) -> AbstractState
-    ensures { λ r. ⌜ answerOf r ≡ then (outcomeOf state) (R.borrowGlobal mutable resource) ⌝ }
+pub fn borrow_global(
+    names: &mut [u32; MAX_NAMES],
+    edges: &mut [[u32; 10]; MAX_EDGES],
+    state: AbstractState,
+    mutable: bool,
+    resource: u16,
+) -> AbstractState
+    ensures { λ r. ⌜ ((ls : List ℕ) → Gives (R.borrowGlobal mutable resource) (words ls (now (names .entry)) (now (edges .entry)) state) (words ls (now (names .exit)) (now (edges .exit)) r)) ⌝ }
 {
-    let b = state.is_global_borrowed(resource);
-    let m = state.is_global_mutably_borrowed(resource);
-    let new = state.fresh();
-    let s = state.fail(
-        Told {
+    let b = is_global_borrowed(names, edges, state, resource);
+    let m = is_global_mutably_borrowed(names, edges, state, resource);
+    let new = fresh(state);
+    let s = violate_if(
+        state,
+        YesOrNo {
             refusal: b.refusal,
             yes: (mutable & b.yes) | m.yes,
         },
-        109,
+        GLOBAL_REFERENCE,
     );
-    let t = s.new_ref(mutable);
-    let u = t.add_resource_borrow(resource, new);
-    u.give(AbstractValue::Reference(new))
+    let t = new_ref(names, s, mutable);
+    let u = add_resource_borrow(names, edges, t, resource, new);
+    give(u, AbstractValue::Reference(new))
 }
 
-pub fn move_from(state: AbstractState, resource: u16) -> AbstractState
-    ensures { λ r. ⌜ answerOf r ≡ then (outcomeOf state) (R.moveFrom resource) ⌝ }
+pub fn move_from(
+    names: &[u32; MAX_NAMES],
+    edges: &[[u32; 10]; MAX_EDGES],
+    state: AbstractState,
+    resource: u16,
+) -> AbstractState
+    ensures { λ r. ⌜ ((ls : List ℕ) → Gives (R.moveFrom resource) (words ls (now (names .entry)) (now (edges .entry)) state) (words ls (now (names .entry)) (now (edges .entry)) r)) ⌝ }
 {
-    let b = state.is_global_borrowed(resource);
-    let s = state.fail(b, 109);
-    s.give(AbstractValue::NonReference)
+    let b = is_global_borrowed(names, edges, state, resource);
+    let s = violate_if(state, b, GLOBAL_REFERENCE);
+    give(s, AbstractValue::NonReference)
 }
 
 // A mutable vector step wants a mutable reference with no borrow.
-fn vector_test(state: AbstractState, mutable: bool, id: RefID, code: u8) -> AbstractState
+fn vector_test(
+    names: &[u32; MAX_NAMES],
+    edges: &[[u32; 10]; MAX_EDGES],
+    state: AbstractState,
+    mutable: bool,
+    id: RefID,
+    code: u8,
+) -> AbstractState
     requires { ⌜ (code ≡ 0 → ⊥) ⌝ }
-    ensures { λ r. ⌜ outcomeOf r ≡ then (outcomeOf state) (λ s. R.needsName (s .graph) (id .0) (R.vectorTest mutable (s .graph) (id .0) code (Out.Outcome.done s))) ⌝ }
+    ensures { λ r. ⌜ ((ls : List ℕ) → Does (λ s. R.needsName (s .graph) (id .0) (R.vectorTest mutable (s .graph) (id .0) code (Out.Outcome.done s))) (words ls (now (names .entry)) (now (edges .entry)) state) (words ls (now (names .entry)) (now (edges .entry)) r)) ⌝ }
 {
-    let m = state.is_mutable(id);
+    let m = is_mutable(names, state, id);
     if mutable {
-        let b = state.has_consistent_borrows(id, LabelFilter::Any);
-        let s = state.need(m, 13);
-        return s.fail(b, code);
+        let b = has_consistent_borrows(names, edges, state, id, LabelFilter::Any);
+        let s = require_yes(state, m, 13);
+        return violate_if(s, b, code);
     }
-    state.heed(m)
+    pass_refusal(state, m)
 }
 
-pub fn vector_op(state: AbstractState, vector: AbstractValue, mutable: bool) -> AbstractState
-    ensures { λ r. ⌜ outcomeOf r ≡ then (outcomeOf state) (R.vectorOp (operandOf vector) mutable) ⌝ }
-{
-    match vector {
-        AbstractValue::Reference(id) => {
-            let s = vector_test(state, mutable, id, 110);
-            s.release(id)
-        }
-        AbstractValue::NonReference => state.refuse(11),
-    }
-}
-
-pub fn vector_element_borrow(
+pub fn vector_op(
+    names: &mut [u32; MAX_NAMES],
+    edges: &mut [[u32; 10]; MAX_EDGES],
     state: AbstractState,
     vector: AbstractValue,
     mutable: bool,
 ) -> AbstractState
-    ensures { λ r. ⌜ answerOf r ≡ then (outcomeOf state) (R.vectorElementBorrow (operandOf vector) mutable) ⌝ }
+    ensures { λ r. ⌜ ((ls : List ℕ) → Does (R.vectorOp (operandOf vector) mutable) (words ls (now (names .entry)) (now (edges .entry)) state) (words ls (now (names .exit)) (now (edges .exit)) r)) ⌝ }
 {
     match vector {
         AbstractValue::Reference(id) => {
-            let new = state.fresh();
-            let s = vector_test(state, mutable, id, 111);
-            let t = s.new_ref(mutable);
-            let u = t.add_borrow(id, new);
-            let v = u.release(id);
-            v.give(AbstractValue::Reference(new))
+            let s = vector_test(names, edges, state, mutable, id, VEC_UPDATE);
+            release(names, edges, s, id)
+        }
+        AbstractValue::NonReference => refuse(state, 11),
+    }
+}
+
+pub fn vector_element_borrow(
+    names: &mut [u32; MAX_NAMES],
+    edges: &mut [[u32; 10]; MAX_EDGES],
+    state: AbstractState,
+    vector: AbstractValue,
+    mutable: bool,
+) -> AbstractState
+    ensures { λ r. ⌜ ((ls : List ℕ) → Gives (R.vectorElementBorrow (operandOf vector) mutable) (words ls (now (names .entry)) (now (edges .entry)) state) (words ls (now (names .exit)) (now (edges .exit)) r)) ⌝ }
+{
+    match vector {
+        AbstractValue::Reference(id) => {
+            let new = fresh(state);
+            let s = vector_test(names, edges, state, mutable, id, VEC_BORROW_ELEMENT);
+            let t = new_ref(names, s, mutable);
+            let u = add_borrow(names, edges, t, id, new);
+            let v = release(names, edges, u, id);
+            give(v, AbstractValue::Reference(new))
         }
         AbstractValue::NonReference => {
-            let s = state.refuse(11);
-            s.give(AbstractValue::NonReference)
+            let s = refuse(state, 11);
+            give(s, AbstractValue::NonReference)
         }
     }
 }

@@ -8,7 +8,7 @@ use native.Mathlib.Omega.{arith}
 use borrow.Author.Tests.{lt-ltb}
 use lib.Dec.{leb, ltb, eqb}
 use lib.ListN.{length}
-use Rattle.meaning.specs.References.{Edge, weakest, short, ltEdge, eqEdge}
+use Rattle.meaning.specs.References.{weakest, short, ltEdge, eqEdge}
 use Rattle.meaning.specs.Lists.{any}
 use Rattle.meaning.specs.Laws.Base.{and-l}
 use Rattle.meaning.specs.Laws.Array.{empty-length}

@@ -1,3 +1,6 @@
 pub mod Models
 pub mod ModelLaws
+pub mod ArrayLaws
+pub mod NameLaws
+pub mod RenameLaws
 pub mod Folds

@@ -1,106 +1,53 @@
--- The models read and written one element at a time.
-use mathlib.Core.Path.{_≡_, refl, sym, ap, _∙_}
-use mathlib.Core.Bool.{Bool, true, false, cond}
+-- The models read one element at a time, and what makes them.
+use mathlib.Core.Path.{_≡_, sym, ap, _∙_}
 use mathlib.Core.List.{List, [], _∷_, map}
-use Prim.Native.Nat.{ℕ, _+_, _≤_, _<_}
+use mathlib.Core.Bool.{true}
+use Prim.Native.Nat.{ℕ, _+_, _%_, _≤_, _<_, min}
 use native.Mathlib.Omega.{arith}
-use borrow.Author.Tests.{eq-eqb, ne-eqb}
-use lib.Dec.{eqb}
-use lib.ListN.{length, take, drop, getD, drop-of-length-le, length-map, length-take}
-use Rattle.meaning.specs.Answers.{Ans, ok, refuse, andThen, leaves}
-use Rattle.meaning.specs.Refinement.Pairs.{or21}
-use Rattle.meaning.specs.Laws.Array.{front-map-step, front-take}
-use Rattle.references.specs.ModelLaws as R
-use Rattle.borrow_graph.specs.Models.{refOf, refsOf, gedgeOf, edgesOf, listAt, heldOf, told, changeOf, mapOf}
-use Rattle.borrow_graph.specs.declared.graph.Ref.{Ref}
-use Rattle.borrow_graph.specs.declared.graph.Refs.{Refs}
-use Rattle.borrow_graph.specs.declared.graph.GraphEdge.{GraphEdge}
-use Rattle.borrow_graph.specs.declared.graph.GraphEdges.{GraphEdges}
+use borrow.Author.Tests.{le-leb}
+use lib.ListN.{length, take, drop, getD, drop-of-length-le, length-take}
+use Rattle.meaning.specs.Answers.{Ans, ok, refuse, leaves}
+use Rattle.meaning.specs.Lists.{upTo}
+use Rattle.meaning.specs.References.{short}
+use Rattle.meaning.specs.BorrowGraph.{Graph}
+use Rattle.meaning.specs.Area.{nameIn, labelIn}
+use Rattle.meaning.specs.Laws.Listing.{upTo-length}
+use Rattle.meaning.specs.Laws.Array.{front-map-step, front-all}
+use Rattle.references.specs.Models.{rowOf, edgesIn, namesIn, told}
+use Rattle.borrow_graph.specs.Models.{graphIn, Tells, Answers, changeOf, mapOf}
 use Rattle.borrow_graph.specs.declared.graph.BorrowGraph.{BorrowGraph}
 use Rattle.borrow_graph.specs.declared.remap.IdPair.{IdPair}
 use Rattle.borrow_graph.specs.declared.remap.IdMap.{IdMap}
 
--- what lies past the end of an array
-abbrev pub no-ref : Ref
-no-ref = record { id = record { 0 = 0 }; mutable = false }
+-- a count cut to the array's length
+cut : {A : Type 0} (l : List A) (n k : ℕ) → length l ≡ k → take (min n k) l ≡ take n l
+cut {A} l n k e = ap (λ (j : ℕ). take (min n j) l) (sym e) ∙ ap (λ (j : ℕ). take j l) (sym (length-take n l)) ∙ front-all n l
 
-pub refs-step : (s : Refs) (i : ℕ) → i < length (refsOf s) → drop i (refsOf s) ≡ refOf (getD (s .list) i no-ref) ∷ drop (i + 1) (refsOf s)
-unfolding refsOf
-refs-step s i h = front-map-step refOf (s .len) (s .list) no-ref i h
+pub names-cut : (ws : List ℕ) (n : ℕ) → length ws ≡ 48 → namesIn ws (min n 48) ≡ namesIn ws n
+unfolding namesIn
+names-cut ws n e = ap (map nameIn) (cut ws n 48 e)
 
-pub refs-end : (s : Refs) (i : ℕ) → length (refsOf s) ≤ i → drop i (refsOf s) ≡ []
-refs-end s i h = drop-of-length-le (refsOf s) h
+pub edges-cut : (rows : List (List ℕ)) (m : ℕ) → length rows ≡ 96 → edgesIn rows (min m 96) ≡ edgesIn rows m
+unfolding edgesIn
+edges-cut rows m e = ap (map rowOf) (cut rows m 96 e)
 
-pub refs-front : (s : Refs) (k : ℕ) → k ≤ length (refsOf s) → map refOf (take k (s .list)) ≡ take k (refsOf s)
-unfolding refsOf
-refs-front s k h = front-take refOf (s .len) k (s .list) h
-
--- no more than the array holds
-pub refs-few : (s : Refs) → length (s .list) ≡ 48 → length (refsOf s) ≤ 48
-unfolding refsOf
-refs-few s e = simp (length-map, length-take) (omega arith)
-
-pub refs-made : (l : List Ref) (n : ℕ) → refsOf (record { list = l; len = n }) ≡ map refOf (take n l)
-unfolding refsOf
-refs-made l n = refl
-
-abbrev pub no-gedge : GraphEdge
-no-gedge = record { parent = record { 0 = 0 }; child = record { 0 = 0 }; blurred = false; edge = R.no-edge }
-
-pub edges-step : (s : GraphEdges) (i : ℕ) → i < length (edgesOf s) → drop i (edgesOf s) ≡ gedgeOf (getD (s .list) i no-gedge) ∷ drop (i + 1) (edgesOf s)
-unfolding edgesOf
-edges-step s i h = front-map-step gedgeOf (s .len) (s .list) no-gedge i h
-
-pub edges-end : (s : GraphEdges) (i : ℕ) → length (edgesOf s) ≤ i → drop i (edgesOf s) ≡ []
-edges-end s i h = drop-of-length-le (edgesOf s) h
-
-pub edges-front : (s : GraphEdges) (k : ℕ) → k ≤ length (edgesOf s) → map gedgeOf (take k (s .list)) ≡ take k (edgesOf s)
-unfolding edgesOf
-edges-front s k h = front-take gedgeOf (s .len) k (s .list) h
-
--- the same of a graph's own edges
-pub held-step : (g : BorrowGraph) (i : ℕ) → i < length (heldOf g) → drop i (heldOf g) ≡ gedgeOf (getD (g .edges) i no-gedge) ∷ drop (i + 1) (heldOf g)
-held-step g i h = edges-step (listAt g) i h
-
-pub held-end : (g : BorrowGraph) (i : ℕ) → length (heldOf g) ≤ i → drop i (heldOf g) ≡ []
-held-end g i h = edges-end (listAt g) i h
-
-pub edges-made : (l : List GraphEdge) (n : ℕ) → edgesOf (record { list = l; len = n }) ≡ map gedgeOf (take n l)
-unfolding edgesOf
-edges-made l n = refl
-
-pub edges-count : (l : List GraphEdge) (n : ℕ) → n ≤ length l → length (edgesOf (record { list = l; len = n })) ≡ n
-unfolding edgesOf
-edges-count l n h = simp (length-map, length-take) (omega arith)
-
--- ---- an answer as a number and a value
-
-pub told-yes : {A : Type 0} (n : ℕ) (t : A) → n ≡ 0 → told n t ≡ ok t
-told-yes {A} n t z = ap (λ (b : Bool). cond b (ok t) (refuse n)) (eq-eqb n 0 z)
-
-pub told-no : {A : Type 0} (n : ℕ) (t : A) → (n ≡ 0 → ⊥) → told n t ≡ refuse n
-told-no {A} n t z = ap (λ (b : Bool). cond b (ok t) (refuse n)) (ne-eqb n 0 z)
-
--- a turn of a loop: a step a that is answered goes on, one that is refused ends it
-module _ {A B : Type 0} (n : ℕ) (t : A) (a : Ans A) (f : A → Ans B) (r : Ans B) (e : told n t ≡ a) (h : andThen a f ≡ r) where
-  pub told-on : n ≡ 0 → f t ≡ r
-  told-on z = ap (λ (b : Ans A). andThen b f) (sym (told-yes n t z) ∙ e) ∙ h
-
-  pub told-off : (n ≡ 0 → ⊥) → (s : B) → told n s ≡ r
-  told-off z s = told-no n s z ∙ ap (λ (b : Ans A). andThen b f) (sym (told-no n t z) ∙ e) ∙ h
-
--- a call refused with what a callee was refused with
-pub told-declined : {A : Type 0} (n : ℕ) (s : A) (a : Ans A) → (n ≡ 0 → ⊥) → a ≡ refuse n → (told n s ≡ a) × (s ≡ leaves s a)
-told-declined {A} n s a z e = (told-no n s z ∙ sym e, sym (ap (λ (b : Ans A). leaves s b) e))
-
--- an answer that is not 21 needs no second pass
-pub told-first : {A : Type 0} (n : ℕ) (t : A) (a k : Ans A) → (n ≡ 21 → ⊥) → told n t ≡ a → told n t ≡ or21 a k
-told-first {A} n t a k z e = go (eqb n 0) ∙ ap (λ (b : Ans A). or21 b k) e
+-- a row's path has at most eight labels
+pub row-short : (r : List ℕ) → short (rowOf r .edge) ≡ true
+unfolding short
+row-short r = le-leb _ _ (few (getD r 1 0 % 16) (λ i. labelIn (getD r (2 + i) 0)))
   where
-    go : (b : Bool) → cond b (ok t) (refuse n) ≡ or21 (cond b (ok t) (refuse n)) k
-    go true = refl
-    go false = ap (λ (b : Bool). cond b k (refuse n)) (sym (ne-eqb n 21 z))
+    few : (n : ℕ) (f : ℕ → ℕ) → length (upTo (min n 8) f) ≤ 8
+    few n f = let e : length (upTo (min n 8) f) ≡ min n 8 = upTo-length (min n 8) f in omega arith
 
+-- a call that is refused leaves all as it was
+pub declines : (a : Ans Graph) (ns : List ℕ) (es : List (List ℕ)) (g : BorrowGraph) (n : ℕ) → told n (graphIn ns es g) ≡ refuse n → a ≡ refuse n → Tells ns es g → Answers a ns es g ns es (record { refusal = n; graph = g })
+declines a ns es g n z e t = record { answer = z ∙ sym e; left = sym (ap (λ (b : Ans Graph). leaves (graphIn ns es g) b) e); tells = t }
+
+-- one that is answered leaves the new graph
+pub accepts : (a : Ans Graph) (ns : List ℕ) (es : List (List ℕ)) (g : BorrowGraph) (ns′ : List ℕ) (es′ : List (List ℕ)) (h : BorrowGraph) → a ≡ ok (graphIn ns′ es′ h) → Tells ns′ es′ h → Answers a ns es g ns′ es′ (record { refusal = 0; graph = h })
+accepts a ns es g ns′ es′ h e t = record { answer = sym e; left = sym (ap (λ (b : Ans Graph). leaves (graphIn ns es g) b) e); tells = t }
+
+-- what lies past the end of an array
 abbrev pub no-pair : IdPair
 no-pair = record { old = record { 0 = 0 }; new = record { 0 = 0 } }
 

@@ -1,7 +1,5 @@
-// The labelled borrow graph (graph.rs): its types, names, look-ups, cover and renaming. Borrows, release and join stand in
-// the crate borrow_graph_edit.
-mod cover;
-pub mod edges;
+// The labelled borrow graph (graph.rs) on its arrays: names of 48 words, edges of 96 rows.
+pub mod cover;
 pub mod graph;
 pub mod lookups;
 pub mod refs;

@@ -1,40 +1,35 @@
-// The look-ups of borrows and of edges.
+// The look-ups of borrows and of edges. Where each stands in the Rust (graph.rs):
+//
+//   here            the Rust
+//   borrowed_by     48 `borrowed_by`, with what its callers ask of the two maps
+//   between_edges   71 `between_edges`
+//   out_edges       80 `out_edges`
+//   in_edges        93 `in_edges`
 use crate::graph::BorrowGraph;
-use crate::graph::GraphEdge;
-use crate::graph::GraphEdges;
-use crate::graph::Refs;
-use paths::Label;
-use paths::Path;
-use paths::first_number;
+use crate::graph::BorrowedBy;
+use crate::graph::Found;
+use crate::refs::holds;
+use crate::refs::is_mutable_in;
+use meaning::MAX_EDGES;
+use meaning::MAX_NAMES;
+use meaning::lesser;
 use references::RefID;
+use references::rows::LabelFilter;
+use references::rows::child;
+use references::rows::labels;
+use references::rows::meets;
+use references::rows::parent;
 ghost use mathlib.Core.Path.{_≡_};
+ghost use mathlib.Core.List.{List};
+ghost use Prim.Native.Nat.{ℕ, _≤_};
+ghost use lib.ListN.{length};
+ghost use Rattle.meaning.specs.Limits.{maxNames, maxEdges};
 ghost use Rattle.meaning.specs.Lists.{keep};
-ghost use Rattle.meaning.specs.BorrowGraph.{meetsLabel, ofName, borrowedBy, outEdges, inEdges, betweenEdges};
-ghost use Rattle.paths.specs.Models.{pathOf};
-ghost use Rattle.borrow_graph.specs.Models.{filterOf, gedgeOf, refsOf, edgesOf, heldOf, graphOf, borrowsOf, borrowedOf, listOf};
+ghost use Rattle.meaning.specs.BorrowGraph.{ofName, borrowedBy, outEdges, inEdges, betweenEdges};
+ghost use Rattle.references.specs.Models.{rowOf, namesIn, edgesIn, filterOf, told};
+ghost use Rattle.borrow_graph.specs.Models.{graphIn, Tells, borrowsOf, borrowedOf};
 ghost use Rattle.borrow_graph.specs.Models as M;
 ghost use Rattle.borrow_graph.specs.Folds.{noBorrows, addBorrow, borrowsIn};
-
-// The borrows that count: all, or those that meet a label.
-pub enum LabelFilter {
-    Any,
-    At(Label),
-}
-
-// A refusal's number, or 0 and whether there is an empty-path borrow, one that counts, and one that counts with a mutable
-// borrower. Beside a refusal the three are free.
-pub struct BorrowedBy {
-    pub refusal: u8,
-    pub full: bool,
-    pub consistent: bool,
-    pub mutable: bool,
-}
-
-// A refusal's number, or 0 and edges with their ends. Beside a refusal `edges` is free.
-pub struct Edges {
-    pub refusal: u8,
-    pub edges: GraphEdges,
-}
 
 // The edges that are looked up: those from a name, to a name, or between two.
 pub(crate) enum Ends {
@@ -43,42 +38,76 @@ pub(crate) enum Ends {
     Between(RefID, RefID),
 }
 
-impl LabelFilter {
-    // Whether a path is empty or starts with the label.
-    pub(crate) fn meets(self, path: Path) -> bool
-        ensures { λ r. ⌜ r ≡ meetsLabel (filterOf self) (pathOf path) ⌝ }
-    {
-        match self {
-            LabelFilter::Any => true,
-            LabelFilter::At(label) => {
-                let n = path.len();
-                if 0 < n {
-                    let first = first_number(path.kinds, path.labels[0]);
-                    let l = label.number();
-                    return l == first;
-                }
-                true
-            }
-        }
+// One borrow more.
+pub(crate) fn add(
+    found: BorrowedBy,
+    names: &[u32; MAX_NAMES],
+    n: usize,
+    x: &[u32; 10],
+    at: LabelFilter,
+) -> BorrowedBy
+    ensures { λ r. ⌜ (r .refusal ≡ found .refusal) × (length (now (names .entry)) ≡ maxNames → borrowsOf r ≡ addBorrow (namesIn (now (names .entry)) n) (filterOf at) (borrowsOf found) (rowOf (now (x .entry)))) ⌝ }
+{
+    let bare = labels(x) == 0;
+    let counts = meets(x, at);
+    let c = child(x);
+    let writes = is_mutable_in(names, n, c);
+    BorrowedBy {
+        refusal: found.refusal,
+        full: found.full | bare,
+        consistent: found.consistent | counts,
+        mutable: found.mutable | (counts & writes),
     }
 }
 
-impl BorrowedBy {
-    // One borrow more.
-    pub(crate) fn add(self, x: GraphEdge, refs: Refs, at: LabelFilter) -> Self
-        ensures { λ r. ⌜ (r .refusal ≡ self .refusal) × (borrowsOf r ≡ addBorrow (refsOf refs) (filterOf at) (borrowsOf self) (gedgeOf x)) ⌝ }
-    {
-        let e = x.edge;
-        let p = e.path;
-        let bare = p.len() == 0;
-        let counts = at.meets(p);
-        let writes = refs.is_mutable(x.child);
-        Self {
-            refusal: self.refusal,
-            full: self.full | bare,
-            consistent: self.consistent | counts,
-            mutable: self.mutable | (counts & writes),
+pub(crate) fn borrows(
+    names: &[u32; MAX_NAMES],
+    n: usize,
+    edges: &[[u32; 10]; MAX_EDGES],
+    m: usize,
+    id: RefID,
+    at: LabelFilter,
+) -> BorrowedBy
+    ensures { λ r. ⌜ (r .refusal ≡ 0) × (length (now (names .entry)) ≡ maxNames → length (now (edges .entry)) ≡ maxEdges → borrowsOf r ≡ borrowsIn (namesIn (now (names .entry)) n) (id .0) (filterOf at) noBorrows (edgesIn (now (edges .entry)) m)) ⌝ }
+{
+    let k = lesser(m, MAX_EDGES);
+    let mut found = BorrowedBy {
+        refusal: 0,
+        full: false,
+        consistent: false,
+        mutable: false,
+    };
+    let mut i: usize = 0;
+    while i < k {
+        let p = parent(&edges[i]);
+        if id.0 == p.0 {
+            found = add(found, names, n, &edges[i], at);
+            i += 1;
+        } else {
+            i += 1;
         }
+    }
+    found
+}
+
+pub fn borrowed_by(
+    names: &[u32; MAX_NAMES],
+    edges: &[[u32; 10]; MAX_EDGES],
+    g: BorrowGraph,
+    id: RefID,
+    at: LabelFilter,
+) -> BorrowedBy
+    ensures { λ r. ⌜ (Tells (now (names .entry)) (now (edges .entry)) g → borrowedOf r ≡ borrowedBy (graphIn (now (names .entry)) (now (edges .entry)) g) (id .0) (filterOf at)) ⌝ }
+{
+    let h = holds(names, g.refs, id);
+    if g.formed & h {
+        return borrows(names, g.refs, edges, g.edges, id, at);
+    }
+    BorrowedBy {
+        refusal: 9,
+        full: false,
+        consistent: false,
+        mutable: false,
     }
 }
 
@@ -94,125 +123,93 @@ impl Ends {
     }
 }
 
-impl BorrowGraph {
-    pub(crate) fn borrows(self, refs: Refs, id: RefID, at: LabelFilter) -> BorrowedBy
-        ensures { λ r. ⌜ (r .refusal ≡ 0) × (borrowsOf r ≡ borrowsIn (refsOf refs) (id .0) (filterOf at) noBorrows (heldOf self)) ⌝ }
-    {
-        let n = self.len();
-        let mut found = BorrowedBy {
-            refusal: 0,
-            full: false,
-            consistent: false,
-            mutable: false,
-        };
-        let mut i: usize = 0;
-        while i < n {
-            let x = self.edges[i];
-            if id.0 == x.parent.0 {
-                found = found.add(x, refs, at);
-                i += 1;
-            } else {
-                i += 1;
-            }
-        }
-        found
-    }
-
-    pub(crate) fn select(self, ends: Ends) -> GraphEdges
-        ensures { λ r. ⌜ edgesOf r ≡ keep (λ x. M.picks ends (x .parent) (x .child)) (heldOf self) ⌝ }
-    {
-        let n = self.len();
-        let mut out = self.edges;
-        let mut j: usize = 0;
-        let mut i: usize = 0;
-        while i < n {
-            let x = self.edges[i];
-            if ends.picks(x.parent, x.child) {
-                out[j] = x;
-                j += 1;
-                i += 1;
-            } else {
-                i += 1;
-            }
-        }
-        GraphEdges {
-            list: out,
-            len: j as u8,
+// The edges that are looked up go into `out`; how many there are.
+pub(crate) fn select(
+    edges: &[[u32; 10]; MAX_EDGES],
+    m: usize,
+    ends: Ends,
+    out: &mut [[u32; 10]; MAX_EDGES],
+) -> usize
+    ensures { λ r. ⌜ (length (now (edges .entry)) ≡ maxEdges → length (now (out .entry)) ≡ maxEdges → (edgesIn (now (out .exit)) r ≡ keep (λ x. M.picks ends (x .parent) (x .child)) (edgesIn (now (edges .entry)) m)) × (length (now (out .exit)) ≡ maxEdges) × (r ≤ maxEdges)) ⌝ }
+{
+    let k = lesser(m, MAX_EDGES);
+    let mut j: usize = 0;
+    let mut i: usize = 0;
+    while i < k {
+        let x = edges[i];
+        let p = parent(&x);
+        let c = child(&x);
+        if ends.picks(p, c) {
+            out[j] = x;
+            j += 1;
+            i += 1;
+        } else {
+            i += 1;
         }
     }
+    j
 }
 
-impl BorrowGraph {
-    pub fn borrowed_by(self, id: RefID, at: LabelFilter) -> BorrowedBy
-        ensures { λ r. ⌜ borrowedOf r ≡ borrowedBy (graphOf self) (id .0) (filterOf at) ⌝ }
-    {
-        let rs = self.refs;
-        let w = self.well_formed();
-        let h = rs.holds(id);
-        if w & h {
-            return self.borrows(rs, id, at);
-        }
-        BorrowedBy {
-            refusal: 9,
-            full: false,
-            consistent: false,
-            mutable: false,
-        }
+// The edges at a name.
+pub(crate) fn edges_at(
+    names: &[u32; MAX_NAMES],
+    edges: &[[u32; 10]; MAX_EDGES],
+    g: BorrowGraph,
+    id: RefID,
+    ends: Ends,
+    out: &mut [[u32; 10]; MAX_EDGES],
+) -> Found
+    ensures { λ r. ⌜ (Tells (now (names .entry)) (now (edges .entry)) g → length (now (out .entry)) ≡ maxEdges → told (r .refusal) (edgesIn (now (out .exit)) (r .len)) ≡ ofName (graphIn (now (names .entry)) (now (edges .entry)) g) (id .0) (keep (λ x. M.picks ends (x .parent) (x .child)) (edgesIn (now (edges .entry)) (g .edges)))) ⌝ }
+{
+    let h = holds(names, g.refs, id);
+    if g.formed & h {
+        let n = select(edges, g.edges, ends, out);
+        return Found { refusal: 0, len: n };
     }
+    Found { refusal: 9, len: 0 }
+}
 
-    // The edges at a name.
-    pub(crate) fn edges_at(self, id: RefID, ends: Ends) -> Edges
-        ensures { λ r. ⌜ listOf r ≡ ofName (graphOf self) (id .0) (keep (λ x. M.picks ends (x .parent) (x .child)) (heldOf self)) ⌝ }
-    {
-        let rs = self.refs;
-        let w = self.well_formed();
-        let h = rs.holds(id);
-        if w & h {
-            let fs = self.select(ends);
-            return Edges {
-                refusal: 0,
-                edges: fs,
-            };
-        }
-        let list = self.edges;
-        Edges {
-            refusal: 9,
-            edges: GraphEdges { list: list, len: 0 },
-        }
-    }
+pub fn out_edges(
+    names: &[u32; MAX_NAMES],
+    edges: &[[u32; 10]; MAX_EDGES],
+    g: BorrowGraph,
+    id: RefID,
+    out: &mut [[u32; 10]; MAX_EDGES],
+) -> Found
+    ensures { λ r. ⌜ (Tells (now (names .entry)) (now (edges .entry)) g → length (now (out .entry)) ≡ maxEdges → told (r .refusal) (edgesIn (now (out .exit)) (r .len)) ≡ outEdges (graphIn (now (names .entry)) (now (edges .entry)) g) (id .0)) ⌝ }
+{
+    let ends = Ends::From(id);
+    edges_at(names, edges, g, id, ends, out)
+}
 
-    pub fn out_edges(self, id: RefID) -> Edges
-        ensures { λ r. ⌜ listOf r ≡ outEdges (graphOf self) (id .0) ⌝ }
-    {
-        let ends = Ends::From(id);
-        self.edges_at(id, ends)
-    }
+pub fn in_edges(
+    names: &[u32; MAX_NAMES],
+    edges: &[[u32; 10]; MAX_EDGES],
+    g: BorrowGraph,
+    id: RefID,
+    out: &mut [[u32; 10]; MAX_EDGES],
+) -> Found
+    ensures { λ r. ⌜ (Tells (now (names .entry)) (now (edges .entry)) g → length (now (out .entry)) ≡ maxEdges → told (r .refusal) (edgesIn (now (out .exit)) (r .len)) ≡ inEdges (graphIn (now (names .entry)) (now (edges .entry)) g) (id .0)) ⌝ }
+{
+    let ends = Ends::To(id);
+    edges_at(names, edges, g, id, ends, out)
+}
 
-    pub fn in_edges(self, id: RefID) -> Edges
-        ensures { λ r. ⌜ listOf r ≡ inEdges (graphOf self) (id .0) ⌝ }
-    {
-        let ends = Ends::To(id);
-        self.edges_at(id, ends)
+// 9 where the pair has no edge.
+pub fn between_edges(
+    edges: &[[u32; 10]; MAX_EDGES],
+    g: BorrowGraph,
+    parent: RefID,
+    child: RefID,
+    out: &mut [[u32; 10]; MAX_EDGES],
+) -> Found
+    ensures { λ r. ⌜ ((ns : List ℕ) → Tells ns (now (edges .entry)) g → length (now (out .entry)) ≡ maxEdges → told (r .refusal) (edgesIn (now (out .exit)) (r .len)) ≡ betweenEdges (graphIn ns (now (edges .entry)) g) (parent .0) (child .0)) ⌝ }
+{
+    let ends = Ends::Between(parent, child);
+    let n = select(edges, g.edges, ends, out);
+    let none = n == 0;
+    if g.formed & !none {
+        return Found { refusal: 0, len: n };
     }
-
-    // 9 where the pair has no edge.
-    pub fn between_edges(self, parent: RefID, child: RefID) -> Edges
-        ensures { λ r. ⌜ listOf r ≡ betweenEdges (graphOf self) (parent .0) (child .0) ⌝ }
-    {
-        let w = self.well_formed();
-        let ends = Ends::Between(parent, child);
-        let fs = self.select(ends);
-        let none = fs.len() == 0;
-        if w & !none {
-            return Edges {
-                refusal: 0,
-                edges: fs,
-            };
-        }
-        let list = self.edges;
-        Edges {
-            refusal: 9,
-            edges: GraphEdges { list: list, len: 0 },
-        }
-    }
+    Found { refusal: 9, len: 0 }
 }

@@ -1,3 +1,10 @@
 pub mod Models
 pub mod Places
+pub mod Walks
+pub mod Replaces
+pub mod Edits
+pub mod RowLaws
+pub mod BorrowLaws
 pub mod Ways
+pub mod PassLaws
+pub mod JoinLaws

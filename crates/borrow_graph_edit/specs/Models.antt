@@ -1,22 +1,16 @@
--- What the answers of a pair's exchange and of a release's search stand for in the definitions.
-use mathlib.Core.Path.{_≡_}
-use mathlib.Core.Bool.{true, cond}
-use mathlib.Core.List.{List, [], _∷_}
-use Rattle.meaning.specs.Answers.{Ans}
-use Rattle.meaning.specs.BorrowGraph.{GEdge, between}
-use Rattle.references.specs.Models.{edgeOf}
-use Rattle.borrow_graph.specs.Models.{told, gedgeOf, edgesOf}
+-- What the calls on one list of edges come to.
+use Prim.Native.Nat.{ℕ}
+use mathlib.Core.List.{List}
+use Rattle.meaning.specs.Answers.{Ans, andThen}
+use Rattle.meaning.specs.References.{insert}
+use Rattle.meaning.specs.BorrowGraph.{GEdge, setAt, setTo}
+use Rattle.meaning.specs.Refinement.Pairs.{fewEdges}
+use Rattle.references.specs.Models.{edgesIn, told}
 use Rattle.borrow_graph_edit.specs.declared.pairs.Replaced.{Replaced}
-use Rattle.borrow_graph_edit.specs.declared.release.Side.{Side}
-use Rattle.borrow_graph_edit.specs.declared.release.Bridge.{Bridge}
 
-abbrev pub replacedOf : Replaced → Ans (List GEdge)
-replacedOf a = told (a .refusal) (edgesOf (a .edges))
+abbrev pub replacedIn : List (List ℕ) → Replaced → Ans (List GEdge)
+replacedIn es r = told (r .refusal) (edgesIn es (r .edges))
 
--- xs are the edges on this side of a name
-abbrev pub Found : Side → List GEdge → Type 0
-Found s xs = (s .empty ≡ true → xs ≡ []) × (s .single ≡ true → xs ≡ gedgeOf (s .edge) ∷ [])
-
--- the edges that are put in
-abbrev pub putOf : Bridge → List GEdge
-putOf b = cond (b .one) (between (b .parent .0) (edgeOf (b .edge)) (b .child .0) ∷ []) []
+-- an edge put into the set of its pair, within the limit
+abbrev pub addRow : GEdge → List GEdge → Ans (List GEdge)
+addRow x es = andThen (insert (setAt (x .parent) (x .child) es) (x .edge)) (λ s. fewEdges (setTo (x .parent) (x .child) s es))

@@ -4,22 +4,23 @@ use native.Mathlib.Omega.{arith}
 use mathlib.Core.Path.{_≡_, refl, sym, ap, _∙_}
 use mathlib.Core.Bool.{Bool, true, false, not, _&&_, _||_, cond, false≢true}
 use mathlib.Core.List.{List, [], _∷_, _++_}
-use lib.ListN.{length}
+use lib.ListN.{length, getD}
 use lib.Dec.{leb, eqb}
-use Rattle.meaning.specs.Answers.{Ans, ok, refuse, andThen, guard, leaves}
+use Rattle.meaning.specs.Answers.{Ans, ok, refuse, andThen, guard}
 use Rattle.meaning.specs.Lists.{keep, each}
 use Rattle.meaning.specs.Laws.Base.{ok-inj, guard-ok, and-l, and-r, not-true, leb-le}
 use Rattle.meaning.specs.References.{Edge}
-use Rattle.meaning.specs.BorrowGraph.{GEdge, Graph, held, setAt, setTo, between, splice, spliced, without, wellFormed, addEdge, addAll, limit, release}
+use Rattle.meaning.specs.BorrowGraph.{Name, GEdge, Graph, held, other, setAt, setTo, between, splice, spliced, without, wellFormed, addEdge, addAll, limit, release}
 use Rattle.meaning.specs.Laws.Graph.{wf→inv, room}
 use Rattle.meaning.specs.Refinement.Flat.{meet, splicedRow, rowIf, splicedRows}
 use Rattle.meaning.specs.Laws.Spliced.{spliced-rows}
 use Rattle.meaning.specs.Laws.Add.{limit-pass, without-formed, keep-few}
 use Rattle.meaning.specs.Laws.Put.{insert-short, add-fits, made-length}
 use Rattle.meaning.specs.Refinement.Passes.{fitting, apart}
-use Rattle.references.specs.Models.{edgeOf}
-use Rattle.borrow_graph_edit.specs.Models.{Found}
+use Rattle.references.specs.Models.{rowOf, told}
+use Rattle.references.specs.ModelLaws.{told-no}
 use Rattle.borrow_graph_edit.specs.declared.release.Side.{Side}
+use Rattle.borrow_graph_edit.specs.declared.release.OneWay.{OneWay}
 
 abbrev pub entering : ℕ → GEdge → Bool
 entering n x = eqb n (x .child)
@@ -33,6 +34,14 @@ through x y = cond (not (eqb (x .parent) (y .child))) (between (x .parent) (spli
 
 abbrev pub ways : List GEdge → List GEdge → List GEdge
 ways xs ys = each xs (λ x. each ys (through x))
+
+-- xs are the edges on this side of a name
+abbrev pub Found : List (List ℕ) → Side → List GEdge → Type 0
+Found rows s xs = (s .empty ≡ true → xs ≡ []) × (s .single ≡ true → xs ≡ rowOf (getD rows (s .at) []) ∷ [])
+
+-- the edges that are put in: a row's, which then is not blurred
+abbrev pub putOf : OneWay → List GEdge
+putOf b = cond (b .one) (between (rowOf (b .row) .parent) (rowOf (b .row) .edge) (rowOf (b .row) .child) ∷ []) []
 
 -- ---- the edges that pass a test, found one by one
 
@@ -68,31 +77,32 @@ no-ways : (xs : List GEdge) → ways xs [] ≡ []
 no-ways [] = refl
 no-ways (x ∷ xs) = no-ways xs
 
-module _ (s t : Side) (xs ys : List GEdge) (h : Found s xs) (k : Found t ys) (fits : Bool) (d : Edge)
-    (e : cond fits (ok d) (refuse 22) ≡ fitting (splice (edgeOf (s .edge .edge)) (edgeOf (t .edge .edge)))) where
-  abbrev put : List GEdge
-  put = between (s .edge .parent .0) d (t .edge .child .0) ∷ []
+pub no-way : (a b : Bool) (xs ys : List GEdge) → (a ≡ true → xs ≡ []) → (b ≡ true → ys ≡ []) → a || b ≡ true → ways xs ys ≡ []
+no-way true b xs ys l r v = ap (λ (o : List GEdge). ways o ys) (l refl)
+no-way false true xs ys l r v = ap (λ (o : List GEdge). ways xs o) (r refl) ∙ no-ways xs
+no-way false false xs ys l r v = absurd (false≢true v)
 
-  pub bridge : (s .empty || t .empty) || ((s .single && t .single) && (eqb (s .edge .parent .0) (t .edge .child .0) || fits)) ≡ true
-      → ways xs ys ≡ cond (not (s .empty || t .empty) && not (eqb (s .edge .parent .0) (t .edge .child .0))) put []
-  bridge u = go (s .empty) (t .empty) (h .0) (k .0) u
+-- x and y are the rows in mind, z the row that is made of them, p and q its ends
+module _ (ss st : Bool) (x y z : GEdge) (xs ys : List GEdge) (h : ss ≡ true → xs ≡ x ∷ []) (k : st ≡ true → ys ≡ y ∷ [])
+    (fits : Bool) (e : cond fits (ok (z .edge)) (refuse 22) ≡ fitting (splice (x .edge) (y .edge))) (zp : z .parent ≡ x .parent) (zc : z .child ≡ y .child)
+    (p q : ℕ) (px : p ≡ x .parent) (qy : q ≡ y .child) where
+  abbrev put : List GEdge
+  put = between (z .parent) (z .edge) (z .child) ∷ []
+
+  pub only-way : (ss && st) && (eqb p q || fits) ≡ true → ways xs ys ≡ cond (not (eqb p q)) put []
+  only-way v =
+      let o = and-l (ss && st) (eqb p q || fits) v in
+      (λ i. ways (h (and-l ss st o) i) (k (and-r ss st o) i))
+      ∙ (λ i. (cond (not (eqb (sym px i) (sym qy i))) (w ∷ []) [] ++ []) ++ [])
+      ∙ way (eqb p q) fits e (and-r (ss && st) (eqb p q || fits) v)
     where
       w : GEdge
-      w = between (s .edge .parent .0) (splice (edgeOf (s .edge .edge)) (edgeOf (t .edge .edge))) (t .edge .child .0)
+      w = between (x .parent) (splice (x .edge) (y .edge)) (y .child)
 
-      way : (b f : Bool) → cond f (ok d) (refuse 22) ≡ fitting (splice (edgeOf (s .edge .edge)) (edgeOf (t .edge .edge))) → b || f ≡ true → (cond (not b) (w ∷ []) [] ++ []) ++ [] ≡ cond (not b) put []
-      way true f g v = refl
-      way false true g v = ap (λ (z : Edge). between (s .edge .parent .0) z (t .edge .child .0) ∷ []) (fitted (splice (edgeOf (s .edge .edge)) (edgeOf (t .edge .edge))) d (sym g))
-      way false false g v = absurd (false≢true v)
-
-      go : (a b : Bool) → (a ≡ true → xs ≡ []) → (b ≡ true → ys ≡ []) → (a || b) || ((s .single && t .single) && (eqb (s .edge .parent .0) (t .edge .child .0) || fits)) ≡ true
-          → ways xs ys ≡ cond (not (a || b) && not (eqb (s .edge .parent .0) (t .edge .child .0))) put []
-      go true b p q v = ap (λ (l : List GEdge). ways l ys) (p refl)
-      go false true p q v = ap (λ (l : List GEdge). ways xs l) (q refl) ∙ no-ways xs
-      go false false p q v =
-          let o = and-l (s .single && t .single) (eqb (s .edge .parent .0) (t .edge .child .0) || fits) v in
-          (λ i. ways (h .1 (and-l (s .single) (t .single) o) i) (k .1 (and-r (s .single) (t .single) o) i))
-          ∙ way (eqb (s .edge .parent .0) (t .edge .child .0)) fits e (and-r (s .single && t .single) (eqb (s .edge .parent .0) (t .edge .child .0) || fits) v)
+      way : (b f : Bool) → cond f (ok (z .edge)) (refuse 22) ≡ fitting (splice (x .edge) (y .edge)) → b || f ≡ true → (cond (not b) (w ∷ []) [] ++ []) ++ [] ≡ cond (not b) put []
+      way true f g u = refl
+      way false true g u = let d = fitted (splice (x .edge) (y .edge)) (z .edge) (sym g) in λ i. between (sym zp i) (d i) (sym zc i) ∷ []
+      way false false g u = absurd (false≢true u)
 
 -- ---- what is spliced is the ways
 
@@ -129,6 +139,14 @@ fewer n f z (x ∷ xs) e = go (eqb n (x .parent)) (eqb n (x .child)) e (keep-few
     go true b h k r = omega arith
     go false true h k r = omega arith
     go false false h k r = let l : length (keep (apart n) xs) < length xs = r h in omega arith
+
+abbrev answered : Ans Graph → Bool
+answered (ok k) = true
+answered (refuse m) = false
+
+pub without-edges : (ns : List Name) (es fs : List GEdge) (n : ℕ) → fs ≡ keep (apart n) es → record { names = keep (other n) ns; edges = fs } ≡ without (record { names = ns; edges = es }) n
+unfolding without
+without-edges ns es fs n e = λ i. record { names = keep (other n) ns; edges = e i }
 
 -- by what the code has found: the graph without n, and what is put in
 module _ (g : Graph) (n : ℕ) (t : wellFormed g && held g n ≡ true) (h : Graph) (q : h ≡ without g n) where
@@ -171,9 +189,9 @@ module _ (g : Graph) (n : ℕ) (t : wellFormed g && held g n ≡ true) (h : Grap
           omega arith
 
       -- it is not refused, so that nothing of what was left out is asked for again
-      pub release-one : (r : Ans Graph) (k : Graph) → (r ≡ added) × (k ≡ leaves h added) → (r ≡ release g n) × (k ≡ leaves g (release g n))
+      pub release-one : (r : ℕ) (k : Graph) → told r k ≡ added → (told r k ≡ release g n) × ((r ≡ 0 → ⊥) → ⊥)
       release-one r k u =
           let s = insert-short (setAt p c (h .edges)) d sh in
           let f : length (setTo p c (s .0) (h .edges)) ≤ suc (length (h .edges)) = made-length h p c d (s .0) (s .1) in
           let y = add-fits h p c d (s .0) (s .1) (omega (arith, f, roomy)) in
-          (u .0 ∙ sym one-way, u .1 ∙ ap (leaves h) y ∙ sym (ap (leaves g) (one-way ∙ y)))
+          (u ∙ sym one-way, λ v. false≢true (ap answered (sym (told-no r k v) ∙ u ∙ y)))

@@ -1,45 +1,69 @@
-// The join of two graphs of the same names: the other's edges that ours do not cover are put in.
+// The join of two graphs of the same names: the other's edges that ours do not cover are put in. What is covered is judged by our rows as
+// they were before the join: `ours`, beside the rows that change. Where each stands in the Rust (graph.rs):
+//
+//   here         the Rust
+//   join         345 `join`
+//   joinable     346 to 349, the debug assertions at its start
+//   join_pairs   352, the loop over parents and children
+//   join_sets    288 `unmatched_edges` for one pair, and 354, the loop over its edges
 use crate::pairs::Replaced;
 use crate::pairs::between;
 use crate::pairs::replace_set;
+use borrow_graph::cover::holds_all;
 use borrow_graph::graph::Answer;
 use borrow_graph::graph::BorrowGraph;
-use borrow_graph::graph::GraphEdges;
-use references::BorrowEdgeSet;
-use references::Candidate;
-use references::Inserted;
+use meaning::MAX_EDGES;
+use meaning::MAX_NAMES;
 use references::RefID;
+use references::rows::Candidate;
+use references::rows::child;
+use references::rows::parent;
+use references::set::BorrowEdgeSet;
+use references::set::Inserted;
+use references::set::covers;
+use references::set::insert;
+use references::set::len;
 ghost use mathlib.Core.Path.{_≡_};
-ghost use mathlib.Core.Bool.{_&&_};
-ghost use mathlib.Core.List.{[], _∷_};
-ghost use Rattle.meaning.specs.Answers.{leaves};
+ghost use mathlib.Core.Bool.{Bool, true, _&&_};
+ghost use mathlib.Core.List.{List, [], _∷_};
+ghost use Prim.Native.Nat.{ℕ, _≤_};
+ghost use lib.ListN.{length};
+ghost use Rattle.meaning.specs.Limits.{maxNames, maxEdges, maxSetSize};
 ghost use Rattle.meaning.specs.BorrowGraph as G;
 ghost use Rattle.meaning.specs.BorrowGraph.{joinGraphs};
 ghost use Rattle.meaning.specs.Laws.Graph.{insertAll};
 ghost use Rattle.meaning.specs.Refinement.Pairs.{loopAt, replaceLim, twoPass};
 ghost use Rattle.meaning.specs.Laws.Pair.{Neat};
 ghost use Rattle.meaning.specs.Refinement.Passes.{uncovered, joinSet, pairsFrom};
-ghost use Rattle.references.specs.Models.{edgesOf as edgesOfSet, setOf, insertedOf};
-ghost use Rattle.borrow_graph.specs.Models.{edgesOf, graphOf, answerOf};
-ghost use Rattle.borrow_graph_edit.specs.Models.{replacedOf};
+ghost use Rattle.references.specs.Models.{edgesIn, setIn, insertedIn};
+ghost use Rattle.borrow_graph.specs.Models.{graphIn, Tells, Answers};
+ghost use Rattle.borrow_graph_edit.specs.Models.{replacedIn};
 
 // Our set with the edges of theirs that it does not cover as it is.
-fn join_sets(ours: BorrowEdgeSet, theirs: BorrowEdgeSet) -> Inserted
-    ensures { λ r. ⌜ insertedOf r ≡ insertAll (uncovered (edgesOfSet ours) (edgesOfSet theirs)) (setOf ours) ⌝ }
+fn join_sets(
+    set: &mut [[u32; 10]; 10],
+    ours: BorrowEdgeSet,
+    their_set: &[[u32; 10]; 10],
+    theirs: BorrowEdgeSet,
+) -> Inserted
+    ensures { λ r. ⌜ (length (now (set .entry)) ≡ maxSetSize → length (now («their_set» .entry)) ≡ maxSetSize →
+        (insertedIn (now (set .exit)) r ≡ insertAll (uncovered (setIn (now (set .entry)) ours .edges) (setIn (now («their_set» .entry)) theirs .edges)) (setIn (now (set .entry)) ours))
+        × (length (now (set .exit)) ≡ maxSetSize)) ⌝ }
 {
-    let n = theirs.len();
+    let n = len(theirs);
+    let old = *set;
     let mut s = ours;
     let mut i: usize = 0;
     while i < n {
-        let e = theirs.edges[i];
-        if ours.covers(e) {
+        let row = their_set[i];
+        if covers(&old, ours, &row) {
             i += 1;
         } else {
             let c = Candidate {
                 fits: true,
-                edge: e,
+                row: row,
             };
-            let r = s.insert(c);
+            let r = insert(set, s, c);
             if r.refusal == 0 {
                 let t = r.set;
                 s = t;
@@ -53,41 +77,58 @@ fn join_sets(ours: BorrowEdgeSet, theirs: BorrowEdgeSet) -> Inserted
 }
 
 fn join_pair(
-    edges: GraphEdges,
-    ours: GraphEdges,
-    theirs: GraphEdges,
+    edges: &mut [[u32; 10]; MAX_EDGES],
+    m: usize,
+    ours: &[[u32; 10]; MAX_EDGES],
+    k: usize,
+    theirs: &[[u32; 10]; MAX_EDGES],
+    n: usize,
     parent: RefID,
     child: RefID,
     shrinking: bool,
 ) -> Replaced
-    requires { ⌜ Neat (edgesOf edges) × Neat (edgesOf ours) × Neat (edgesOf theirs) ⌝ }
-    ensures { λ r. ⌜ replacedOf r ≡ replaceLim shrinking (joinSet (edgesOf ours) (edgesOf theirs)) (record { parent = parent .0; child = child .0 } ∷ []) (edgesOf edges) ⌝ }
+    requires { ⌜ (m ≤ maxEdges) × (k ≤ maxEdges) × (n ≤ maxEdges) ⌝ }
+    ensures { λ r. ⌜ (r .edges ≤ maxEdges) × (length (now (edges .entry)) ≡ maxEdges → length (now (ours .entry)) ≡ maxEdges → length (now (theirs .entry)) ≡ maxEdges →
+        Neat (edgesIn (now (edges .entry)) m) → Neat (edgesIn (now (ours .entry)) k) → Neat (edgesIn (now (theirs .entry)) n) → (length (now (edges .exit)) ≡ maxEdges)
+        × (replacedIn (now (edges .exit)) r ≡ replaceLim shrinking (joinSet (edgesIn (now (ours .entry)) k) (edgesIn (now (theirs .entry)) n)) (record { parent = parent .0; child = child .0 } ∷ []) (edgesIn (now (edges .entry)) m))) ⌝ }
 {
-    let a = between(ours, parent, child);
-    let b = between(theirs, parent, child);
-    let s = join_sets(a.set, b.set);
-    replace_set(edges, parent, child, s, shrinking)
+    let mut a = [[0u32; 10]; 10];
+    let mut b = [[0u32; 10]; 10];
+    let x = between(ours, k, parent, child, &mut a);
+    let y = between(theirs, n, parent, child, &mut b);
+    let s = join_sets(&mut a, x.set, &b, y.set);
+    replace_set(edges, m, parent, child, &a, s, shrinking)
 }
 
 // Each pair of theirs.
-fn join_pairs(edges: GraphEdges, ours: GraphEdges, theirs: GraphEdges, shrinking: bool) -> Replaced
-    requires { ⌜ Neat (edgesOf edges) × Neat (edgesOf ours) × Neat (edgesOf theirs) ⌝ }
-    ensures { λ r. ⌜ replacedOf r ≡ replaceLim shrinking (joinSet (edgesOf ours) (edgesOf theirs)) (pairsFrom (loopAt 0) (edgesOf theirs)) (edgesOf edges) ⌝ }
+fn join_pairs(
+    edges: &mut [[u32; 10]; MAX_EDGES],
+    m: usize,
+    ours: &[[u32; 10]; MAX_EDGES],
+    k: usize,
+    theirs: &[[u32; 10]; MAX_EDGES],
+    n: usize,
+    shrinking: bool,
+) -> Replaced
+    requires { ⌜ (m ≤ maxEdges) × (k ≤ maxEdges) × (n ≤ maxEdges) ⌝ }
+    ensures { λ r. ⌜ (r .edges ≤ maxEdges) × (length (now (edges .entry)) ≡ maxEdges → length (now (ours .entry)) ≡ maxEdges → length (now (theirs .entry)) ≡ maxEdges →
+        Neat (edgesIn (now (edges .entry)) m) → Neat (edgesIn (now (ours .entry)) k) → Neat (edgesIn (now (theirs .entry)) n) → (length (now (edges .exit)) ≡ maxEdges)
+        × (replacedIn (now (edges .exit)) r ≡ replaceLim shrinking (joinSet (edgesIn (now (ours .entry)) k) (edgesIn (now (theirs .entry)) n)) (pairsFrom (loopAt 0) (edgesIn (now (theirs .entry)) n)) (edgesIn (now (edges .entry)) m))) ⌝ }
 {
-    let n = theirs.len();
-    let mut es = edges;
-    let mut parent = RefID(0);
-    let mut child = RefID(0);
+    let mut count = m;
+    let mut prior_parent = RefID(0);
+    let mut prior_child = RefID(0);
     let mut i: usize = 0;
     while i < n {
-        let x = theirs.list[i];
-        if !((parent.0 == x.parent.0) & (child.0 == x.child.0)) {
-            let r = join_pair(es, ours, theirs, x.parent, x.child, shrinking);
+        let row = theirs[i];
+        let p = parent(&row);
+        let c = child(&row);
+        if !((prior_parent.0 == p.0) & (prior_child.0 == c.0)) {
+            let r = join_pair(edges, count, ours, k, theirs, n, p, c, shrinking);
             if r.refusal == 0 {
-                let fs = r.edges;
-                es = fs;
-                parent = x.parent;
-                child = x.child;
+                count = r.edges;
+                prior_parent = p;
+                prior_child = c;
                 i += 1;
             } else {
                 return r;
@@ -98,21 +139,30 @@ fn join_pairs(edges: GraphEdges, ours: GraphEdges, theirs: GraphEdges, shrinking
     }
     Replaced {
         refusal: 0,
-        edges: es,
+        edges: count,
     }
 }
 
 // Where 96 is passed on the way, again: first what makes the list shorter, then all.
-fn join_all(edges: GraphEdges, theirs: GraphEdges) -> Replaced
-    requires { ⌜ Neat (edgesOf edges) × Neat (edgesOf theirs) ⌝ }
-    ensures { λ r. ⌜ replacedOf r ≡ twoPass (joinSet (edgesOf edges) (edgesOf theirs)) (pairsFrom (loopAt 0) (edgesOf theirs)) (edgesOf edges) ⌝ }
+fn join_all(
+    edges: &mut [[u32; 10]; MAX_EDGES],
+    ours: &[[u32; 10]; MAX_EDGES],
+    k: usize,
+    theirs: &[[u32; 10]; MAX_EDGES],
+    n: usize,
+) -> Replaced
+    requires { ⌜ (k ≤ maxEdges) × (n ≤ maxEdges) ⌝ }
+    ensures { λ r. ⌜ (r .edges ≤ maxEdges) × (now (edges .entry) ≡ now (ours .entry) → length (now (ours .entry)) ≡ maxEdges → length (now (theirs .entry)) ≡ maxEdges →
+        Neat (edgesIn (now (ours .entry)) k) → Neat (edgesIn (now (theirs .entry)) n) → (length (now (edges .exit)) ≡ maxEdges)
+        × (replacedIn (now (edges .exit)) r ≡ twoPass (joinSet (edgesIn (now (ours .entry)) k) (edgesIn (now (theirs .entry)) n)) (pairsFrom (loopAt 0) (edgesIn (now (theirs .entry)) n)) (edgesIn (now (ours .entry)) k))) ⌝ }
 {
-    let a = join_pairs(edges, edges, theirs, false);
+    let a = join_pairs(edges, k, ours, k, theirs, n, false);
     if a.refusal == 21 {
-        let b = join_pairs(edges, edges, theirs, true);
+        let old = *ours;
+        *edges = old;
+        let b = join_pairs(edges, k, ours, k, theirs, n, true);
         if b.refusal == 0 {
-            let es = b.edges;
-            return join_pairs(es, edges, theirs, false);
+            return join_pairs(edges, b.edges, ours, k, theirs, n, false);
         }
         return b;
     }
@@ -120,54 +170,57 @@ fn join_all(edges: GraphEdges, theirs: GraphEdges) -> Replaced
 }
 
 // Two graphs with the same names.
-fn joinable(graph: BorrowGraph, other: BorrowGraph) -> bool
-    ensures { λ r. ⌜ r ≡ ((G.wellFormed (graphOf graph) && G.wellFormed (graphOf other)) && G.sameNames (graphOf graph) (graphOf other)) ⌝ }
+fn joinable(
+    names: &[u32; MAX_NAMES],
+    graph: BorrowGraph,
+    their_names: &[u32; MAX_NAMES],
+    other: BorrowGraph,
+) -> bool
+    ensures { λ r. ⌜ ((es es₂ : List (List ℕ)) → Tells (now (names .entry)) es graph → Tells (now («their_names» .entry)) es₂ other →
+        r ≡ ((G.wellFormed (graphIn (now (names .entry)) es graph) && G.wellFormed (graphIn (now («their_names» .entry)) es₂ other)) && G.sameNames (graphIn (now (names .entry)) es graph) (graphIn (now («their_names» .entry)) es₂ other))) ⌝ }
 {
-    let v = graph.well_formed();
-    let w = other.well_formed();
-    let rs = graph.refs;
-    let ss = other.refs;
-    let a = ss.holds_all(rs);
-    let b = rs.holds_all(ss);
-    (v & w) & (a & b)
+    let a = holds_all(their_names, other.refs, names, graph.refs);
+    let b = holds_all(names, graph.refs, their_names, other.refs);
+    (graph.formed & other.formed) & (a & b)
 }
 
-// 9 where the names differ; 21 for more than 96 edges in the end.
-pub fn join(graph: BorrowGraph, other: BorrowGraph) -> Answer
-    ensures { λ r. ⌜ (answerOf r ≡ joinGraphs (graphOf graph) (graphOf other)) × (graphOf (r .graph) ≡ leaves (graphOf graph) (joinGraphs (graphOf graph) (graphOf other))) ⌝ }
+// 9 where the names differ; 21 for more than 96 edges in the end. The counts are tested so that no row past the array is asked for: a
+// graph has no more.
+pub fn join(
+    names: &[u32; MAX_NAMES],
+    edges: &mut [[u32; 10]; MAX_EDGES],
+    graph: BorrowGraph,
+    their_names: &[u32; MAX_NAMES],
+    their_edges: &[[u32; 10]; MAX_EDGES],
+    other: BorrowGraph,
+) -> Answer
+    ensures { λ r. ⌜ (Tells (now (names .entry)) (now (edges .entry)) graph → Tells (now («their_names» .entry)) (now («their_edges» .entry)) other →
+        Answers (joinGraphs (graphIn (now (names .entry)) (now (edges .entry)) graph) (graphIn (now («their_names» .entry)) (now («their_edges» .entry)) other))
+        (now (names .entry)) (now (edges .entry)) graph (now (names .entry)) (now (edges .exit)) r) ⌝ }
 {
-    if joinable(graph, other) {
-        let rs = graph.refs;
-        let ours = graph.edges;
-        let es = GraphEdges {
-            list: ours,
-            len: graph.len,
-        };
-        let list = other.edges;
-        let theirs = GraphEdges {
-            list: list,
-            len: other.len,
-        };
-        let r = join_all(es, theirs);
+    let few = (graph.edges <= MAX_EDGES) & (other.edges <= MAX_EDGES);
+    let same = joinable(names, graph, their_names, other);
+    if few & same {
+        let old = *edges;
+        let r = join_all(edges, &old, graph.edges, their_edges, other.edges);
         if r.refusal == 0 {
-            let fs = r.edges;
-            let out = fs.list;
             return Answer {
-                graph: BorrowGraph {
-                    refs: rs,
-                    edges: out,
-                    len: fs.len,
-                },
                 refusal: 0,
+                graph: BorrowGraph {
+                    refs: graph.refs,
+                    edges: r.edges,
+                    formed: true,
+                },
             };
         }
+        *edges = old;
         return Answer {
-            graph: graph,
             refusal: r.refusal,
+            graph: graph,
         };
     }
     Answer {
-        graph: graph,
         refusal: 9,
+        graph: graph,
     }
 }

@@ -1,5 +1,6 @@
-// The calls of the borrow graph that move its edges (graph.rs): borrows, release and join.
+// The calls that change a graph's edges (graph.rs): borrows, release and join, in place.
 pub mod borrow;
+mod edges;
 pub mod join;
 mod pairs;
 pub mod release;

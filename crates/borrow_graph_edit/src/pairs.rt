@@ -1,25 +1,26 @@
-// A pair's set: collected, and exchanged for a new one within the limit of 96 edges.
-use borrow_graph::graph::GraphEdge;
-use borrow_graph::graph::GraphEdges;
+// A pair's set: collected, and exchanged for a new one within the limit of 96 edges. In the Rust it is an entry of `borrowed_by` and one of
+// `borrows_from` (references.rs, 64).
 use meaning::MAX_EDGE_SET_SIZE;
 use meaning::MAX_EDGES;
 use paths::Ordering;
-use references::BorrowEdge;
-use references::BorrowEdgeSet;
-use references::Inserted;
 use references::RefID;
+use references::rows::is_blurred;
+use references::rows::side;
+use references::rows::tagged;
+use references::set::BorrowEdgeSet;
+use references::set::Inserted;
+use references::set::len;
 ghost use mathlib.Core.Path.{_≡_};
 ghost use mathlib.Core.List.{_++_};
-ghost use Prim.Native.Nat.{_+_, _-_, _≤_};
+ghost use Prim.Native.Nat.{_+_, _-_, _≤_, min};
 ghost use lib.ListN.{length, take, drop};
 ghost use Rattle.meaning.specs.Answers.{andThen};
 ghost use Rattle.meaning.specs.Lists.{keep};
 ghost use Rattle.meaning.specs.BorrowGraph.{tagged, isBefore, setAt};
-ghost use Rattle.meaning.specs.Refinement.Pairs.{replaceOne};
+ghost use Rattle.meaning.specs.Refinement.Pairs.{edgesAt, replaceOne};
 ghost use Rattle.meaning.specs.Laws.Pair.{Neat};
-ghost use Rattle.references.specs.Models.{edgesOf as edgesOfSet, setOf, insertedOf};
-ghost use Rattle.borrow_graph.specs.Models.{edgesOf};
-ghost use Rattle.borrow_graph_edit.specs.Models.{replacedOf};
+ghost use Rattle.references.specs.Models.{edgesIn, setEdges, setIn, insertedIn};
+ghost use Rattle.borrow_graph_edit.specs.Models.{replacedIn};
 
 // The set of a pair, and how many edges stand before it.
 pub(crate) struct PairSet {
@@ -27,37 +28,40 @@ pub(crate) struct PairSet {
     pub set: BorrowEdgeSet,
 }
 
-// A refusal's number, or 0 and the edges. Beside a refusal `edges` is free.
-pub(crate) struct Replaced {
-    pub refusal: u8,
-    pub edges: GraphEdges,
+// How many edges stand before a pair's, and how many the pair has.
+pub(crate) struct PairPlace {
+    pub low: usize,
+    pub size: usize,
 }
 
-// The set of a pair, and how many edges stand before it.
-pub(crate) fn between(edges: GraphEdges, parent: RefID, child: RefID) -> PairSet
-    requires { ⌜ length (setAt (parent .0) (child .0) (edgesOf edges) .edges) ≤ 10 ⌝ }
-    ensures { λ r. ⌜ (setOf (r .set) ≡ setAt (parent .0) (child .0) (edgesOf edges)) × (r .low ≡ length (keep (isBefore (parent .0) (child .0)) (edgesOf edges))) ⌝ }
+// A refusal's number, or 0, and how many edges there are. Beside a refusal what the array holds is free, unless a function says more.
+pub(crate) struct Replaced {
+    pub refusal: u8,
+    pub edges: usize,
+}
+
+// Where a pair's edges stand.
+pub(crate) fn place(
+    edges: &[[u32; 10]; MAX_EDGES],
+    m: usize,
+    parent: RefID,
+    child: RefID,
+) -> PairPlace
+    requires { ⌜ m ≤ 96 ⌝ }
+    ensures { λ r. ⌜ (r .low + r .size ≤ m) × (length (now (edges .entry)) ≡ 96 → (r .low ≡ length (keep (isBefore (parent .0) (child .0)) (edgesIn (now (edges .entry)) m))) × (r .size ≡ length (edgesAt (parent .0) (child .0) (edgesIn (now (edges .entry)) m)))) ⌝ }
 {
-    let n = edges.len();
-    let e = BorrowEdge::weakest();
-    let mut out = [e; MAX_EDGE_SET_SIZE];
-    let mut len: usize = 0;
-    let mut overflown = false;
     let mut low: usize = 0;
+    let mut size: usize = 0;
     let mut i: usize = 0;
-    while i < n {
-        let x = edges.list[i];
-        let o = x.side(parent, child);
+    while i < m {
+        let o = side(&edges[i], parent, child);
         match o {
             Ordering::Less => {
                 low += 1;
                 i += 1;
             }
             Ordering::Equal => {
-                let y = x.edge;
-                out[len] = y;
-                len += 1;
-                overflown = overflown | x.blurred;
+                size += 1;
                 i += 1;
             }
             Ordering::Greater => {
@@ -65,91 +69,119 @@ pub(crate) fn between(edges: GraphEdges, parent: RefID, child: RefID) -> PairSet
             }
         }
     }
-    let set = BorrowEdgeSet {
-        edges: out,
-        len: len as u8,
-        overflown: overflown,
-    };
-    PairSet { low: low, set: set }
+    PairPlace { low, size }
+}
+
+// A pair's rows go into an array of their own; a pair has no more than ten.
+pub(crate) fn between(
+    edges: &[[u32; 10]; MAX_EDGES],
+    m: usize,
+    parent: RefID,
+    child: RefID,
+    set: &mut [[u32; 10]; 10],
+) -> PairSet
+    requires { ⌜ m ≤ 96 ⌝ }
+    ensures { λ r. ⌜ (r .low + r .set .len ≤ m) × (r .set .len ≤ 10) × (length (now (edges .entry)) ≡ 96 → length (now (set .entry)) ≡ 10 → (length (now (set .exit)) ≡ 10) × (length (setAt (parent .0) (child .0) (edgesIn (now (edges .entry)) m) .edges) ≤ 10 → (setIn (now (set .exit)) (r .set) ≡ setAt (parent .0) (child .0) (edgesIn (now (edges .entry)) m)) × (r .low ≡ length (keep (isBefore (parent .0) (child .0)) (edgesIn (now (edges .entry)) m))))) ⌝ }
+{
+    let mut low: usize = 0;
+    let mut size: usize = 0;
+    let mut overflown = false;
+    let mut i: usize = 0;
+    while i < m {
+        let o = side(&edges[i], parent, child);
+        match o {
+            Ordering::Less => {
+                low += 1;
+                i += 1;
+            }
+            Ordering::Equal => {
+                overflown = overflown | is_blurred(&edges[i]);
+                if size < MAX_EDGE_SET_SIZE {
+                    let x = edges[i];
+                    set[size] = x;
+                    size += 1;
+                    i += 1;
+                } else {
+                    i += 1;
+                }
+            }
+            Ordering::Greater => {
+                i += 1;
+            }
+        }
+    }
+    PairSet {
+        low,
+        set: BorrowEdgeSet {
+            len: size,
+            overflown,
+        },
+    }
 }
 
 // The `old` edges from `low` on give way to those of a set of this pair.
 pub(crate) fn replace(
-    edges: GraphEdges,
+    edges: &mut [[u32; 10]; MAX_EDGES],
+    m: usize,
     low: usize,
     old: usize,
     parent: RefID,
     child: RefID,
-    set: BorrowEdgeSet,
-) -> GraphEdges
-    requires { ⌜ (low + old ≤ length (edgesOf edges)) × (length (edgesOf edges) - old + length (edgesOfSet set) ≤ 96) ⌝ }
-    ensures { λ r. ⌜ edgesOf r ≡ take low (edgesOf edges) ++ (tagged (parent .0) (child .0) (set .overflown) (edgesOfSet set) ++ drop (low + old) (edgesOf edges)) ⌝ }
+    set: &[[u32; 10]; 10],
+    s: BorrowEdgeSet,
+) -> usize
+    requires { ⌜ (m ≤ 96) × (low + old ≤ m) × (m - old + min (s .len) 10 ≤ 96) ⌝ }
+    ensures { λ r. ⌜ (r ≡ m - old + min (s .len) 10) × (length (now (edges .entry)) ≡ 96 → length (now (set .entry)) ≡ 10 → (length (now (edges .exit)) ≡ 96) × (edgesIn (now (edges .exit)) r ≡ take low (edgesIn (now (edges .entry)) m) ++ (tagged (parent .0) (child .0) (s .overflown) (setEdges (now (set .entry)) (s .len)) ++ drop (low + old) (edgesIn (now (edges .entry)) m)))) ⌝ }
 {
-    let n = edges.len();
-    let k = set.len();
-    let end = n - old + k;
-    let mut out = edges.list;
+    let was = *edges;
+    let k = len(s);
+    let end = m - old + k;
     let mut j = low;
     while j < end {
         if j < low + k {
-            let e = set.edges[j - low];
-            out[j] = GraphEdge {
-                parent: parent,
-                child: child,
-                blurred: set.overflown,
-                edge: e,
-            };
+            let x = tagged(&set[j - low], parent, child, s.overflown);
+            edges[j] = x;
             j += 1;
         } else {
-            let x = edges.list[j - k + old];
-            out[j] = x;
+            let x = was[j - k + old];
+            edges[j] = x;
             j += 1;
         }
     }
-    GraphEdges {
-        list: out,
-        len: end as u8,
-    }
+    end
 }
 
 // `shrinking`: only where the new set has fewer edges.
 pub(crate) fn replace_set(
-    edges: GraphEdges,
+    edges: &mut [[u32; 10]; MAX_EDGES],
+    m: usize,
     parent: RefID,
     child: RefID,
+    set: &[[u32; 10]; 10],
     new: Inserted,
     shrinking: bool,
 ) -> Replaced
-    requires { ⌜ Neat (edgesOf edges) ⌝ }
-    ensures { λ r. ⌜ replacedOf r ≡ andThen (insertedOf new) (λ s. replaceOne shrinking (parent .0) (child .0) s (edgesOf edges)) ⌝ }
+    requires { ⌜ m ≤ 96 ⌝ }
+    ensures { λ r. ⌜ (r .edges ≤ 96) × (length (now (edges .entry)) ≡ 96 → length (now (set .entry)) ≡ 10 → Neat (edgesIn (now (edges .entry)) m) → (length (now (edges .exit)) ≡ 96) × (replacedIn (now (edges .exit)) r ≡ andThen (insertedIn (now (set .entry)) new) (λ s. replaceOne shrinking (parent .0) (child .0) s (edgesIn (now (edges .entry)) m)))) ⌝ }
 {
-    if new.refusal == 0 {
-        let b = between(edges, parent, child);
-        let s = b.set;
-        let t = new.set;
-        let old = s.len();
-        let k = t.len();
-        let n = edges.len();
-        if shrinking & (old <= k) {
-            return Replaced {
-                refusal: 0,
-                edges: edges,
-            };
-        }
-        if MAX_EDGES < n - old + k {
-            return Replaced {
-                refusal: 21,
-                edges: edges,
-            };
-        }
-        let es = replace(edges, b.low, old, parent, child, t);
+    let at = place(edges, m, parent, child);
+    let s = new.set;
+    let k = len(s);
+    if (new.refusal != 0) | (shrinking & (at.size <= k)) {
         return Replaced {
-            refusal: 0,
-            edges: es,
+            refusal: new.refusal,
+            edges: m,
         };
     }
+    if MAX_EDGES < m - at.size + k {
+        return Replaced {
+            refusal: 21,
+            edges: m,
+        };
+    }
+    let n = replace(edges, m, at.low, at.size, parent, child, set, s);
     Replaced {
-        refusal: new.refusal,
-        edges: edges,
+        refusal: 0,
+        edges: n,
     }
 }

@@ -1,178 +1,168 @@
-// A name is taken out; each way through it stays as an edge.
-use crate::borrow::add_edge;
+// A name is taken out; each way through it stays as an edge. Where each stands in the Rust (graph.rs):
+//
+//   here                                   the Rust
+//   release                                226 `release`
+//   release_through                        its loops over the parents and the children, 233 to 248
+//   splice_pair, splice_each, splice_one   256 `splice_out_intermediate`
+//   without, left_out                      232, 235 and 249 to 252: what has the name is taken away
+use crate::edges::add_edge;
 use crate::pairs::Replaced;
 use crate::pairs::between;
 use crate::pairs::replace_set;
 use borrow_graph::graph::Answer;
 use borrow_graph::graph::BorrowGraph;
-use borrow_graph::graph::GraphEdge;
-use borrow_graph::graph::GraphEdges;
-use references::BorrowEdge;
-use references::BorrowEdgeSet;
-use references::Candidate;
-use references::Inserted;
+use borrow_graph::refs;
+use meaning::MAX_EDGES;
+use meaning::MAX_NAMES;
 use references::RefID;
+use references::rows;
+use references::set;
+use references::set::BorrowEdgeSet;
+use references::set::Inserted;
 ghost use mathlib.Core.Path.{_≡_};
-ghost use mathlib.Core.Bool.{true, _&&_};
+ghost use mathlib.Core.Bool.{true, not, _&&_};
 ghost use mathlib.Core.List.{List, map};
-ghost use Prim.Native.Nat.{_≤_};
+ghost use Prim.Native.Nat.{_≤_, _<_};
 ghost use lib.ListN.{length};
-ghost use Rattle.meaning.specs.Answers.{leaves};
+ghost use Rattle.meaning.specs.Limits.{maxEdges, maxSetSize};
 ghost use Rattle.meaning.specs.Lists.{keep};
 ghost use Rattle.meaning.specs.BorrowGraph as G;
 ghost use Rattle.meaning.specs.Laws.Graph.{insertAll};
 ghost use Rattle.meaning.specs.Refinement.Pairs.{across, replaceLim, twoPass};
 ghost use Rattle.meaning.specs.Laws.Pair.{Neat};
-ghost use Rattle.meaning.specs.Refinement.Passes.{fitting, apart, splices, spliceSet, childRow, splicePairs};
-ghost use Rattle.references.specs.Models.{edgeOf, edgesOf as edgesOfSet, setOf, candidateOf, insertedOf};
-ghost use Rattle.borrow_graph.specs.Models.{edgesOf, heldOf, graphOf, answerOf};
-ghost use Rattle.borrow_graph_edit.specs.Models.{replacedOf, Found, putOf};
-ghost use Rattle.borrow_graph_edit.specs.Ways.{entering, leaving, ways};
-
-// The edge from a parent's parent to a child. Behind a weak edge nothing more is known.
-fn splice(parent: BorrowEdge, child: BorrowEdge) -> Candidate
-    ensures { λ r. ⌜ candidateOf r ≡ fitting (G.splice (edgeOf parent) (edgeOf child)) ⌝ }
-{
-    if parent.strong {
-        let a = paths::append(parent.path, child.path);
-        let path = a.path;
-        return Candidate {
-            fits: a.fits,
-            edge: BorrowEdge {
-                strong: child.strong,
-                path: path,
-            },
-        };
-    }
-    Candidate {
-        fits: true,
-        edge: parent,
-    }
-}
+ghost use Rattle.meaning.specs.Refinement.Passes.{apart, splices, spliceSet, childRow, splicePairs};
+ghost use Rattle.references.specs.Models.{rowOf, edgesIn, setIn, insertedIn};
+ghost use Rattle.borrow_graph.specs.Models.{graphIn, Tells, Answers};
+ghost use Rattle.borrow_graph_edit.specs.Models.{replacedIn};
+ghost use Rattle.borrow_graph_edit.specs.Edits.{graphWith, Edits};
+ghost use Rattle.borrow_graph_edit.specs.Ways.{entering, leaving, ways, Found, putOf};
 
 // The set with one parent edge spliced with each child edge.
-fn splice_one(set: BorrowEdgeSet, parent: BorrowEdge, children: BorrowEdgeSet) -> Inserted
-    ensures { λ r. ⌜ insertedOf r ≡ insertAll (map (G.splice (edgeOf parent)) (edgesOfSet children)) (setOf set) ⌝ }
+fn splice_one(
+    set: &mut [[u32; 10]; 10],
+    s: BorrowEdgeSet,
+    parent: &[u32; 10],
+    children: &[[u32; 10]; 10],
+    cs: BorrowEdgeSet,
+) -> Inserted
+    ensures { λ r. ⌜ (length (now (set .entry)) ≡ maxSetSize → length (now (children .entry)) ≡ maxSetSize → (length (now (set .exit)) ≡ maxSetSize) × (insertedIn (now (set .exit)) r ≡ insertAll (map (G.splice (rowOf (now (parent .entry)) .edge)) (setIn (now (children .entry)) cs .edges)) (setIn (now (set .entry)) s))) ⌝ }
 {
-    let n = children.len();
-    let mut s = set;
+    let n = set::len(cs);
+    let mut t = s;
     let mut i: usize = 0;
     while i < n {
-        let f = children.edges[i];
-        let c = splice(parent, f);
-        let r = s.insert(c);
+        let c = rows::splice(parent, &children[i]);
+        let r = set::insert(set, t, c);
         if r.refusal == 0 {
-            let t = r.set;
-            s = t;
+            let u = r.set;
+            t = u;
             i += 1;
         } else {
             return r;
         }
     }
-    Inserted { refusal: 0, set: s }
+    Inserted { refusal: 0, set: t }
 }
 
 // The set with each parent edge spliced with each child edge.
-fn splice_each(set: BorrowEdgeSet, parents: BorrowEdgeSet, children: BorrowEdgeSet) -> Inserted
-    ensures { λ r. ⌜ insertedOf r ≡ insertAll (splices (edgesOfSet parents) (edgesOfSet children)) (setOf set) ⌝ }
+fn splice_each(
+    set: &mut [[u32; 10]; 10],
+    s: BorrowEdgeSet,
+    parents: &[[u32; 10]; 10],
+    ps: BorrowEdgeSet,
+    children: &[[u32; 10]; 10],
+    cs: BorrowEdgeSet,
+) -> Inserted
+    ensures { λ r. ⌜ (length (now (set .entry)) ≡ maxSetSize → length (now (parents .entry)) ≡ maxSetSize → length (now (children .entry)) ≡ maxSetSize → (length (now (set .exit)) ≡ maxSetSize) × (insertedIn (now (set .exit)) r ≡ insertAll (splices (setIn (now (parents .entry)) ps .edges) (setIn (now (children .entry)) cs .edges)) (setIn (now (set .entry)) s))) ⌝ }
 {
-    let n = parents.len();
-    let mut s = set;
+    let n = set::len(ps);
+    let mut t = s;
     let mut i: usize = 0;
     while i < n {
-        let e = parents.edges[i];
-        let r = splice_one(s, e, children);
+        let r = splice_one(set, t, &parents[i], children, cs);
         if r.refusal == 0 {
-            let t = r.set;
-            s = t;
+            let u = r.set;
+            t = u;
             i += 1;
         } else {
             return r;
         }
     }
-    Inserted { refusal: 0, set: s }
+    Inserted { refusal: 0, set: t }
 }
 
-// The edges that do not touch a name.
-fn without(edges: GraphEdges, id: RefID) -> GraphEdges
-    ensures { λ r. ⌜ edgesOf r ≡ keep (apart (id .0)) (edgesOf edges) ⌝ }
+// A pair's set with the ways through `id`, made in `set`.
+fn spliced(
+    set: &mut [[u32; 10]; 10],
+    edges: &[[u32; 10]; MAX_EDGES],
+    m: usize,
+    parent: RefID,
+    id: RefID,
+    child: RefID,
+) -> Inserted
+    requires { ⌜ m ≤ maxEdges ⌝ }
+    ensures { λ r. ⌜ (length (now (set .entry)) ≡ maxSetSize → length (now (edges .entry)) ≡ maxEdges → Neat (edgesIn (now (edges .entry)) m) → (length (now (set .exit)) ≡ maxSetSize) × (insertedIn (now (set .exit)) r ≡ spliceSet (edgesIn (now (edges .entry)) m) (id .0) (parent .0) (child .0))) ⌝ }
 {
-    let n = edges.len();
-    let mut out = edges.list;
-    let mut j: usize = 0;
-    let mut i: usize = 0;
-    while i < n {
-        let x = edges.list[i];
-        if !(id.0 == x.parent.0) & !(id.0 == x.child.0) {
-            out[j] = x;
-            j += 1;
-            i += 1;
-        } else {
-            i += 1;
-        }
-    }
-    GraphEdges {
-        list: out,
-        len: j as u8,
-    }
-}
-
-// A pair's set with the ways through `id`.
-fn spliced(edges: GraphEdges, parent: RefID, id: RefID, child: RefID) -> Inserted
-    requires { ⌜ Neat (edgesOf edges) ⌝ }
-    ensures { λ r. ⌜ insertedOf r ≡ spliceSet (edgesOf edges) (id .0) (parent .0) (child .0) ⌝ }
-{
-    let a = between(edges, parent, id);
-    let b = between(edges, id, child);
-    let c = between(edges, parent, child);
-    splice_each(c.set, a.set, b.set)
+    let mut parents = [[0u32; 10]; 10];
+    let mut children = [[0u32; 10]; 10];
+    let a = between(edges, m, parent, id, &mut parents);
+    let b = between(edges, m, id, child, &mut children);
+    let c = between(edges, m, parent, child, set);
+    let ps = a.set;
+    let cs = b.set;
+    let s = c.set;
+    splice_each(set, s, &parents, ps, &children, cs)
 }
 
 // No way leads from a name to itself.
 fn splice_pair(
-    edges: GraphEdges,
-    old: GraphEdges,
+    edges: &mut [[u32; 10]; MAX_EDGES],
+    k: usize,
+    old: &[[u32; 10]; MAX_EDGES],
+    m: usize,
     parent: RefID,
     id: RefID,
     child: RefID,
     shrinking: bool,
 ) -> Replaced
-    requires { ⌜ Neat (edgesOf edges) × Neat (edgesOf old) ⌝ }
-    ensures { λ r. ⌜ replacedOf r ≡ replaceLim shrinking (spliceSet (edgesOf old) (id .0)) (across (record { parent = parent .0; child = id .0 }) (record { parent = id .0; child = child .0 })) (edgesOf edges) ⌝ }
+    requires { ⌜ (k ≤ maxEdges) × (m ≤ maxEdges) ⌝ }
+    ensures { λ r. ⌜ (r .edges ≤ maxEdges) × (length (now (edges .entry)) ≡ maxEdges → length (now (old .entry)) ≡ maxEdges → Neat (edgesIn (now (edges .entry)) k) → Neat (edgesIn (now (old .entry)) m) → (length (now (edges .exit)) ≡ maxEdges) × (replacedIn (now (edges .exit)) r ≡ replaceLim shrinking (spliceSet (edgesIn (now (old .entry)) m) (id .0)) (across (record { parent = parent .0; child = id .0 }) (record { parent = id .0; child = child .0 })) (edgesIn (now (edges .entry)) k))) ⌝ }
 {
     if parent.0 == child.0 {
         return Replaced {
             refusal: 0,
-            edges: edges,
+            edges: k,
         };
     }
-    let s = spliced(old, parent, id, child);
-    replace_set(edges, parent, child, s, shrinking)
+    let mut set = [[0u32; 10]; 10];
+    let s = spliced(&mut set, old, m, parent, id, child);
+    replace_set(edges, k, parent, child, &set, s, shrinking)
 }
 
 // One parent with each child.
 fn splice_row(
-    edges: GraphEdges,
-    old: GraphEdges,
+    edges: &mut [[u32; 10]; MAX_EDGES],
+    k: usize,
+    old: &[[u32; 10]; MAX_EDGES],
+    m: usize,
     parent: RefID,
     id: RefID,
     shrinking: bool,
 ) -> Replaced
-    requires { ⌜ Neat (edgesOf edges) × Neat (edgesOf old) ⌝ }
-    ensures { λ r. ⌜ replacedOf r ≡ replaceLim shrinking (spliceSet (edgesOf old) (id .0)) (childRow (edgesOf old) (id .0) (record { parent = parent .0; child = id .0 })) (edgesOf edges) ⌝ }
+    requires { ⌜ (k ≤ maxEdges) × (m ≤ maxEdges) ⌝ }
+    ensures { λ r. ⌜ (r .edges ≤ maxEdges) × (length (now (edges .entry)) ≡ maxEdges → length (now (old .entry)) ≡ maxEdges → Neat (edgesIn (now (edges .entry)) k) → Neat (edgesIn (now (old .entry)) m) → (length (now (edges .exit)) ≡ maxEdges) × (replacedIn (now (edges .exit)) r ≡ replaceLim shrinking (spliceSet (edgesIn (now (old .entry)) m) (id .0)) (childRow (edgesIn (now (old .entry)) m) (id .0) (record { parent = parent .0; child = id .0 })) (edgesIn (now (edges .entry)) k))) ⌝ }
 {
-    let n = old.len();
-    let mut es = edges;
+    let mut n = k;
     let mut last = id;
     let mut i: usize = 0;
-    while i < n {
-        let x = old.list[i];
-        if (id.0 == x.parent.0) & !(last.0 == x.child.0) {
-            let r = splice_pair(es, old, parent, id, x.child, shrinking);
+    while i < m {
+        let p = rows::parent(&old[i]);
+        let c = rows::child(&old[i]);
+        if (id.0 == p.0) & !(last.0 == c.0) {
+            let r = splice_pair(edges, n, old, m, parent, id, c, shrinking);
             if r.refusal == 0 {
-                let fs = r.edges;
-                es = fs;
-                last = x.child;
+                n = r.edges;
+                last = c;
                 i += 1;
             } else {
                 return r;
@@ -183,27 +173,33 @@ fn splice_row(
     }
     Replaced {
         refusal: 0,
-        edges: es,
+        edges: n,
     }
 }
 
 // Each parent with each child.
-fn splice_rows(edges: GraphEdges, old: GraphEdges, id: RefID, shrinking: bool) -> Replaced
-    requires { ⌜ Neat (edgesOf edges) × Neat (edgesOf old) ⌝ }
-    ensures { λ r. ⌜ replacedOf r ≡ replaceLim shrinking (spliceSet (edgesOf old) (id .0)) (splicePairs (edgesOf old) (id .0)) (edgesOf edges) ⌝ }
+fn splice_rows(
+    edges: &mut [[u32; 10]; MAX_EDGES],
+    k: usize,
+    old: &[[u32; 10]; MAX_EDGES],
+    m: usize,
+    id: RefID,
+    shrinking: bool,
+) -> Replaced
+    requires { ⌜ (k ≤ maxEdges) × (m ≤ maxEdges) ⌝ }
+    ensures { λ r. ⌜ (r .edges ≤ maxEdges) × (length (now (edges .entry)) ≡ maxEdges → length (now (old .entry)) ≡ maxEdges → Neat (edgesIn (now (edges .entry)) k) → Neat (edgesIn (now (old .entry)) m) → (length (now (edges .exit)) ≡ maxEdges) × (replacedIn (now (edges .exit)) r ≡ replaceLim shrinking (spliceSet (edgesIn (now (old .entry)) m) (id .0)) (splicePairs (edgesIn (now (old .entry)) m) (id .0)) (edgesIn (now (edges .entry)) k))) ⌝ }
 {
-    let n = old.len();
-    let mut es = edges;
+    let mut n = k;
     let mut last = id;
     let mut i: usize = 0;
-    while i < n {
-        let x = old.list[i];
-        if (id.0 == x.child.0) & !(last.0 == x.parent.0) {
-            let r = splice_row(es, old, x.parent, id, shrinking);
+    while i < m {
+        let p = rows::parent(&old[i]);
+        let c = rows::child(&old[i]);
+        if (id.0 == c.0) & !(last.0 == p.0) {
+            let r = splice_row(edges, n, old, m, p, id, shrinking);
             if r.refusal == 0 {
-                let fs = r.edges;
-                es = fs;
-                last = x.parent;
+                n = r.edges;
+                last = p;
                 i += 1;
             } else {
                 return r;
@@ -214,21 +210,61 @@ fn splice_rows(edges: GraphEdges, old: GraphEdges, id: RefID, shrinking: bool) -
     }
     Replaced {
         refusal: 0,
-        edges: es,
+        edges: n,
     }
 }
 
-// Where 96 is passed on the way, again: first what makes the list shorter, then all.
-fn splice_all(edges: GraphEdges, old: GraphEdges, id: RefID) -> Replaced
-    requires { ⌜ Neat (edgesOf edges) × Neat (edgesOf old) ⌝ }
-    ensures { λ r. ⌜ replacedOf r ≡ twoPass (spliceSet (edgesOf old) (id .0)) (splicePairs (edgesOf old) (id .0)) (edgesOf edges) ⌝ }
+// Whether a row's edge touches a name.
+fn touches(x: &[u32; 10], id: RefID) -> bool
+    ensures { λ r. ⌜ not r ≡ apart (id .0) (rowOf (now (x .entry))) ⌝ }
 {
-    let a = splice_rows(edges, old, id, false);
+    let p = rows::parent(x);
+    let c = rows::child(x);
+    (id.0 == p.0) | (id.0 == c.0)
+}
+
+// The rows of `old` that do not touch a name.
+fn without(
+    edges: &mut [[u32; 10]; MAX_EDGES],
+    old: &[[u32; 10]; MAX_EDGES],
+    m: usize,
+    id: RefID,
+) -> usize
+    requires { ⌜ m ≤ maxEdges ⌝ }
+    ensures { λ r. ⌜ (r ≤ maxEdges) × (length (now (edges .entry)) ≡ maxEdges → length (now (old .entry)) ≡ maxEdges → (length (now (edges .exit)) ≡ maxEdges) × (edgesIn (now (edges .exit)) r ≡ keep (apart (id .0)) (edgesIn (now (old .entry)) m))) ⌝ }
+{
+    let mut j: usize = 0;
+    let mut i: usize = 0;
+    while i < m {
+        if touches(&old[i], id) {
+            i += 1;
+        } else {
+            let x = old[i];
+            edges[j] = x;
+            j += 1;
+            i += 1;
+        }
+    }
+    j
+}
+
+// Where 96 is passed on the way, again: first what makes the list shorter, then all.
+fn splice_all(
+    edges: &mut [[u32; 10]; MAX_EDGES],
+    old: &[[u32; 10]; MAX_EDGES],
+    m: usize,
+    id: RefID,
+) -> Replaced
+    requires { ⌜ m ≤ maxEdges ⌝ }
+    ensures { λ r. ⌜ (r .edges ≤ maxEdges) × (length (now (edges .entry)) ≡ maxEdges → length (now (old .entry)) ≡ maxEdges → Neat (keep (apart (id .0)) (edgesIn (now (old .entry)) m)) → Neat (edgesIn (now (old .entry)) m) → (length (now (edges .exit)) ≡ maxEdges) × (replacedIn (now (edges .exit)) r ≡ twoPass (spliceSet (edgesIn (now (old .entry)) m) (id .0)) (splicePairs (edgesIn (now (old .entry)) m) (id .0)) (keep (apart (id .0)) (edgesIn (now (old .entry)) m)))) ⌝ }
+{
+    let k = without(edges, old, m, id);
+    let a = splice_rows(edges, k, old, m, id, false);
     if a.refusal == 21 {
-        let b = splice_rows(edges, old, id, true);
+        let n = without(edges, old, m, id);
+        let b = splice_rows(edges, n, old, m, id, true);
         if b.refusal == 0 {
-            let es = b.edges;
-            return splice_rows(es, old, id, false);
+            return splice_rows(edges, b.edges, old, m, id, false);
         }
         return b;
     }
@@ -236,42 +272,27 @@ fn splice_all(edges: GraphEdges, old: GraphEdges, id: RefID) -> Replaced
 }
 
 // A release with ways through the name.
-fn release_through(graph: BorrowGraph, id: RefID) -> Answer
-    requires { ⌜ G.wellFormed (graphOf graph) && G.held (graphOf graph) (id .0) ≡ true ⌝ }
-    ensures { λ r. ⌜ (answerOf r ≡ G.release (graphOf graph) (id .0)) × (graphOf (r .graph) ≡ leaves (graphOf graph) (G.release (graphOf graph) (id .0))) ⌝ }
+fn release_through(edges: &mut [[u32; 10]; MAX_EDGES], m: usize, id: RefID) -> Replaced
+    requires { ⌜ m ≤ maxEdges ⌝ }
+    ensures { λ r. ⌜ (r .edges ≤ maxEdges) × (length (now (edges .entry)) ≡ maxEdges → (ns : List G.Name) → G.wellFormed (graphWith ns (edgesIn (now (edges .entry)) m)) && G.holds ns (id .0) ≡ true → Edits (G.release (graphWith ns (edgesIn (now (edges .entry)) m)) (id .0)) (keep (G.other (id .0)) ns) (now (edges .entry)) m (now (edges .exit)) r) ⌝ }
 {
-    let rs = graph.refs;
-    let list = graph.edges;
-    let old = GraphEdges {
-        list: list,
-        len: graph.len,
-    };
-    let es = without(old, id);
-    let r = splice_all(es, old, id);
+    let old = *edges;
+    let r = splice_all(edges, &old, m, id);
     if r.refusal == 0 {
-        let ms = rs.without(id);
-        let fs = r.edges;
-        let out = fs.list;
-        return Answer {
-            graph: BorrowGraph {
-                refs: ms,
-                edges: out,
-                len: fs.len,
-            },
-            refusal: 0,
-        };
+        return r;
     }
-    Answer {
-        graph: graph,
+    *edges = old;
+    Replaced {
         refusal: r.refusal,
+        edges: m,
     }
 }
 
-// The edges on one side of a name: none, a single one, or several. `edge` is the single one, else free.
+// The edges on one side of a name: none, a single one in the row `at`, or several.
 pub(crate) struct Side {
     pub empty: bool,
     pub single: bool,
-    pub edge: GraphEdge,
+    pub at: usize,
 }
 
 // The edges to a name, and from it.
@@ -280,42 +301,34 @@ pub(crate) struct Touching {
     pub from: Side,
 }
 
-// What a release puts in, one edge or nothing, where it is `known` without the passes; else the other fields are free. Where it is
-// nothing, so are the edge and its ends.
-pub(crate) struct Bridge {
+// What a release puts in, one row or nothing, where it is `known` without the passes; else the other fields are free. Where it is
+// nothing, so is the row.
+pub(crate) struct OneWay {
     pub known: bool,
     pub one: bool,
-    pub parent: RefID,
-    pub edge: BorrowEdge,
-    pub child: RefID,
+    pub row: [u32; 10],
 }
 
 // An edge from the name to itself counts as several from it.
-fn touching_edges(graph: BorrowGraph, id: RefID) -> Touching
-    ensures { λ r. ⌜ Found (r .to) (keep (entering (id .0)) (heldOf graph)) × Found (r .from) (keep (leaving (id .0)) (heldOf graph)) ⌝ }
+fn touching_edges(edges: &[[u32; 10]; MAX_EDGES], m: usize, id: RefID) -> Touching
+    requires { ⌜ m ≤ maxEdges ⌝ }
+    ensures { λ r. ⌜ (r .to .at < maxEdges) × (r .from .at < maxEdges) × (length (now (edges .entry)) ≡ maxEdges → Found (now (edges .entry)) (r .to) (keep (entering (id .0)) (edgesIn (now (edges .entry)) m)) × Found (now (edges .entry)) (r .from) (keep (leaving (id .0)) (edgesIn (now (edges .entry)) m))) ⌝ }
 {
-    let n = graph.len();
-    let e = BorrowEdge::weakest();
-    let start = GraphEdge {
-        parent: id,
-        child: id,
-        blurred: false,
-        edge: e,
-    };
     let mut to = Side {
         empty: true,
         single: false,
-        edge: start,
+        at: 0,
     };
     let mut from = to;
     let mut i: usize = 0;
-    while i < n {
-        let x = graph.edges[i];
-        let out = id.0 == x.parent.0;
-        if id.0 == x.child.0 {
+    while i < m {
+        let p = rows::parent(&edges[i]);
+        let c = rows::child(&edges[i]);
+        let out = id.0 == p.0;
+        if id.0 == c.0 {
             to.single = to.empty;
             to.empty = false;
-            to.edge = x;
+            to.at = i;
             from.empty = from.empty & !out;
             from.single = from.single & !out;
             i += 1;
@@ -323,7 +336,7 @@ fn touching_edges(graph: BorrowGraph, id: RefID) -> Touching
             if out {
                 from.single = from.empty;
                 from.empty = false;
-                from.edge = x;
+                from.at = i;
                 i += 1;
             } else {
                 i += 1;
@@ -334,80 +347,116 @@ fn touching_edges(graph: BorrowGraph, id: RefID) -> Touching
 }
 
 // Nothing where a side is empty, or where the way would lead from a name to itself.
-fn bridged(t: Touching) -> Bridge
-    ensures { λ r. ⌜ (r .known ≡ true → (xs ys : List G.GEdge) → Found (t .to) xs → Found (t .from) ys → ways xs ys ≡ putOf r) × (length (edgeOf (r .edge) .path) ≤ 8) ⌝ }
+fn one_way(edges: &[[u32; 10]; MAX_EDGES], t: Touching) -> OneWay
+    requires { ⌜ (t .to .at < maxEdges) × (t .from .at < maxEdges) ⌝ }
+    ensures { λ r. ⌜ (r .known ≡ true → (xs ys : List G.GEdge) → Found (now (edges .entry)) (t .to) xs → Found (now (edges .entry)) (t .from) ys → ways xs ys ≡ putOf r) ⌝ }
 {
     let to = t.to;
     let from = t.from;
-    let x = to.edge;
-    let y = from.edge;
-    let e = x.edge;
-    let f = y.edge;
-    let c = splice(e, f);
-    let parent = x.parent;
-    let child = y.child;
-    let edge = c.edge;
-    let nothing = to.empty | from.empty;
-    let cycle = parent.0 == child.0;
-    Bridge {
-        known: nothing | (to.single & from.single & (cycle | c.fits)),
-        one: !nothing & !cycle,
-        parent: parent,
-        edge: edge,
-        child: child,
+    if to.empty | from.empty {
+        return OneWay {
+            known: true,
+            one: false,
+            row: [0u32; 10],
+        };
+    }
+    let i = to.at;
+    let j = from.at;
+    let x = edges[i];
+    let y = edges[j];
+    let c = rows::splice(&x, &y);
+    let p = rows::parent(&x);
+    let q = rows::child(&y);
+    let row = c.row;
+    let cycle = p.0 == q.0;
+    OneWay {
+        known: to.single & from.single & (cycle | c.fits),
+        one: !cycle,
+        row: row,
     }
 }
 
-// The graph without a name and the edges that touch it.
-fn left_out(mut graph: BorrowGraph, id: RefID) -> BorrowGraph
-    ensures { λ r. ⌜ graphOf r ≡ G.without (graphOf graph) (id .0) ⌝ }
+// The rows that touch a name are left out.
+fn left_out(edges: &mut [[u32; 10]; MAX_EDGES], m: usize, id: RefID) -> usize
+    requires { ⌜ m ≤ maxEdges ⌝ }
+    ensures { λ r. ⌜ (r ≤ maxEdges) × (length (now (edges .entry)) ≡ maxEdges → (length (now (edges .exit)) ≡ maxEdges) × (edgesIn (now (edges .exit)) r ≡ keep (apart (id .0)) (edgesIn (now (edges .entry)) m))) ⌝ }
 {
-    let rs = graph.refs;
-    let ms = rs.without(id);
-    graph.refs = ms;
-    let n = graph.len();
     let mut j: usize = 0;
     let mut i: usize = 0;
-    while i < n {
-        let x = graph.edges[i];
-        if !(id.0 == x.parent.0) & !(id.0 == x.child.0) {
-            graph.edges[j] = x;
-            j += 1;
+    while i < m {
+        if touches(&edges[i], id) {
             i += 1;
         } else {
+            let x = edges[i];
+            edges[j] = x;
+            j += 1;
             i += 1;
         }
     }
-    graph.len = j as u8;
-    graph
+    j
 }
 
-// 9 where the name is not held; 22 for a path of more than eight labels, then 21 for more than 96 edges in the end. Where at most one
-// way leads through the name, its edges are left out and that way is put in, which needs no passes and is never refused.
-pub fn release(graph: BorrowGraph, id: RefID) -> Answer
-    ensures { λ r. ⌜ (answerOf r ≡ G.release (graphOf graph) (id .0)) × (graphOf (r .graph) ≡ leaves (graphOf graph) (G.release (graphOf graph) (id .0))) ⌝ }
+// A release where at most one way leads through the name: its rows are left out and that way is put in, which needs no passes and is
+// never refused.
+fn splice_one_way(edges: &mut [[u32; 10]; MAX_EDGES], m: usize, id: RefID, b: OneWay) -> Replaced
+    requires { ⌜ m ≤ maxEdges ⌝ }
+    ensures { λ r. ⌜ (r .edges ≤ maxEdges) × (length (now (edges .entry)) ≡ maxEdges → (ns : List G.Name) → G.wellFormed (graphWith ns (edgesIn (now (edges .entry)) m)) && G.holds ns (id .0) ≡ true → ways (keep (entering (id .0)) (edgesIn (now (edges .entry)) m)) (keep (leaving (id .0)) (edgesIn (now (edges .entry)) m)) ≡ putOf b → Edits (G.release (graphWith ns (edgesIn (now (edges .entry)) m)) (id .0)) (keep (G.other (id .0)) ns) (now (edges .entry)) m (now (edges .exit)) r) ⌝ }
 {
-    let w = graph.well_formed();
-    let rs = graph.refs;
-    let h = rs.holds(id);
-    if w & h {
-        let t = touching_edges(graph, id);
-        let b = bridged(t);
-        if b.known {
-            let g = left_out(graph, id);
-            if b.one {
-                let e = b.edge;
-                return add_edge(g, b.parent, e, b.child);
-            }
+    let k = left_out(edges, m, id);
+    if b.one {
+        let x = b.row;
+        return add_edge(edges, k, x);
+    }
+    Replaced {
+        refusal: 0,
+        edges: k,
+    }
+}
+
+// 22 for a path of more than eight labels, then 21 for more than 96 edges in the end.
+fn release_edges(edges: &mut [[u32; 10]; MAX_EDGES], m: usize, id: RefID) -> Replaced
+    requires { ⌜ m ≤ maxEdges ⌝ }
+    ensures { λ r. ⌜ (r .edges ≤ maxEdges) × (length (now (edges .entry)) ≡ maxEdges → (ns : List G.Name) → G.wellFormed (graphWith ns (edgesIn (now (edges .entry)) m)) && G.holds ns (id .0) ≡ true → Edits (G.release (graphWith ns (edgesIn (now (edges .entry)) m)) (id .0)) (keep (G.other (id .0)) ns) (now (edges .entry)) m (now (edges .exit)) r) ⌝ }
+{
+    let t = touching_edges(edges, m, id);
+    let b = one_way(edges, t);
+    if b.known {
+        return splice_one_way(edges, m, id, b);
+    }
+    release_through(edges, m, id)
+}
+
+// 9 where the name is not held.
+pub fn release(
+    names: &mut [u32; MAX_NAMES],
+    edges: &mut [[u32; 10]; MAX_EDGES],
+    g: BorrowGraph,
+    id: RefID,
+) -> Answer
+    ensures { λ r. ⌜ (Tells (now (names .entry)) (now (edges .entry)) g → Answers (G.release (graphIn (now (names .entry)) (now (edges .entry)) g) (id .0)) (now (names .entry)) (now (edges .entry)) g (now (names .exit)) (now (edges .exit)) r) ⌝ }
+{
+    let m = g.edges;
+    let h = refs::holds(names, g.refs, id);
+    if g.formed & h & (m <= MAX_EDGES) {
+        let r = release_edges(edges, m, id);
+        if r.refusal == 0 {
+            let n = refs::without(names, g.refs, id);
             return Answer {
-                graph: g,
                 refusal: 0,
+                graph: BorrowGraph {
+                    refs: n,
+                    edges: r.edges,
+                    formed: true,
+                },
             };
         }
-        return release_through(graph, id);
+        return Answer {
+            refusal: r.refusal,
+            graph: g,
+        };
     }
     Answer {
-        graph: graph,
         refusal: 9,
+        graph: g,
     }
 }

@@ -1,13 +1,15 @@
 // Reads listings from standard input, each after three bytes with its length, runs the first block of each from the routine's first state,
 // and writes for each a line with the violation or refusal and its offset; zeros where the block ends.
-use abstract_state::state::AbstractState;
+use abstract_state::state::LOCALS;
 use abstract_state_join::first::new;
 use libc::STDIN_FILENO;
 use libc::STDOUT_FILENO;
 use listing::Block;
 use listing::Routine;
 use listing::read_listing;
+use meaning::MAX_EDGES;
 use meaning::MAX_INSTRUCTIONS;
+use meaning::MAX_NAMES;
 use reference_safety::block::Ran;
 use reference_safety::block::run_block;
 ghost use mathlib.Core.Path.{_≡_};
@@ -72,11 +74,6 @@ fn first_block(q: Routine) -> Block {
     blocks[0]
 }
 
-fn first_state(q: Routine) -> AbstractState {
-    let params = q.params;
-    new(q.locals, params, q.param_count)
-}
-
 fn answer(s: &[u8]) -> bool {
     let mut code = [0u16; MAX_INSTRUCTIONS];
     let l = read_listing(s, &mut code);
@@ -84,7 +81,14 @@ fn answer(s: &[u8]) -> bool {
         return write_line(l.number as usize, l.place);
     }
     let q = l.routine;
-    write_ran(run_block(s, q, &code, first_block(q), first_state(q)))
+    let params = q.params;
+    let mut locals = [0u32; LOCALS];
+    let mut names = [0u32; MAX_NAMES];
+    let mut edges = [[0u32; 10]; MAX_EDGES];
+    let first = new(&mut locals, &mut names, q.locals, params, q.param_count);
+    let b = first_block(q);
+    let r = run_block(s, q, &code, b, &mut locals, &mut names, &mut edges, first);
+    write_ran(r)
 }
 
 fn run_all(s: &[u8]) {

@@ -8,7 +8,6 @@ use Rattle.meaning.specs.Answers.{Outcome, done, needs}
 use Rattle.meaning.specs.AbstractState.{Operand}
 use Rattle.meaning.specs.Steps as T
 use Rattle.abstract_state.specs.Models.{operandOf, operandsIn, operandsOf, halted}
-use Rattle.abstract_state.specs.declared.state.Operand as D
 use Rattle.abstract_state.specs.declared.state.Operands.{Operands}
 use Rattle.operand_stack.specs.declared.Popped.{Popped}
 use Rattle.operand_stack.specs.declared.PoppedRef.{PoppedRef}
@@ -16,8 +15,8 @@ use Rattle.operand_stack.specs.declared.PoppedMany.{PoppedMany}
 use Rattle.operand_stack.specs.declared.Rest.{Rest}
 
 -- top first
-unfoldable pub stackIn : List D.Operand → ℕ → List Operand
-stackIn xs n = reverse (operandsIn xs n)
+unfoldable pub stackIn : List ℕ → ℕ → List Operand
+stackIn ws n = reverse (operandsIn ws n)
 
 abbrev pub stackOf : Operands → List Operand
 stackOf s = stackIn (s .list) (s .len)
@@ -30,17 +29,17 @@ pub record Taken (A : Type 0) : Type 0 where
 abbrev pub taken : {A : Type 0} → A → List Operand → Outcome (Taken A)
 taken a vs = done (record { what = a; rest = vs })
 
-abbrev pub poppedOf : Popped → Outcome (Taken Operand)
-poppedOf p = halted 0 (p .refusal) (record { what = operandOf (p .value); rest = stackOf (p .stack) })
+abbrev pub poppedIn : List ℕ → Popped → Outcome (Taken Operand)
+poppedIn ws p = halted 0 (p .refusal) (record { what = operandOf (p .value); rest = stackIn ws (p .depth) })
 
-abbrev pub poppedRefOf : PoppedRef → Outcome (Taken ℕ)
-poppedRefOf p = halted 0 (p .refusal) (record { what = p .id .0; rest = stackOf (p .stack) })
+abbrev pub poppedRefIn : List ℕ → PoppedRef → Outcome (Taken ℕ)
+poppedRefIn ws p = halted 0 (p .refusal) (record { what = p .id .0; rest = stackIn ws (p .depth) })
 
-abbrev pub poppedManyOf : PoppedMany → Outcome (Taken (List Operand))
-poppedManyOf p = halted 0 (p .refusal) (record { what = operandsOf (p .values); rest = stackOf (p .stack) })
+abbrev pub poppedManyIn : List ℕ → PoppedMany → Outcome (Taken (List Operand))
+poppedManyIn ws p = halted 0 (p .refusal) (record { what = operandsOf (p .values); rest = stackIn ws (p .depth) })
 
-abbrev pub restOf : Rest → Outcome (List Operand)
-restOf p = halted 0 (p .refusal) (stackOf (p .stack))
+abbrev pub restIn : List ℕ → Rest → Outcome (List Operand)
+restIn ws p = halted 0 (p .refusal) (stackIn ws (p .depth))
 
 -- the takings of a step, with what they take as the answer
 abbrev pub popOne : List Operand → Outcome (Taken Operand)
@@ -63,6 +62,12 @@ unfoldable pub pushEach : List Operand → List Operand → Outcome (List Operan
 pushEach vs [] = done vs
 pushEach vs (v ∷ ws) = needs (ltb (length vs) 16) 20 (pushEach (v ∷ vs) ws)
 
--- refused, the stack is as it was, the free part of its array too
-abbrev pub Keeps : ℕ → Operands → Operands → Type 0
+-- refused, it is as it was
+abbrev pub Keeps : {A : Type 0} → ℕ → A → A → Type 0
 Keeps refusal before after = (refusal ≡ 0 → ⊥) → after ≡ before
+
+-- operands pushed onto the words ws at the depth d left the words xs
+pub record Pushes (vs : List Operand) (ws : List ℕ) (d : ℕ) (xs : List ℕ) (r : Rest) : Type 0 where
+  pub words : length ws ≡ 16 → length xs ≡ 16
+  pub pushes : length ws ≡ 16 → restIn xs r ≡ pushEach (stackIn ws d) vs
+  pub depth : Keeps (r .refusal) d (r .depth)

@@ -1,93 +1,75 @@
-// The operand stack of a block (mod.rs): at most 16 operands, the last one the top. An answer's refusal is 0 where there is none. Beside
-// one, `value`, `id` and `values` are free, and so is `stack`, except that `pop` and `push` leave it as it was.
+// The operand stack of a block (`stack`, mod.rs:29) in place: 16 words that are lent, and a depth. The last word below the depth is the top; a
+// depth beyond 16 reads as 16. An answer's refusal is 0 where there is none. Beside one, the depth is as it was, `value`, `id` and `values` are
+// free, and so are the words from the depth on, except that `push` leaves them as they were.
+// pop: stack.pop().unwrap(), as at mod.rs:143. pop_ref: with ref_id().unwrap(), 156. pop_values: with assert!(is_value()), 109. pop_many: the
+// arguments of call, 74, and Ret's values, 259. push: stack.push, as at 147. push_values: the loop of unpack, 119. push_all: that of call, 95.
+pub mod value;
+
 use abstract_state::state::AbstractValue;
-use abstract_state::state::Operand;
 use abstract_state::state::Operands;
+use abstract_state::words::value_of;
+use abstract_state::words::value_word;
 use meaning::MAX_OPERANDS;
+use meaning::lesser;
 use references::RefID;
 ghost use mathlib.Core.Path.{_≡_};
 ghost use mathlib.Core.List.{[], _∷_};
-ghost use Prim.Native.Nat.{_≤_};
 ghost use lib.ListN.{length, replicate};
 ghost use Rattle.meaning.specs.AbstractState.{nonRef};
 ghost use Rattle.abstract_state.specs.Models.{operandOf, operandsOf};
-ghost use Rattle.operand_stack.specs.Models.{stackIn, stackOf, poppedOf, poppedRefOf, poppedManyOf, restOf, popOne, popOneRef, popSome, popRest, popUnder, pushEach, Keeps};
+ghost use Rattle.operand_stack.specs.Models.{stackIn, poppedIn, poppedRefIn, poppedManyIn, restIn, popOne, popOneRef, popSome, popRest, popUnder, Pushes, Keeps};
 
 pub struct Popped {
     pub refusal: u8,
     pub value: AbstractValue,
-    pub stack: Operands,
+    pub depth: usize,
 }
 
 pub struct PoppedRef {
     pub refusal: u8,
     pub id: RefID,
-    pub stack: Operands,
+    pub depth: usize,
 }
 
 pub struct PoppedMany {
     pub refusal: u8,
     pub values: Operands,
-    pub stack: Operands,
+    pub depth: usize,
 }
 
 pub struct Rest {
     pub refusal: u8,
-    pub stack: Operands,
+    pub depth: usize,
 }
 
-pub fn empty() -> Operands
-    ensures { λ r. ⌜ stackOf r ≡ [] ⌝ }
+pub fn pop(stack: &[u32; MAX_OPERANDS], depth: usize) -> Popped
+    ensures { λ r. ⌜ (length (now (stack .entry)) ≡ 16 → poppedIn (now (stack .entry)) r ≡ popOne (stackIn (now (stack .entry)) depth)) × Keeps (r .refusal) depth (r .depth) ⌝ }
 {
-    Operands {
-        list: [Operand(AbstractValue::NonReference); MAX_OPERANDS],
-        len: 0,
-    }
-}
-
-// How many operands there are.
-pub fn depth(stack: Operands) -> usize
-    ensures { λ r. ⌜ (r ≡ length (stackOf stack)) × (r ≤ 16) × (length (stack .list) ≡ 16) × (stackOf stack ≡ stackIn (stack .list) r) ⌝ }
-{
-    let n = stack.len as usize;
-    if MAX_OPERANDS < n {
-        return MAX_OPERANDS;
-    }
-    n
-}
-
-pub fn pop(stack: Operands) -> Popped
-    ensures { λ r. ⌜ (poppedOf r ≡ popOne (stackOf stack)) × Keeps (r .refusal) stack (r .stack) ⌝ }
-{
-    let n = depth(stack);
+    let n = lesser(depth, MAX_OPERANDS);
     if n == 0 {
         return Popped {
             refusal: 10,
             value: AbstractValue::NonReference,
-            stack,
+            depth,
         };
     }
-    let x = stack.list[n - 1];
-    let value = x.0;
-    let mut rest = stack;
-    rest.len = (n - 1) as u8;
+    let value = value_of(stack[n - 1]);
     Popped {
         refusal: 0,
         value,
-        stack: rest,
+        depth: n - 1,
     }
 }
 
-pub fn pop_ref(stack: Operands) -> PoppedRef
-    ensures { λ r. ⌜ poppedRefOf r ≡ popOneRef (stackOf stack) ⌝ }
+pub fn pop_ref(stack: &[u32; MAX_OPERANDS], depth: usize) -> PoppedRef
+    ensures { λ r. ⌜ (length (now (stack .entry)) ≡ 16 → poppedRefIn (now (stack .entry)) r ≡ popOneRef (stackIn (now (stack .entry)) depth)) × Keeps (r .refusal) depth (r .depth) ⌝ }
 {
-    let p = pop(stack);
-    let rest = p.stack;
+    let p = pop(stack, depth);
     if p.refusal != 0 {
         return PoppedRef {
             refusal: p.refusal,
             id: RefID(0),
-            stack: rest,
+            depth,
         };
     }
     let v = p.value;
@@ -95,156 +77,141 @@ pub fn pop_ref(stack: Operands) -> PoppedRef
         AbstractValue::Reference(id) => PoppedRef {
             refusal: 0,
             id,
-            stack: rest,
+            depth: p.depth,
         },
         AbstractValue::NonReference => PoppedRef {
             refusal: 11,
             id: RefID(0),
-            stack: rest,
+            depth,
         },
     }
 }
 
 // n values.
-pub fn pop_values(stack: Operands, n: u16) -> Rest
-    ensures { λ r. ⌜ restOf r ≡ popRest n (stackOf stack) ⌝ }
+pub fn pop_values(stack: &[u32; MAX_OPERANDS], depth: usize, n: u16) -> Rest
+    ensures { λ r. ⌜ (length (now (stack .entry)) ≡ 16 → restIn (now (stack .entry)) r ≡ popRest n (stackIn (now (stack .entry)) depth)) × Keeps (r .refusal) depth (r .depth) ⌝ }
 {
-    let mut k = depth(stack);
+    let mut k = lesser(depth, MAX_OPERANDS);
     let mut left = n;
     while 0 < left {
         if k == 0 {
-            return Rest { refusal: 10, stack };
+            return Rest { refusal: 10, depth };
         }
-        let x = stack.list[k - 1];
-        let v = x.0;
+        let v = value_of(stack[k - 1]);
         if let AbstractValue::Reference(id) = v {
-            return Rest { refusal: 11, stack };
+            return Rest { refusal: 11, depth };
         }
         k -= 1;
         left -= 1;
     }
-    let mut rest = stack;
-    rest.len = k as u8;
     Rest {
         refusal: 0,
-        stack: rest,
+        depth: k,
     }
 }
 
 // n values, and what lies under them.
-pub fn pop_under(stack: Operands, n: u16) -> Popped
-    ensures { λ r. ⌜ poppedOf r ≡ popUnder n (stackOf stack) ⌝ }
+pub fn pop_under(stack: &[u32; MAX_OPERANDS], depth: usize, n: u16) -> Popped
+    ensures { λ r. ⌜ (length (now (stack .entry)) ≡ 16 → poppedIn (now (stack .entry)) r ≡ popUnder n (stackIn (now (stack .entry)) depth)) × Keeps (r .refusal) depth (r .depth) ⌝ }
 {
-    let p = pop_values(stack, n);
-    let rest = p.stack;
+    let p = pop_values(stack, depth, n);
     if p.refusal != 0 {
         return Popped {
             refusal: p.refusal,
             value: AbstractValue::NonReference,
-            stack: rest,
+            depth,
         };
     }
-    pop(rest)
+    let q = pop(stack, p.depth);
+    if q.refusal != 0 {
+        return Popped {
+            refusal: q.refusal,
+            value: AbstractValue::NonReference,
+            depth,
+        };
+    }
+    q
 }
 
 // n operands of any kind, in the order of their pushes.
-pub fn pop_many(stack: Operands, n: u8) -> PoppedMany
-    ensures { λ r. ⌜ poppedManyOf r ≡ popSome n (stackOf stack) ⌝ }
+pub fn pop_many(stack: &[u32; MAX_OPERANDS], depth: usize, n: u8) -> PoppedMany
+    ensures { λ r. ⌜ (length (now (stack .entry)) ≡ 16 → poppedManyIn (now (stack .entry)) r ≡ popSome n (stackIn (now (stack .entry)) depth)) × Keeps (r .refusal) depth (r .depth) ⌝ }
 {
-    let top = depth(stack);
-    let count = n as usize;
-    let mut values = stack;
-    if top < count {
+    let top = lesser(depth, MAX_OPERANDS);
+    let len = n as usize;
+    let mut list = [0; MAX_OPERANDS];
+    if top < len {
         return PoppedMany {
             refusal: 10,
-            values,
-            stack,
+            values: Operands { list, len: 0 },
+            depth,
         };
     }
-    let under = top - count;
-    let mut left = count;
+    let under = top - len;
+    let mut left = len;
     while 0 < left {
         left -= 1;
-        let x = stack.list[under + left];
-        values.list[left] = x;
+        list[left] = stack[under + left];
     }
-    values.len = n;
-    let mut rest = stack;
-    rest.len = under as u8;
     PoppedMany {
         refusal: 0,
-        values,
-        stack: rest,
+        values: Operands { list, len },
+        depth: under,
     }
 }
 
-pub fn push(stack: Operands, value: AbstractValue) -> Rest
-    ensures { λ r. ⌜ (restOf r ≡ pushEach (stackOf stack) (operandOf value ∷ [])) × Keeps (r .refusal) stack (r .stack) ⌝ }
+pub fn push(stack: &mut [u32; MAX_OPERANDS], depth: usize, value: AbstractValue) -> Rest
+    ensures { λ r. ⌜ Pushes (operandOf value ∷ []) (now (stack .entry)) depth (now (stack .exit)) r × Keeps (r .refusal) (now (stack .entry)) (now (stack .exit)) ⌝ }
 {
-    let n = depth(stack);
-    let mut out = stack;
+    let n = lesser(depth, MAX_OPERANDS);
     if n == MAX_OPERANDS {
-        return Rest {
-            refusal: 20,
-            stack: out,
-        };
+        return Rest { refusal: 20, depth };
     }
-    out.list[n] = Operand(value);
-    out.len = (n + 1) as u8;
+    stack[n] = value_word(value);
     Rest {
         refusal: 0,
-        stack: out,
+        depth: n + 1,
     }
 }
 
 // n values.
-pub fn push_values(stack: Operands, n: u16) -> Rest
-    ensures { λ r. ⌜ restOf r ≡ pushEach (stackOf stack) (replicate n nonRef) ⌝ }
+pub fn push_values(stack: &mut [u32; MAX_OPERANDS], depth: usize, n: u16) -> Rest
+    ensures { λ r. ⌜ Pushes (replicate n nonRef) (now (stack .entry)) depth (now (stack .exit)) r ⌝ }
 {
-    let mut k = depth(stack);
-    let mut out = stack;
+    let mut k = lesser(depth, MAX_OPERANDS);
+    let w = value_word(AbstractValue::NonReference);
     let mut left = n;
     while 0 < left {
         if k == MAX_OPERANDS {
-            return Rest {
-                refusal: 20,
-                stack: out,
-            };
+            return Rest { refusal: 20, depth };
         }
-        out.list[k] = Operand(AbstractValue::NonReference);
+        stack[k] = w;
         k += 1;
         left -= 1;
     }
-    out.len = k as u8;
     Rest {
         refusal: 0,
-        stack: out,
+        depth: k,
     }
 }
 
 // The first one first.
-pub fn push_all(stack: Operands, values: Operands) -> Rest
-    ensures { λ r. ⌜ restOf r ≡ pushEach (stackOf stack) (operandsOf values) ⌝ }
+pub fn push_all(stack: &mut [u32; MAX_OPERANDS], depth: usize, values: Operands) -> Rest
+    ensures { λ r. ⌜ Pushes (operandsOf values) (now (stack .entry)) depth (now (stack .exit)) r ⌝ }
 {
-    let mut k = depth(stack);
-    let n = depth(values);
-    let mut out = stack;
+    let mut k = lesser(depth, MAX_OPERANDS);
+    let n = lesser(values.len, MAX_OPERANDS);
     let mut i: usize = 0;
     while i < n {
         if k == MAX_OPERANDS {
-            return Rest {
-                refusal: 20,
-                stack: out,
-            };
+            return Rest { refusal: 20, depth };
         }
-        let x = values.list[i];
-        out.list[k] = x;
+        stack[k] = values.list[i];
         k += 1;
         i += 1;
     }
-    out.len = k as u8;
     Rest {
         refusal: 0,
-        stack: out,
+        depth: k,
     }
 }

@@ -2,8 +2,8 @@
 // leaves the stack as it was.
 use abstract_state::state::AbstractValue;
 use abstract_state::state::Operands;
-use operand_stack::pop;
-use operand_stack::push;
+use operand_stack::value::pop;
+use operand_stack::value::push;
 ghost use mathlib.Core.Path.{_≡_};
 ghost use mathlib.Core.List.{[], _∷_};
 ghost use Rattle.abstract_state.specs.Models.{operandOf};

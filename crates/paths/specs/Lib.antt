@@ -1,2 +1,1 @@
 pub mod Models
-pub mod ModelLaws

@@ -1,4 +1,3 @@
 pub mod Models
 pub mod MachineLaws
 pub mod BlockLaws
-pub mod ValueLaws

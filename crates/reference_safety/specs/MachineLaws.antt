@@ -1,116 +1,57 @@
 -- Laws of steps: takings from the stack, then a call on the state, then pushes.
 use Prim.Native.Nat.{ℕ, suc}
 use mathlib.Core.Path.{_≡_, refl, sym, ap, _∙_}
-use mathlib.Core.Bool.{Bool, true, false, _&&_, cond}
+use mathlib.Core.Bool.{Bool, true, false, _&&_, cond, true≢false}
 use mathlib.Core.List.{List, [], _∷_}
 use lib.Dec.{eqb}
-use lib.ListN.{replicate}
+use lib.ListN.{length, replicate}
 use Rattle.meaning.specs.Answers.{Outcome, done, violated, refused, then}
 use Rattle.meaning.specs.AbstractState.{Operand, nonRef, Token}
-use Rattle.meaning.specs.EntryPoints.{Running, Answers, valueFor}
-use Rattle.meaning.specs.Steps.{Machine, pop, popRef, popValues, popMany, pushed, pushAll, pushNew, unchanged}
-use Rattle.abstract_state.specs.Models.{halted}
-use Rattle.abstract_state.specs.ModelLaws.{halted-then, stays, then-then}
-use Rattle.abstract_state.specs.OutcomeLaws.{link}
-use Rattle.operand_stack.specs.Models.{Taken, popOne, popOneRef, popSome, popRest, popUnder, pushEach}
-use Rattle.operand_stack.specs.StackLaws.{stopped-then, went-then, pop-then, ref-then, rest-then, under-then, many-then, each-then, one-then, new-values}
-use Rattle.reference_safety.specs.Models.{with}
+use Rattle.meaning.specs.EntryPoints.{Running, Answer, Answers, valueFor}
+use Rattle.meaning.specs.Steps.{Machine, pop, popRef, popValues, popMany, push, pushed, pushAll, pushNew, unchanged}
+use Rattle.abstract_state.specs.Models.{Words, Fits, Does, Gives, halted, outcomeOf, runningOf, operandOf, operandsOf}
+use Rattle.abstract_state.specs.ModelLaws.{then-then}
+use Rattle.operand_stack.specs.declared.Popped.{Popped}
+use Rattle.operand_stack.specs.declared.PoppedRef.{PoppedRef}
+use Rattle.operand_stack.specs.declared.PoppedMany.{PoppedMany}
+use Rattle.operand_stack.specs.declared.Rest.{Rest}
+use Rattle.operand_stack.specs.Models.{stackIn, poppedIn, poppedRefIn, poppedManyIn, restIn, popOne, popOneRef, popSome, popRest, popUnder, Pushes}
+use Rattle.operand_stack.specs.StackLaws.{pop-then, ref-then, rest-then, under-then, many-then, each-then, one-then, new-values}
+use Rattle.reference_safety.specs.Models.{with, Board, Ready, Steps, Runs, Pushed, machineOf}
+
+-- ---- states that stop
+
+module _ {A B : Type 0} (v n : ℕ) (a : A) where
+  -- a stopped state stays as it is
+  pub stays : (b : B) (f : A → Outcome B) → (eqb v 0 && eqb n 0) ≡ false → halted v n b ≡ then (halted v n a) f
+  stays b f e = go (eqb v 0) (eqb n 0) e
+    where
+      go : (x y : Bool) → (x && y) ≡ false → cond x (cond y (done b) (refused n)) (violated v) ≡ then (cond x (cond y (done a) (refused n)) (violated v)) f
+      go true true e = absurd (true≢false e)
+      go true false e = refl
+      go false y e = refl
+
+  -- one that goes on does the next thing
+  pub goes : (f : A → Outcome B) → (eqb v 0 && eqb n 0) ≡ true → f a ≡ then (halted v n a) f
+  goes f e = go (eqb v 0) (eqb n 0) e
+    where
+      go : (x y : Bool) → (x && y) ≡ true → f a ≡ then (cond x (cond y (done a) (refused n)) (violated v)) f
+      go true true e = refl
+      go true false e = absurd (true≢false (sym e))
+      go false y e = absurd (true≢false (sym e))
+
+  pub halted-then : (f : A → B) → halted v n (f a) ≡ then (halted v n a) (λ x. done (f x))
+  halted-then f = go (eqb v 0) (eqb n 0)
+    where
+      go : (x y : Bool) → cond x (cond y (done (f a)) (refused n)) (violated v) ≡ then (cond x (cond y (done a) (refused n)) (violated v)) (λ x. done (f x))
+      go true true = refl
+      go true false = refl
+      go false y = refl
 
 pub under : {A B : Type 0} (h : Outcome A) (f g : A → Outcome B) → ((a : A) → f a ≡ g a) → then h f ≡ then h g
 under (done a) f g e = e a
 under (violated c) f g e = refl
 under (refused n) f g e = refl
-
--- ---- an answer of the stack, with its refusal k; then what is done with it
-
-module _ {A X : Type 0} (h : Outcome A) (o : Outcome Machine) (k : ℕ) (x : X) (P : Outcome X) (F : A → X → Outcome Machine) (G : A → Outcome Machine) (q : (s : A) → then P (F s) ≡ G s) (e : halted 0 k x ≡ P) where
-  out : (k ≡ 0 → ⊥) → (m : A → Machine) → o ≡ then h (λ s. halted 0 k (m s)) → o ≡ then h G
-  out z m p = p ∙ under h (λ s. halted 0 k (m s)) G (λ s. stopped-then k x P (F s) e (m s) z ∙ q s)
-
-  on : k ≡ 0 → o ≡ then h (λ s. F s x) → o ≡ then h G
-  on z p = p ∙ under h (λ s. F s x) G (λ s. went-then k x P (F s) e z ∙ q s)
-
-module _ {A : Type 0} (h : Outcome A) (o : Outcome Machine) (k : ℕ) (vs : List Operand) where
-  module _ (x : Taken Operand) (F : A → Operand → List Operand → Outcome Machine) where
-    pub one-out : halted 0 k x ≡ popOne vs → (k ≡ 0 → ⊥) → (m : A → Machine) → o ≡ then h (λ s. halted 0 k (m s)) → o ≡ then h (λ s. pop vs (F s))
-    one-out e = out h o k x (popOne vs) (λ s t. F s (t .what) (t .rest)) (λ s. pop vs (F s)) (λ s. pop-then vs (F s)) e
-
-    pub one-on : halted 0 k x ≡ popOne vs → k ≡ 0 → o ≡ then h (λ s. F s (x .what) (x .rest)) → o ≡ then h (λ s. pop vs (F s))
-    one-on e = on h o k x (popOne vs) (λ s t. F s (t .what) (t .rest)) (λ s. pop vs (F s)) (λ s. pop-then vs (F s)) e
-
-    pub under-out : (n : ℕ) → halted 0 k x ≡ popUnder n vs → (k ≡ 0 → ⊥) → (m : A → Machine) → o ≡ then h (λ s. halted 0 k (m s)) → o ≡ then h (λ s. popValues n vs (λ ws. pop ws (F s)))
-    under-out n e = out h o k x (popUnder n vs) (λ s t. F s (t .what) (t .rest)) (λ s. popValues n vs (λ ws. pop ws (F s))) (λ s. under-then n vs (F s)) e
-
-    pub under-on : (n : ℕ) → halted 0 k x ≡ popUnder n vs → k ≡ 0 → o ≡ then h (λ s. F s (x .what) (x .rest)) → o ≡ then h (λ s. popValues n vs (λ ws. pop ws (F s)))
-    under-on n e = on h o k x (popUnder n vs) (λ s t. F s (t .what) (t .rest)) (λ s. popValues n vs (λ ws. pop ws (F s))) (λ s. under-then n vs (F s)) e
-
-  module _ (x : Taken ℕ) (F : A → ℕ → List Operand → Outcome Machine) (e : halted 0 k x ≡ popOneRef vs) where
-    pub ref-out : (k ≡ 0 → ⊥) → (m : A → Machine) → o ≡ then h (λ s. halted 0 k (m s)) → o ≡ then h (λ s. popRef vs (F s))
-    ref-out = out h o k x (popOneRef vs) (λ s t. F s (t .what) (t .rest)) (λ s. popRef vs (F s)) (λ s. ref-then vs (F s)) e
-
-    pub ref-on : k ≡ 0 → o ≡ then h (λ s. F s (x .what) (x .rest)) → o ≡ then h (λ s. popRef vs (F s))
-    ref-on = on h o k x (popOneRef vs) (λ s t. F s (t .what) (t .rest)) (λ s. popRef vs (F s)) (λ s. ref-then vs (F s)) e
-
-  module _ (x : Taken (List Operand)) (F : A → List Operand → List Operand → Outcome Machine) (n : ℕ) (e : halted 0 k x ≡ popSome n vs) where
-    pub many-out : (k ≡ 0 → ⊥) → (m : A → Machine) → o ≡ then h (λ s. halted 0 k (m s)) → o ≡ then h (λ s. popMany n [] vs (F s))
-    many-out = out h o k x (popSome n vs) (λ s t. F s (t .what) (t .rest)) (λ s. popMany n [] vs (F s)) (λ s. many-then n [] vs (F s)) e
-
-    pub many-on : k ≡ 0 → o ≡ then h (λ s. F s (x .what) (x .rest)) → o ≡ then h (λ s. popMany n [] vs (F s))
-    many-on = on h o k x (popSome n vs) (λ s t. F s (t .what) (t .rest)) (λ s. popMany n [] vs (F s)) (λ s. many-then n [] vs (F s)) e
-
-  module _ (x : List Operand) (F : A → List Operand → Outcome Machine) (n : ℕ) (e : halted 0 k x ≡ popRest n vs) where
-    pub rest-out : (k ≡ 0 → ⊥) → (m : A → Machine) → o ≡ then h (λ s. halted 0 k (m s)) → o ≡ then h (λ s. popValues n vs (F s))
-    rest-out = out h o k x (popRest n vs) F (λ s. popValues n vs (F s)) (λ s. rest-then n vs (F s)) e
-
-    pub rest-on : k ≡ 0 → o ≡ then h (λ s. F s x) → o ≡ then h (λ s. popValues n vs (F s))
-    rest-on = on h o k x (popRest n vs) F (λ s. popValues n vs (F s)) (λ s. rest-then n vs (F s)) e
-
--- ---- pushes
-
-module _ (v n : ℕ) (r : Running) (vs ws : List Operand) (k : ℕ) (x : List Operand) (e : halted 0 k x ≡ pushEach vs ws) where
-  pub all-out : (o : Outcome Machine) → (k ≡ 0 → ⊥) → o ≡ then (halted v n r) (λ s. halted 0 k (with x s)) → o ≡ then (halted v n r) (pushAll vs ws)
-  all-out o z p = out (halted v n r) o k x (pushEach vs ws) (λ s us. done (with us s)) (pushAll vs ws) (λ s. each-then vs ws s) e z (with x) p
-
-  pub all-on : k ≡ 0 → halted v n (with x r) ≡ then (halted v n r) (pushAll vs ws)
-  all-on z = on (halted v n r) (halted v n (with x r)) k x (pushEach vs ws) (λ s us. done (with us s)) (pushAll vs ws) (λ s. each-then vs ws s) e z (halted-then v n r (with x))
-
--- one operand, that of an answer
-module _ (v n : ℕ) (r : Running) (w : Operand) (vs : List Operand) where
-  answer-one : then (halted v n r) (pushAll vs (w ∷ [])) ≡ pushed vs (halted v n (record { state = r; operand = w }))
-  answer-one = go (eqb v 0) (eqb n 0)
-    where
-      go : (a b : Bool) → then (cond a (cond b (done r) (refused n)) (violated v)) (pushAll vs (w ∷ [])) ≡ pushed vs (cond a (cond b (done (record { state = r; operand = w })) (refused n)) (violated v))
-      go true true = one-then vs w r
-      go true false = refl
-      go false b = refl
-
-  module _ (k : ℕ) (x : List Operand) (e : halted 0 k x ≡ pushEach vs (w ∷ [])) where
-    pub answer-out : (o : Outcome Machine) → (k ≡ 0 → ⊥) → o ≡ then (halted v n r) (λ s. halted 0 k (with x s)) → o ≡ pushed vs (halted v n (record { state = r; operand = w }))
-    answer-out o z p = all-out v n r vs (w ∷ []) k x e o z p ∙ answer-one
-
-    pub answer-on : k ≡ 0 → halted v n (with x r) ≡ pushed vs (halted v n (record { state = r; operand = w }))
-    answer-on z = all-on v n r vs (w ∷ []) k x e z ∙ answer-one
-
--- values
-pub all-values : (h : Outcome Running) (n : ℕ) (vs : List Operand) (t : Token) → t ≡ Token.ofValue → then h (pushAll vs (replicate n nonRef)) ≡ then h (pushNew n t vs)
-all-values h n vs t e = under h (pushAll vs (replicate n nonRef)) (pushNew n Token.ofValue vs) (λ r. new-values n vs r) ∙ ap (λ (u : Token). then h (pushNew n u vs)) (sym e)
-
--- ---- a call on the state, and the stack kept
-
-pub keeps : {A : Type 0} (h : Outcome A) (v n : ℕ) (r : Running) (ws : List Operand) (f : A → Outcome Running) → halted v n r ≡ then h f → halted v n (with ws r) ≡ then h (λ s. unchanged ws (f s))
-keeps h v n r ws f e = link h (halted v n r) (halted v n (with ws r)) f (λ s. done (with ws s)) e (halted-then v n r (with ws))
-
-pub stops : {A : Type 0} (h : Outcome A) (v n : ℕ) (r : Running) (ws : List Operand) (k : ℕ) (g : A → Running) → halted v n r ≡ then h (λ s. halted 0 k (g s)) → halted v n (with ws r) ≡ then h (λ s. halted 0 k (with ws (g s)))
-stops h v n r ws k g e = keeps h v n r ws (λ s. halted 0 k (g s)) e ∙ under h (λ s. unchanged ws (halted 0 k (g s))) (λ s. halted 0 k (with ws (g s))) (λ s. sym (halted-then 0 k (g s) (with ws)))
-
--- the operands of an answer
-pub answers-all : (v n : ℕ) (r : Running) (ws vs : List Operand) → then (halted v n r) (pushAll vs ws) ≡ then {A = Answers} (halted v n (record { state = r; operands = ws })) (λ a. pushAll vs (a .operands) (a .state))
-answers-all v n r ws vs = go (eqb v 0) (eqb n 0)
-  where
-    go : (a b : Bool) → then (cond a (cond b (done r) (refused n)) (violated v)) (pushAll vs ws) ≡ then {A = Answers} (cond a (cond b (done (record { state = r; operands = ws })) (refused n)) (violated v)) (λ x. pushAll vs (x .operands) (x .state))
-    go true true = refl
-    go true false = refl
-    go false b = refl
 
 -- a machine, and its parts
 pub apart : (v n : ℕ) (r : Running) (vs : List Operand) (f : List Operand → Running → Outcome Machine) → then (halted v n r) (f vs) ≡ then (halted v n (with vs r)) (λ m. f (m .stack) (m .state))
@@ -121,21 +62,174 @@ apart v n r vs f = go (eqb v 0) (eqb n 0)
     go true false = refl
     go false b = refl
 
+-- ---- an answer of the stack, with its refusal k, which stops the state; then what is done with it
+
+heed : {A X B : Type 0} (k : ℕ) (s : A) (x : X) (F : A → X → Outcome B) → then (halted 0 k s) (λ t. F t x) ≡ then (halted 0 k x) (F s)
+heed {A} {X} {B} k s x F = go (eqb k 0)
+  where
+    go : (b : Bool) → then {A = A} {B = B} (cond b (done s) (refused k)) (λ t. F t x) ≡ then {A = X} {B = B} (cond b (done x) (refused k)) (F s)
+    go true = refl
+    go false = refl
+
+module _ {X : Type 0} (a b : Words) (ws : List ℕ) (w : Board) (k : ℕ) (x : X) (P : Outcome X) (F : Running → X → Outcome Machine) (G : Running → Outcome Machine) where
+  heeded : ((s : Running) → then P (F s) ≡ G s) → (length ws ≡ 16 → halted 0 k x ≡ P) → Does (λ s. halted 0 k s) a b → Runs (λ s. F s x) b ws w → Runs G a ws w
+  heeded q e d r = record {
+    ready = λ f l. r .ready (d .fits f) l;
+    runs = λ f l.
+        r .runs (d .fits f) l
+        ∙ ap (λ (o : Outcome Running). then o (λ s. F s x)) (d .does f)
+        ∙ then-then (outcomeOf a) (λ s. halted 0 k s) (λ s. F s x)
+        ∙ under (outcomeOf a) (λ s. then (halted 0 k s) (λ t. F t x)) G (λ s. heed k s x F ∙ ap (λ (o : Outcome X). then o (F s)) (e l) ∙ q s);
+  }
+
+-- from the stack at the depth d
+module _ {a b : Words} {w : Board} (ws : List ℕ) (d : ℕ) where
+  module _ (p : Popped) (F : Operand → List Operand → Running → Outcome Machine) where
+    pub pop-runs : (length ws ≡ 16 → poppedIn ws p ≡ popOne (stackIn ws d)) → Does (λ s. halted 0 (p .refusal) s) a b → Runs (F (operandOf (p .value)) (stackIn ws (p .depth))) b ws w
+        → Runs (λ s. pop (stackIn ws d) (λ v us. F v us s)) a ws w
+    pop-runs = heeded a b ws w (p .refusal) (record { what = operandOf (p .value); rest = stackIn ws (p .depth) }) (popOne (stackIn ws d)) (λ s t. F (t .what) (t .rest) s) (λ s. pop (stackIn ws d) (λ v us. F v us s)) (λ s. pop-then (stackIn ws d) (λ v us. F v us s))
+
+    pub under-runs : (n : ℕ) → (length ws ≡ 16 → poppedIn ws p ≡ popUnder n (stackIn ws d)) → Does (λ s. halted 0 (p .refusal) s) a b → Runs (F (operandOf (p .value)) (stackIn ws (p .depth))) b ws w
+        → Runs (λ s. popValues n (stackIn ws d) (λ us. pop us (λ v ts. F v ts s))) a ws w
+    under-runs n = heeded a b ws w (p .refusal) (record { what = operandOf (p .value); rest = stackIn ws (p .depth) }) (popUnder n (stackIn ws d)) (λ s t. F (t .what) (t .rest) s) (λ s. popValues n (stackIn ws d) (λ us. pop us (λ v ts. F v ts s))) (λ s. under-then n (stackIn ws d) (λ v ts. F v ts s))
+
+  pub ref-runs : (p : PoppedRef) (F : ℕ → List Operand → Running → Outcome Machine) → (length ws ≡ 16 → poppedRefIn ws p ≡ popOneRef (stackIn ws d)) → Does (λ s. halted 0 (p .refusal) s) a b → Runs (F (p .id .0) (stackIn ws (p .depth))) b ws w
+      → Runs (λ s. popRef (stackIn ws d) (λ n us. F n us s)) a ws w
+  ref-runs p F = heeded a b ws w (p .refusal) (record { what = p .id .0; rest = stackIn ws (p .depth) }) (popOneRef (stackIn ws d)) (λ s t. F (t .what) (t .rest) s) (λ s. popRef (stackIn ws d) (λ n us. F n us s)) (λ s. ref-then (stackIn ws d) (λ n us. F n us s))
+
+  pub many-runs : (p : PoppedMany) (F : List Operand → List Operand → Running → Outcome Machine) (n : ℕ) → (length ws ≡ 16 → poppedManyIn ws p ≡ popSome n (stackIn ws d)) → Does (λ s. halted 0 (p .refusal) s) a b → Runs (F (operandsOf (p .values)) (stackIn ws (p .depth))) b ws w
+      → Runs (λ s. popMany n [] (stackIn ws d) (λ vs us. F vs us s)) a ws w
+  many-runs p F n = heeded a b ws w (p .refusal) (record { what = operandsOf (p .values); rest = stackIn ws (p .depth) }) (popSome n (stackIn ws d)) (λ s t. F (t .what) (t .rest) s) (λ s. popMany n [] (stackIn ws d) (λ vs us. F vs us s)) (λ s. many-then n [] (stackIn ws d) (λ vs us. F vs us s))
+
+  pub rest-runs : (p : Rest) (F : List Operand → Running → Outcome Machine) (n : ℕ) → (length ws ≡ 16 → restIn ws p ≡ popRest n (stackIn ws d)) → Does (λ s. halted 0 (p .refusal) s) a b → Runs (F (stackIn ws (p .depth))) b ws w
+      → Runs (λ s. popValues n (stackIn ws d) (λ us. F us s)) a ws w
+  rest-runs p F n = heeded a b ws w (p .refusal) (stackIn ws (p .depth)) (popRest n (stackIn ws d)) (λ s us. F us s) (λ s. popValues n (stackIn ws d) (λ us. F us s)) (λ s. rest-then n (stackIn ws d) (λ us. F us s))
+
+-- ---- a call on the state
+
+module _ {a b : Words} where
+  -- and the stack kept, at the depth d
+  pub keeps : {f : Running → Outcome Running} (ws : List ℕ) (d : ℕ) → Does f a b → Runs (λ s. unchanged (stackIn ws d) (f s)) a ws (record { words = b; stack = ws; depth = d })
+  keeps {f} ws d p = record {
+    ready = λ h l. record { fits = p .fits h; stack = l };
+    runs = λ h l.
+        halted-then (b .state .violation) (b .state .refusal) (runningOf b) (with (stackIn ws d))
+        ∙ ap (λ (o : Outcome Running). then {B = Machine} o (λ s. done (with (stackIn ws d) s))) (p .does h)
+        ∙ then-then (outcomeOf a) f (λ s. done (with (stackIn ws d) s));
+  }
+
+  -- and what it answered pushed
+  pub gives : {f : Running → Outcome Answer} {ws : List ℕ} {d : ℕ} {w : Board} → Gives f a b → Pushed b ws d w → Runs (λ s. pushed (stackIn ws d) (f s)) a ws w
+  gives {f} {ws} {d} p q = record {
+    ready = λ h l. q .ready (p .fits h) l;
+    runs = λ h l. q .pushes (p .fits h) l ∙ ap (λ (o : Outcome Answer). pushed (stackIn ws d) o) (p .gives h) ∙ then-then (outcomeOf a) f (λ x. push (stackIn ws d) (x .operand) (x .state));
+  }
+
+  -- and what runs from there
+  pub does-runs : {f : Running → Outcome Running} {g : Running → Outcome Machine} {ws : List ℕ} {w : Board} → Does f a b → Runs g b ws w → Runs (λ s. then (f s) g) a ws w
+  does-runs {f} {g} p q = record {
+    ready = λ h l. q .ready (p .fits h) l;
+    runs = λ h l. q .runs (p .fits h) l ∙ ap (λ (o : Outcome Running). then o g) (p .does h) ∙ then-then (outcomeOf a) f g;
+  }
+
+  -- and the operands that it answered pushed
+  pub answers-runs : {ws : List ℕ} {w : Board} (f : Running → Outcome Answers) (us vs : List Operand) → (Fits a → Fits b) → (Fits a → halted (b .state .violation) (b .state .refusal) (record { state = runningOf b; operands = us }) ≡ then (outcomeOf a) f)
+      → Runs (pushAll vs us) b ws w → Runs (λ s. then (f s) (λ x. pushAll vs (x .operands) (x .state))) a ws w
+  answers-runs f us vs p e q = record {
+    ready = λ h l. q .ready (p h) l;
+    runs = λ h l.
+        q .runs (p h) l
+        ∙ go (eqb (b .state .violation) 0) (eqb (b .state .refusal) 0)
+        ∙ ap (λ (o : Outcome Answers). then o (λ x. pushAll vs (x .operands) (x .state))) (e h)
+        ∙ then-then (outcomeOf a) f (λ x. pushAll vs (x .operands) (x .state));
+  }
+    where
+      go : (x y : Bool) → then (cond x (cond y (done (runningOf b)) (refused (b .state .refusal))) (violated (b .state .violation))) (pushAll vs us)
+          ≡ then {A = Answers} (cond x (cond y (done (record { state = runningOf b; operands = us })) (refused (b .state .refusal))) (violated (b .state .violation))) (λ z. pushAll vs (z .operands) (z .state))
+      go true true = refl
+      go true false = refl
+      go false y = refl
+
+-- ---- pushes
+
+module _ {a b : Words} {us : List Operand} {ws xs : List ℕ} {r : Rest} where
+  pub push-runs : (d : ℕ) → Pushes us ws d xs r → Does (λ s. halted 0 (r .refusal) s) a b → Runs (pushAll (stackIn ws d) us) a ws (record { words = b; stack = xs; depth = r .depth })
+  push-runs d p q = record {
+    ready = λ h l. record { fits = q .fits h; stack = p .words l };
+    runs = λ h l.
+        keeps {a = a} {b = b} xs (r .depth) q .runs h (p .words l)
+        ∙ under (outcomeOf a) (λ s. then {B = Machine} (halted 0 (r .refusal) s) (λ t. done (with (stackIn xs (r .depth)) t))) (pushAll (stackIn ws d) us)
+        (λ s. heed (r .refusal) s (stackIn xs (r .depth)) (λ t vs. done (with vs t)) ∙ ap (λ (o : Outcome (List Operand)). then {B = Machine} o (λ vs. done (with vs s))) (p .pushes l) ∙ each-then (stackIn ws d) us s);
+  }
+
+-- one operand, that of an answer
+pub pushed-one : {a : Words} {ws : List ℕ} {w : Board} (d : ℕ) → Runs (pushAll (stackIn ws d) (operandOf (a .state .value) ∷ [])) a ws w → Pushed a ws d w
+pushed-one {a} {ws} d p = record { ready = p .ready; pushes = λ h l. p .runs h l ∙ go (eqb (a .state .violation) 0) (eqb (a .state .refusal) 0) }
+  where
+    go : (x y : Bool) → then (cond x (cond y (done (runningOf a)) (refused (a .state .refusal))) (violated (a .state .violation))) (pushAll (stackIn ws d) (operandOf (a .state .value) ∷ []))
+        ≡ pushed (stackIn ws d) (cond x (cond y (done (record { state = runningOf a; operand = operandOf (a .state .value) })) (refused (a .state .refusal))) (violated (a .state .violation)))
+    go true true = one-then (stackIn ws d) (operandOf (a .state .value)) (runningOf a)
+    go true false = refl
+    go false y = refl
+
+-- values
+pub values-runs : {a : Words} {ws : List ℕ} {w : Board} (n d : ℕ) (t : Token) → t ≡ Token.ofValue → Runs (pushAll (stackIn ws d) (replicate n nonRef)) a ws w → Runs (pushNew n t (stackIn ws d)) a ws w
+values-runs {a} {ws} n d t e p = record {
+  ready = p .ready;
+  runs = λ h l.
+      p .runs h l
+      ∙ under (outcomeOf a) (pushAll (stackIn ws d) (replicate n nonRef)) (pushNew n Token.ofValue (stackIn ws d)) (λ s. new-values n (stackIn ws d) s)
+      ∙ ap (λ (u : Token). then (outcomeOf a) (pushNew n u (stackIn ws d))) (sym e);
+}
+
+-- ---- a machine's steps, and what runs from its parts
+
+module _ {a b : Board} (f : List Operand → Running → Outcome Machine) where
+  pub steps-from : Runs (f (stackIn (a .stack) (a .depth))) (a .words) (a .stack) b → Steps (λ m. f (m .stack) (m .state)) a b
+  steps-from p = record {
+    ready = λ h. p .ready (h .fits) (h .stack);
+    steps = λ h. p .runs (h .fits) (h .stack) ∙ apart (a .words .state .violation) (a .words .state .refusal) (runningOf (a .words)) (stackIn (a .stack) (a .depth)) f;
+  }
+
+  pub runs-from : Steps (λ m. f (m .stack) (m .state)) a b → Runs (f (stackIn (a .stack) (a .depth))) (a .words) (a .stack) b
+  runs-from p = record {
+    ready = λ h l. p .ready (record { fits = h; stack = l });
+    runs = λ h l. p .steps (record { fits = h; stack = l }) ∙ sym (apart (a .words .state .violation) (a .words .state .refusal) (runningOf (a .words)) (stackIn (a .stack) (a .depth)) f);
+  }
+
 -- ---- the loop that pushes new operands
 
-module _ (t : Token) (v n : ℕ) (m : Machine) (o : Outcome Machine) where
-  pub new-out : (left : ℕ) → (eqb v 0 && eqb n 0) ≡ false → then (halted v n m) (λ x. pushNew left t (x .stack) (x .state)) ≡ o → halted v n m ≡ o
-  new-out left e i = stays v n m m (λ x. pushNew left t (x .stack) (x .state)) e ∙ i
+-- from a, n operands are to be pushed; at b, left of them
+pub record Turns (t : Token) (n : ℕ) (a : Board) (left : ℕ) (b : Board) : Type 0 where
+  pub ready : Ready a → Ready b
+  pub turns : Ready a → then (machineOf b) (λ x. pushNew left t (x .stack) (x .state)) ≡ then (machineOf a) (λ x. pushNew n t (x .stack) (x .state))
 
-  pub new-end : then (halted v n m) (λ x. pushNew 0 t (x .stack) (x .state)) ≡ o → halted v n m ≡ o
-  unfolding pushNew
-  new-end i = halted-then v n m (λ x. x) ∙ i
+module _ {t : Token} {n : ℕ} {a b : Board} where
+  pub new-out : {left : ℕ} → (eqb (b .words .state .violation) 0 && eqb (b .words .state .refusal) 0) ≡ false → Turns t n a left b → Steps (λ x. pushNew n t (x .stack) (x .state)) a b
+  new-out {left} e i = record {
+    ready = i .ready;
+    steps = λ h.
+        let m = with (stackIn (b .stack) (b .depth)) (runningOf (b .words)) in
+        stays (b .words .state .violation) (b .words .state .refusal) m m (λ x. pushNew left t (x .stack) (x .state)) e ∙ i .turns h;
+  }
 
-  pub new-turn : (left l : ℕ) (p : Outcome Machine) → left ≡ suc l → p ≡ then (halted v n m) (λ x. pushed (x .stack) (valueFor t (x .state))) → then (halted v n m) (λ x. pushNew left t (x .stack) (x .state)) ≡ o
-      → then p (λ x. pushNew l t (x .stack) (x .state)) ≡ o
+  pub new-end : {left : ℕ} → left ≡ 0 → Turns t n a left b → Steps (λ x. pushNew n t (x .stack) (x .state)) a b
   unfolding pushNew
-  new-turn left l p e q i =
-      ap (λ (y : Outcome Machine). then y (λ x. pushNew l t (x .stack) (x .state))) q
-      ∙ then-then (halted v n m) (λ x. pushed (x .stack) (valueFor t (x .state))) (λ x. pushNew l t (x .stack) (x .state))
-      ∙ ap (λ (k : ℕ). then (halted v n m) (λ x. pushNew k t (x .stack) (x .state))) (sym e)
-      ∙ i
+  new-end e i = record {
+    ready = i .ready;
+    steps = λ h.
+        halted-then (b .words .state .violation) (b .words .state .refusal) (with (stackIn (b .stack) (b .depth)) (runningOf (b .words))) (λ x. x)
+        ∙ ap (λ (k : ℕ). then (machineOf b) (λ x. pushNew k t (x .stack) (x .state))) (sym e)
+        ∙ i .turns h;
+  }
+
+  pub new-turn : {left : ℕ} {c : Board} (l : ℕ) → left ≡ suc l → Steps (λ x. pushed (x .stack) (valueFor t (x .state))) b c → Turns t n a left b → Turns t n a l c
+  unfolding pushNew
+  new-turn l e q i = record {
+    ready = λ h. q .ready (i .ready h);
+    turns = λ h.
+        ap (λ (y : Outcome Machine). then y (λ x. pushNew l t (x .stack) (x .state))) (q .steps (i .ready h))
+        ∙ then-then (machineOf b) (λ x. pushed (x .stack) (valueFor t (x .state))) (λ x. pushNew l t (x .stack) (x .state))
+        ∙ ap (λ (k : ℕ). then (machineOf b) (λ x. pushNew k t (x .stack) (x .state))) (sym e)
+        ∙ i .turns h;
+  }

@@ -1,33 +1,58 @@
--- What the structs of the code mean in the definitions.
-use Prim.Native.Nat.{ℕ, _<_}
+-- What the structs of the code and their arrays mean in the definitions.
+use Prim.Native.Nat.{ℕ}
 use mathlib.Core.Path.{_≡_}
-use mathlib.Core.Bool.{true}
 use mathlib.Core.List.{List, [], _∷_}
-use lib.ListN.{set, replicate}
-use Rattle.meaning.specs.AbstractState.{State, Operand, nonRef}
+use lib.ListN.{length}
+use Rattle.meaning.specs.Limits.{maxOperands}
+use Rattle.meaning.specs.AbstractState.{State, Operand}
 use Rattle.meaning.specs.Answers.{Outcome, done, violated, refused, then}
 use Rattle.meaning.specs.EntryPoints.{Running}
 use Rattle.meaning.specs.Steps as T
-use Rattle.meaning.specs.Steps.{Instr}
 use Rattle.meaning.specs.Loop.{Result, Block}
-use Rattle.borrow_graph.specs.Models.{graphOf}
-use Rattle.abstract_state.specs.Models.{localsIn, halted, runningOf, outcomeOf}
-use Rattle.abstract_state.specs.declared.state.AbstractState.{AbstractState}
-use Rattle.abstract_state.specs.declared.state.Local.{Local}
-use Rattle.operand_stack.specs.Models.{stackOf, popRest, pushEach}
+use Rattle.abstract_state.specs.Models.{Words, words, Fits, localsIn, halted, runningOf, outcomeOf, answerOf}
+use Rattle.operand_stack.specs.Models.{stackIn}
 use Rattle.reference_safety.specs.declared.machine.Machine.{Machine}
-use Rattle.reference_safety.specs.declared.block.Ran.{Ran}
-use Rattle.reference_safety.specs.declared.values.Exchange.{Exchange}
 
 abbrev pub with : List Operand → Running → T.Machine
 with vs r = record { state = r; stack = vs }
 
-abbrev pub machineOf : Machine → Outcome T.Machine
-machineOf m = halted (m .state .violation) (m .state .refusal) (with (stackOf (m .stack)) (runningOf (m .state)))
+-- a machine with its arrays
+pub record Board : Type 0 where
+  pub words : Words
+  pub stack : List ℕ
+  pub depth : ℕ
+
+abbrev pub board : List ℕ → List ℕ → List (List ℕ) → List ℕ → Machine → Board
+board ls ns es ws m = record { words = words ls ns es (m .state); stack = ws; depth = m .depth }
+
+abbrev pub machineOf : Board → Outcome T.Machine
+machineOf a = halted (a .words .state .violation) (a .words .state .refusal) (with (stackIn (a .stack) (a .depth)) (runningOf (a .words)))
+
+-- that the arrays have their lengths, and the graph's struct tells the truth of them
+pub record Ready (a : Board) : Type 0 where
+  pub fits : Fits (a .words)
+  pub stack : length (a .stack) ≡ maxOperands
+
+-- From a to b the machine does f. Of arrays that fit no machine nothing is said.
+pub record Steps (f : T.Machine → Outcome T.Machine) (a b : Board) : Type 0 where
+  pub ready : Ready a → Ready b
+  pub steps : Ready a → machineOf b ≡ then (machineOf a) f
+
+-- the same, from a state, while the stack is in the words ws
+pub record Runs (f : Running → Outcome T.Machine) (a : Words) (ws : List ℕ) (b : Board) : Type 0 where
+  pub ready : Fits a → length ws ≡ maxOperands → Ready b
+  pub runs : Fits a → length ws ≡ maxOperands → machineOf b ≡ then (outcomeOf a) f
+
+-- what a answered was pushed at the depth d
+pub record Pushed (a : Words) (ws : List ℕ) (d : ℕ) (b : Board) : Type 0 where
+  pub ready : Fits a → length ws ≡ maxOperands → Ready b
+  pub pushes : Fits a → length ws ≡ maxOperands → machineOf b ≡ T.pushed (stackIn ws d) (answerOf a)
+
+-- ---- blocks
 
 -- a state in a routine of this many locals
-abbrev pub stateIn : ℕ → AbstractState → State
-stateIn l s = record { locals = localsIn (s .locals) l; graph = graphOf (s .«borrow_graph») }
+abbrev pub stateIn : ℕ → Words → State
+stateIn l a = record { locals = localsIn (a .locals) l; graph = runningOf a .graph }
 
 -- the end of a block with these successors: its state is for them
 abbrev pub endFor : List ℕ → Running → Result State
@@ -40,26 +65,11 @@ placed es p (done r) = endFor es r
 placed es p (violated c) = Result.violated c p
 placed es p (refused n) = Result.refused n p
 
--- what a run of block b came to
-abbrev pub ranOf : Block → Ran → Result State
-ranOf b r = placed (b .successors) (r .place .0) (outcomeOf (r .state))
+-- what a run of block b came to, that left these words and this place
+abbrev pub ranOf : Block → Words → ℕ → Result State
+ranOf b a p = placed (b .successors) p (outcomeOf a)
 
--- ---- instructions on values alone
-
--- a running state that has these locals, of a routine with l of them
-abbrev pub having : List Local → ℕ → Running → Running
-having xs l r = record { locals = localsIn xs l; graph = r .graph; next = r .next; root = r .root }
-
--- on every machine with this stack and these locals the instruction leaves those, and changes nothing else
-abbrev pub Moves : Instr → List Operand → List Local → List Operand → List Local → Type 0
-Moves i vs xs ws ys = (returns l : ℕ) (r : Running) → T.step returns i (with vs (having xs l r)) ≡ done (with ws (having ys l r))
-
--- n values are taken, then k pushed
-abbrev pub exchanged : ℕ → ℕ → List Operand → Outcome (List Operand)
-exchanged n k vs = then (popRest n vs) (λ ws. pushEach ws (replicate k nonRef))
-
--- an exchange that is known is what the instruction does, where the stack has the values and the room
-abbrev pub ExchangeFor : Instr → List Local → Exchange → Type 0
-ExchangeFor i xs e =
-    (e .local < 16)
-    × (e .known ≡ true → (vs ws : List Operand) → exchanged (e .takes) (e .pushes) vs ≡ done ws → Moves i vs xs ws (set xs (e .local) (e .value)))
+-- From a to c, with the place p, block b came to o. Of arrays that fit no state nothing is said.
+pub record Ends (b : Block) (a c : Words) (p : ℕ) (o : Result State) : Type 0 where
+  pub fits : Fits a → Fits c
+  pub ends : Fits a → ranOf b c p ≡ o

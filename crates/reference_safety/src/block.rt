@@ -1,9 +1,10 @@
 // One instruction, and one block from its kept state to the state that its successors get.
+// execute: execute_inner, mod.rs:136. run_block: execute_block, absint.rs:161. finish: the end of execute, mod.rs:405.
 use crate::machine::Machine;
-use crate::machine::pushed;
 use crate::steps;
-use crate::values::on_values;
+use abstract_state::core::refuse;
 use abstract_state::state::AbstractState;
+use abstract_state::state::LOCALS;
 use abstract_state_join::canonical::construct_canonical_state;
 use file_format::CodeOffset;
 use listing::Block;
@@ -11,61 +12,71 @@ use listing::Routine;
 use listing::decode::Decoded;
 use listing::decode::Instruction;
 use listing::decode::decode;
+use meaning::MAX_EDGES;
 use meaning::MAX_INSTRUCTIONS;
+use meaning::MAX_NAMES;
+use meaning::MAX_OPERANDS;
 use meaning::lesser;
-use operand_stack::depth;
-use operand_stack::empty;
 ghost use mathlib.Core.Path.{_≡_};
 ghost use mathlib.Core.Bool.{true, _&&_};
-ghost use Prim.Native.Nat.{suc, _+_, _-_, min};
+ghost use mathlib.Core.List.{List};
+ghost use Prim.Native.Nat.{ℕ, suc, _+_, _-_, min};
 ghost use lib.Dec.{eqb};
 ghost use lib.ListN.{length};
-ghost use Rattle.meaning.specs.Answers.{then};
 ghost use Rattle.meaning.specs.Limits.{maxInstructions};
 ghost use Rattle.meaning.specs.Steps.{step};
 ghost use Rattle.meaning.specs.Blocks as Q;
 ghost use Rattle.listing.specs.Models.{decodedOf, blockOf, routineOf};
-ghost use Rattle.abstract_state.specs.Models.{runningOf};
-ghost use Rattle.operand_stack.specs.Models.{stackOf};
-ghost use Rattle.reference_safety.specs.Models.{machineOf, stateIn, ranOf};
+ghost use Rattle.abstract_state.specs.Models.{words, runningOf};
+ghost use Rattle.operand_stack.specs.Models.{stackIn};
+ghost use Rattle.reference_safety.specs.Models.{board, Steps, stateIn, Ends};
 
 // A block's end: the state that its successors get, or the violation or refusal in that state's numbers, with its place. Without successors,
-// and beside a number, the rest of the state is free; the place is free where no number is.
+// and beside a number, the rest of the state and its arrays are free, except that they fit; the place is free where no number is.
 pub struct Ran {
     pub place: CodeOffset,
     pub state: AbstractState,
 }
 
-pub fn execute(m: Machine, d: Decoded, returns: u8) -> Machine
-    ensures { λ r. ⌜ machineOf r ≡ then (machineOf m) (step returns (decodedOf d)) ⌝ }
+pub fn execute(
+    locals: &mut [u32; LOCALS],
+    names: &mut [u32; MAX_NAMES],
+    edges: &mut [[u32; 10]; MAX_EDGES],
+    stack: &mut [u32; MAX_OPERANDS],
+    m: Machine,
+    d: Decoded,
+    returns: u8,
+) -> Machine
+    ensures { λ r. ⌜ Steps (step returns (decodedOf d)) (board (now (locals .entry)) (now (names .entry)) (now (edges .entry)) (now (stack .entry)) m) (board (now (locals .exit)) (now (names .exit)) (now (edges .exit)) (now (stack .exit)) r) ⌝ }
 {
-    let state = m.state;
-    let stack = m.stack;
     let i = d.instruction;
     match i {
-        Instruction::Pop => steps::pop_top(state, stack),
-        Instruction::CopyLoc(local) => pushed(abstract_state_steps::copy_loc(state, local), stack),
-        Instruction::MoveLoc(local) => pushed(abstract_state_steps::move_loc(state, local), stack),
-        Instruction::StLoc(local) => steps::st_loc(state, stack, local),
-        Instruction::FreezeRef => steps::freeze_ref(state, stack),
-        Instruction::Compare => steps::compare(state, stack),
-        Instruction::ReadRef => steps::read_ref(state, stack),
-        Instruction::WriteRef => steps::write_ref(state, stack),
+        Instruction::Pop => steps::pop_top(names, edges, stack, m),
+        Instruction::CopyLoc(local) => steps::copy_loc(locals, names, edges, stack, m, local),
+        Instruction::MoveLoc(local) => steps::move_loc(locals, names, edges, stack, m, local),
+        Instruction::StLoc(local) => steps::st_loc(locals, names, edges, stack, m, local),
+        Instruction::FreezeRef => steps::freeze_ref(names, edges, stack, m),
+        Instruction::Compare => steps::compare(names, edges, stack, m),
+        Instruction::ReadRef => steps::read_ref(names, edges, stack, m),
+        Instruction::WriteRef => steps::write_ref(names, edges, stack, m),
         Instruction::BorrowLoc(local, mutable) => {
-            pushed(
-                abstract_state_steps::borrow_loc(state, mutable, local),
-                stack,
-            )
+            steps::borrow_loc(names, edges, stack, m, local, mutable)
         }
-        Instruction::BorrowField(n, mutable) => steps::borrow_field(state, stack, n, mutable),
-        Instruction::BorrowGlobal(n, mutable) => steps::borrow_global(state, stack, n, mutable),
-        Instruction::MoveFrom(n) => steps::move_from(state, stack, n),
+        Instruction::BorrowField(n, mutable) => {
+            steps::borrow_field(names, edges, stack, m, n, mutable)
+        }
+        Instruction::BorrowGlobal(n, mutable) => {
+            steps::borrow_global(names, edges, stack, m, n, mutable)
+        }
+        Instruction::MoveFrom(n) => steps::move_from(names, edges, stack, m, n),
         Instruction::Call(n) => {
             let acquired = d.acquired;
             let tokens = d.tokens;
             steps::call(
-                state,
+                names,
+                edges,
                 stack,
+                m,
                 n,
                 acquired,
                 d.acquired_count,
@@ -73,13 +84,15 @@ pub fn execute(m: Machine, d: Decoded, returns: u8) -> Machine
                 d.token_count,
             )
         }
-        Instruction::Ret => steps::ret(state, stack, returns),
-        Instruction::Values(n, k, token) => steps::values(state, stack, n, k, token),
-        Instruction::MoveTo => steps::move_to(state, stack),
+        Instruction::Ret => steps::ret(locals, names, edges, stack, m, returns),
+        Instruction::Values(n, k, token) => steps::values(names, stack, m, n, k, token),
+        Instruction::MoveTo => steps::move_to(names, edges, stack, m),
         Instruction::VectorOp(n, mutable, k, token) => {
-            steps::vector_op(state, stack, n, mutable, k, token)
+            steps::vector_op(names, edges, stack, m, n, mutable, k, token)
         }
-        Instruction::BorrowElement(mutable) => steps::borrow_element(state, stack, mutable),
+        Instruction::BorrowElement(mutable) => {
+            steps::borrow_element(names, edges, stack, m, mutable)
+        }
     }
 }
 
@@ -102,30 +115,35 @@ fn past(b: Block) -> usize
     exit + 1
 }
 
-// The state that a block starts with, in a routine of so many locals.
-fn begin(state: AbstractState, locals: u8) -> AbstractState
-    ensures { λ r. ⌜ (r .violation ≡ 0) × (r .refusal ≡ 0) × (runningOf r ≡ Q.startMachine locals (stateIn locals state) .state) ⌝ }
+// What a block starts with, in a routine of so many locals.
+fn begin(state: AbstractState, locals: u8) -> Machine
+    ensures { λ r. ⌜ (r .depth ≡ 0) × (r .state .violation ≡ 0) × (r .state .refusal ≡ 0) × (r .state .«borrow_graph» ≡ state .«borrow_graph») × ((ls ns : List ℕ) (es : List (List ℕ)) → runningOf (words ls ns es (r .state)) ≡ Q.startMachine locals (stateIn locals (words ls ns es state)) .state) ⌝ }
 {
     let mut s = state;
     s.violation = 0;
     s.refusal = 0;
     s.num_locals = locals;
     s.next_id = locals as u32 + 1;
-    s
+    Machine { state: s, depth: 0 }
 }
 
 // The end of a block whose instructions are done: 14, then, with successors, 16 or the names changed.
-fn finish(b: Block, m: Machine) -> Ran
+fn finish(
+    b: Block,
+    locals: &mut [u32; LOCALS],
+    names: &mut [u32; MAX_NAMES],
+    edges: &mut [[u32; 10]; MAX_EDGES],
+    m: Machine,
+) -> Ran
     requires { ⌜ (eqb (m .state .violation) 0 && eqb (m .state .refusal) 0) ≡ true ⌝ }
-    ensures { λ r. ⌜ ranOf (blockOf b) r ≡ Q.finish (blockOf b) (runningOf (m .state)) (stackOf (m .stack)) ⌝ }
+    ensures { λ r. ⌜ ((ws : List ℕ) → length ws ≡ 16 → Ends (blockOf b) (words (now (locals .entry)) (now (names .entry)) (now (edges .entry)) (m .state)) (words (now (locals .exit)) (now (names .exit)) (now (edges .exit)) (r .state)) (r .place .0) (Q.finish (blockOf b) (runningOf (words (now (locals .entry)) (now (names .entry)) (now (edges .entry)) (m .state))) (stackIn ws (m .depth)))) ⌝ }
 {
-    let stack = m.stack;
     let state = m.state;
     let place = b.exit;
-    if depth(stack) != 0 {
+    if m.depth != 0 {
         return Ran {
             place,
-            state: state.refuse(14),
+            state: refuse(state, 14),
         };
     }
     if b.count == 0 {
@@ -133,7 +151,7 @@ fn finish(b: Block, m: Machine) -> Ran
     }
     Ran {
         place,
-        state: construct_canonical_state(state),
+        state: construct_canonical_state(locals, names, edges, state),
     }
 }
 
@@ -143,41 +161,29 @@ pub fn run_block(
     routine: Routine,
     code: &[u16; MAX_INSTRUCTIONS],
     b: Block,
+    locals: &mut [u32; LOCALS],
+    names: &mut [u32; MAX_NAMES],
+    edges: &mut [[u32; 10]; MAX_EDGES],
     state: AbstractState,
 ) -> Ran
-    ensures { λ r. ⌜ ranOf (blockOf b) r ≡ Q.runBlock (routineOf (now (listing .entry)) (now (code .entry)) routine) (blockOf b) (stateIn (routine .locals) state) ⌝ }
+    ensures { λ r. ⌜ Ends (blockOf b) (words (now (locals .entry)) (now (names .entry)) (now (edges .entry)) state) (words (now (locals .exit)) (now (names .exit)) (now (edges .exit)) (r .state)) (r .place .0) (Q.runBlock (routineOf (now (listing .entry)) (now (code .entry)) routine) (blockOf b) (stateIn (routine .locals) (words (now (locals .entry)) (now (names .entry)) (now (edges .entry)) state))) ⌝ }
 {
-    let mut state = begin(state, routine.locals);
+    let mut m = begin(state, routine.locals);
     let all = *code;
     let n = code_len(all, routine.code_count);
     let end = lesser(n, past(b));
-    let mut stack = empty();
+    let mut stack = [0; MAX_OPERANDS];
     let mut k = b.entry.0 as usize;
     while k < end {
         let d = decode(listing, code[k]);
-        let locals = state.locals;
-        let v = on_values(locals, stack, d);
-        if v.handled {
-            // Nothing else changes, and the state, which is large, is not copied.
-            let rest = v.stack;
-            let i = v.local;
-            let x = v.value;
-            stack = rest;
-            state.locals[i] = x;
+        m = execute(locals, names, edges, &mut stack, m, d, routine.returns);
+        let state = m.state;
+        if (state.violation == 0) & (state.refusal == 0) {
             k += 1;
         } else {
-            let m = execute(Machine { state, stack }, d, routine.returns);
-            let s = m.state;
-            let rest = m.stack;
-            state = s;
-            stack = rest;
-            if (state.violation == 0) & (state.refusal == 0) {
-                k += 1;
-            } else {
-                let place = CodeOffset(k as u16);
-                return Ran { place, state };
-            }
+            let place = CodeOffset(k as u16);
+            return Ran { place, state };
         }
     }
-    finish(b, Machine { state, stack })
+    finish(b, locals, names, edges, m)
 }

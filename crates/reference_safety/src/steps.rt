@@ -1,283 +1,451 @@
-// One step for each kind of instruction, in the Rust's order of tests. The stack is tested before the state is touched.
+// One step for each kind of instruction, in the Rust's order of tests (the arms of execute_inner, mod.rs:136). The stack is tested before the
+// state is touched: a taking that is refused stops the state, and what follows leaves a stopped state as it is.
 // (The number of returns matters to Ret alone.)
+// pop_top: Pop, 143. copy_loc: CopyLoc, 145. move_loc: MoveLoc, 149. st_loc: StLoc, 153. freeze_ref: FreezeRef, 155. compare: Eq and Neq, 160.
+// read_ref: ReadRef, 166. write_ref: WriteRef, 171. borrow_loc: MutBorrowLoc and ImmBorrowLoc, 178 and 182. borrow_field: MutBorrowField and
+// ImmBorrowField, 186 and 199. borrow_global: MutBorrowGlobal and ImmBorrowGlobal, 213 and 224. move_from: MoveFrom, 235. call: call, 67.
+// ret: Ret, 257. values: the instructions on values alone, 267 to 348 and 382. move_to: MoveTo, 279. vector_op: VecLen, 349, VecPushBack, 368,
+// VecPopBack, 374, and VecSwap, 391. borrow_element: VecImmBorrow and VecMutBorrow, 355 and 361.
 use crate::machine::Machine;
 use crate::machine::push_new;
 use crate::machine::push_results;
 use crate::machine::pushed;
-use crate::machine::stop;
-use abstract_state::state::AbstractState;
-use abstract_state::state::Operands;
+use abstract_state::core::refuse;
+use abstract_state::state::LOCALS;
 use file_format::LocalIndex;
 use file_format::SignatureToken;
+use meaning::MAX_EDGES;
+use meaning::MAX_NAMES;
+use meaning::MAX_OPERANDS;
 use operand_stack::pop;
 use operand_stack::pop_many;
 use operand_stack::pop_ref;
 use operand_stack::pop_under;
 use operand_stack::pop_values;
-ghost use mathlib.Core.Path.{_≡_};
-ghost use mathlib.Core.List.{map};
+ghost use mathlib.Core.List.{List, map};
+ghost use Prim.Native.Nat.{ℕ};
 ghost use lib.ListN.{take};
-ghost use Rattle.meaning.specs.Answers.{then};
 ghost use Rattle.meaning.specs.Listing.{tokenAs};
 ghost use Rattle.meaning.specs.Steps.{Instr, stepOn};
 ghost use Rattle.file_format.specs.Models.{tokenOf};
-ghost use Rattle.abstract_state.specs.Models.{outcomeOf};
-ghost use Rattle.operand_stack.specs.Models.{stackOf};
-ghost use Rattle.reference_safety.specs.Models.{machineOf};
+ghost use Rattle.abstract_state.specs.Models.{words};
+ghost use Rattle.operand_stack.specs.Models.{stackIn};
+ghost use Rattle.reference_safety.specs.Models.{board, Runs};
 
-pub(crate) fn pop_top(state: AbstractState, stack: Operands) -> Machine
-    ensures { λ r. ⌜ machineOf r ≡ then (outcomeOf state) (stepOn 0 Instr.Pop (stackOf stack)) ⌝ }
+pub(crate) fn pop_top(
+    names: &mut [u32; MAX_NAMES],
+    edges: &mut [[u32; 10]; MAX_EDGES],
+    stack: &[u32; MAX_OPERANDS],
+    m: Machine,
+) -> Machine
+    ensures { λ r. ⌜ ((ls : List ℕ) → Runs (stepOn 0 Instr.Pop (stackIn (now (stack .entry)) (m .depth))) (words ls (now (names .entry)) (now (edges .entry)) (m .state)) (now (stack .entry)) (board ls (now (names .exit)) (now (edges .exit)) (now (stack .entry)) r)) ⌝ }
 {
-    let p = pop(stack);
-    let rest = p.stack;
-    if p.refusal != 0 {
-        return stop(state, rest, p.refusal);
-    }
+    let state = m.state;
+    let p = pop(stack, m.depth);
+    let s = refuse(state, p.refusal);
     let v = p.value;
-    let s = abstract_state_steps::release_value(state, v);
+    let t = abstract_state_steps::release_value(names, edges, s, v);
     Machine {
-        state: s,
-        stack: rest,
+        state: t,
+        depth: p.depth,
     }
 }
 
-pub(crate) fn st_loc(state: AbstractState, stack: Operands, local: LocalIndex) -> Machine
-    ensures { λ r. ⌜ machineOf r ≡ then (outcomeOf state) (stepOn 0 (Instr.StLoc (local .0)) (stackOf stack)) ⌝ }
+pub(crate) fn copy_loc(
+    locals: &[u32; LOCALS],
+    names: &mut [u32; MAX_NAMES],
+    edges: &mut [[u32; 10]; MAX_EDGES],
+    stack: &mut [u32; MAX_OPERANDS],
+    m: Machine,
+    local: LocalIndex,
+) -> Machine
+    ensures { λ r. ⌜ (Runs (stepOn 0 (Instr.CopyLoc (local .0)) (stackIn (now (stack .entry)) (m .depth))) (words (now (locals .entry)) (now (names .entry)) (now (edges .entry)) (m .state)) (now (stack .entry)) (board (now (locals .entry)) (now (names .exit)) (now (edges .exit)) (now (stack .exit)) r)) ⌝ }
 {
-    let p = pop(stack);
-    let rest = p.stack;
-    if p.refusal != 0 {
-        return stop(state, rest, p.refusal);
-    }
+    let state = m.state;
+    let t = abstract_state_steps::copy_loc(locals, names, edges, state, local);
+    pushed(
+        stack,
+        Machine {
+            state: t,
+            depth: m.depth,
+        },
+    )
+}
+
+pub(crate) fn move_loc(
+    locals: &mut [u32; LOCALS],
+    names: &[u32; MAX_NAMES],
+    edges: &[[u32; 10]; MAX_EDGES],
+    stack: &mut [u32; MAX_OPERANDS],
+    m: Machine,
+    local: LocalIndex,
+) -> Machine
+    ensures { λ r. ⌜ (Runs (stepOn 0 (Instr.MoveLoc (local .0)) (stackIn (now (stack .entry)) (m .depth))) (words (now (locals .entry)) (now (names .entry)) (now (edges .entry)) (m .state)) (now (stack .entry)) (board (now (locals .exit)) (now (names .entry)) (now (edges .entry)) (now (stack .exit)) r)) ⌝ }
+{
+    let state = m.state;
+    let t = abstract_state_steps::move_loc(locals, names, edges, state, local);
+    pushed(
+        stack,
+        Machine {
+            state: t,
+            depth: m.depth,
+        },
+    )
+}
+
+pub(crate) fn st_loc(
+    locals: &mut [u32; LOCALS],
+    names: &mut [u32; MAX_NAMES],
+    edges: &mut [[u32; 10]; MAX_EDGES],
+    stack: &[u32; MAX_OPERANDS],
+    m: Machine,
+    local: LocalIndex,
+) -> Machine
+    ensures { λ r. ⌜ (Runs (stepOn 0 (Instr.StLoc (local .0)) (stackIn (now (stack .entry)) (m .depth))) (words (now (locals .entry)) (now (names .entry)) (now (edges .entry)) (m .state)) (now (stack .entry)) (board (now (locals .exit)) (now (names .exit)) (now (edges .exit)) (now (stack .entry)) r)) ⌝ }
+{
+    let state = m.state;
+    let p = pop(stack, m.depth);
+    let s = refuse(state, p.refusal);
     let v = p.value;
-    let s = abstract_state_steps::st_loc(state, local, v);
+    let t = abstract_state_steps::st_loc(locals, names, edges, s, local, v);
     Machine {
-        state: s,
-        stack: rest,
+        state: t,
+        depth: p.depth,
     }
 }
 
-pub(crate) fn freeze_ref(state: AbstractState, stack: Operands) -> Machine
-    ensures { λ r. ⌜ machineOf r ≡ then (outcomeOf state) (stepOn 0 Instr.FreezeRef (stackOf stack)) ⌝ }
+pub(crate) fn freeze_ref(
+    names: &mut [u32; MAX_NAMES],
+    edges: &mut [[u32; 10]; MAX_EDGES],
+    stack: &mut [u32; MAX_OPERANDS],
+    m: Machine,
+) -> Machine
+    ensures { λ r. ⌜ ((ls : List ℕ) → Runs (stepOn 0 Instr.FreezeRef (stackIn (now (stack .entry)) (m .depth))) (words ls (now (names .entry)) (now (edges .entry)) (m .state)) (now (stack .entry)) (board ls (now (names .exit)) (now (edges .exit)) (now (stack .exit)) r)) ⌝ }
 {
-    let p = pop_ref(stack);
-    let rest = p.stack;
-    if p.refusal != 0 {
-        return stop(state, rest, p.refusal);
-    }
+    let state = m.state;
+    let p = pop_ref(stack, m.depth);
+    let s = refuse(state, p.refusal);
     let id = p.id;
-    let s = abstract_state_steps::freeze_ref(state, id);
-    pushed(s, rest)
+    let t = abstract_state_steps::freeze_ref(names, edges, s, id);
+    pushed(
+        stack,
+        Machine {
+            state: t,
+            depth: p.depth,
+        },
+    )
 }
 
-pub(crate) fn compare(state: AbstractState, stack: Operands) -> Machine
-    ensures { λ r. ⌜ machineOf r ≡ then (outcomeOf state) (stepOn 0 Instr.Compare (stackOf stack)) ⌝ }
+pub(crate) fn compare(
+    names: &mut [u32; MAX_NAMES],
+    edges: &mut [[u32; 10]; MAX_EDGES],
+    stack: &mut [u32; MAX_OPERANDS],
+    m: Machine,
+) -> Machine
+    ensures { λ r. ⌜ ((ls : List ℕ) → Runs (stepOn 0 Instr.Compare (stackIn (now (stack .entry)) (m .depth))) (words ls (now (names .entry)) (now (edges .entry)) (m .state)) (now (stack .entry)) (board ls (now (names .exit)) (now (edges .exit)) (now (stack .exit)) r)) ⌝ }
 {
-    let p = pop(stack);
-    let rest = p.stack;
-    if p.refusal != 0 {
-        return stop(state, rest, p.refusal);
-    }
-    let q = pop(rest);
-    let left = q.stack;
-    if q.refusal != 0 {
-        return stop(state, left, q.refusal);
-    }
-    let v = p.value;
-    let w = q.value;
-    let s = abstract_state_steps::comparison(state, v, w);
-    pushed(s, left)
+    let state = m.state;
+    let p = pop(stack, m.depth);
+    let s1 = refuse(state, p.refusal);
+    let q = pop(stack, p.depth);
+    let s2 = refuse(s1, q.refusal);
+    let v1 = p.value;
+    let v2 = q.value;
+    let t = abstract_state_steps::comparison(names, edges, s2, v1, v2);
+    pushed(
+        stack,
+        Machine {
+            state: t,
+            depth: q.depth,
+        },
+    )
 }
 
-pub(crate) fn read_ref(state: AbstractState, stack: Operands) -> Machine
-    ensures { λ r. ⌜ machineOf r ≡ then (outcomeOf state) (stepOn 0 Instr.ReadRef (stackOf stack)) ⌝ }
+pub(crate) fn read_ref(
+    names: &mut [u32; MAX_NAMES],
+    edges: &mut [[u32; 10]; MAX_EDGES],
+    stack: &mut [u32; MAX_OPERANDS],
+    m: Machine,
+) -> Machine
+    ensures { λ r. ⌜ ((ls : List ℕ) → Runs (stepOn 0 Instr.ReadRef (stackIn (now (stack .entry)) (m .depth))) (words ls (now (names .entry)) (now (edges .entry)) (m .state)) (now (stack .entry)) (board ls (now (names .exit)) (now (edges .exit)) (now (stack .exit)) r)) ⌝ }
 {
-    let p = pop_ref(stack);
-    let rest = p.stack;
-    if p.refusal != 0 {
-        return stop(state, rest, p.refusal);
-    }
+    let state = m.state;
+    let p = pop_ref(stack, m.depth);
+    let s = refuse(state, p.refusal);
     let id = p.id;
-    let s = abstract_state_steps::read_ref(state, id);
-    pushed(s, rest)
+    let t = abstract_state_steps::read_ref(names, edges, s, id);
+    pushed(
+        stack,
+        Machine {
+            state: t,
+            depth: p.depth,
+        },
+    )
 }
 
-pub(crate) fn write_ref(state: AbstractState, stack: Operands) -> Machine
-    ensures { λ r. ⌜ machineOf r ≡ then (outcomeOf state) (stepOn 0 Instr.WriteRef (stackOf stack)) ⌝ }
+pub(crate) fn write_ref(
+    names: &mut [u32; MAX_NAMES],
+    edges: &mut [[u32; 10]; MAX_EDGES],
+    stack: &[u32; MAX_OPERANDS],
+    m: Machine,
+) -> Machine
+    ensures { λ r. ⌜ ((ls : List ℕ) → Runs (stepOn 0 Instr.WriteRef (stackIn (now (stack .entry)) (m .depth))) (words ls (now (names .entry)) (now (edges .entry)) (m .state)) (now (stack .entry)) (board ls (now (names .exit)) (now (edges .exit)) (now (stack .entry)) r)) ⌝ }
 {
-    let p = pop_ref(stack);
-    let rest = p.stack;
-    if p.refusal != 0 {
-        return stop(state, rest, p.refusal);
-    }
-    let q = pop_values(rest, 1);
-    let left = q.stack;
-    if q.refusal != 0 {
-        return stop(state, left, q.refusal);
-    }
+    let state = m.state;
+    let p = pop_ref(stack, m.depth);
+    let s1 = refuse(state, p.refusal);
+    let q = pop_values(stack, p.depth, 1);
+    let s2 = refuse(s1, q.refusal);
     let id = p.id;
-    let s = abstract_state_steps::write_ref(state, id);
+    let t = abstract_state_steps::write_ref(names, edges, s2, id);
     Machine {
-        state: s,
-        stack: left,
+        state: t,
+        depth: q.depth,
     }
+}
+
+pub(crate) fn borrow_loc(
+    names: &mut [u32; MAX_NAMES],
+    edges: &mut [[u32; 10]; MAX_EDGES],
+    stack: &mut [u32; MAX_OPERANDS],
+    m: Machine,
+    local: LocalIndex,
+    mutable: bool,
+) -> Machine
+    ensures { λ r. ⌜ ((ls : List ℕ) → Runs (stepOn 0 (Instr.BorrowLoc (local .0) mutable) (stackIn (now (stack .entry)) (m .depth))) (words ls (now (names .entry)) (now (edges .entry)) (m .state)) (now (stack .entry)) (board ls (now (names .exit)) (now (edges .exit)) (now (stack .exit)) r)) ⌝ }
+{
+    let state = m.state;
+    let t = abstract_state_steps::borrow_loc(names, edges, state, mutable, local);
+    pushed(
+        stack,
+        Machine {
+            state: t,
+            depth: m.depth,
+        },
+    )
 }
 
 pub(crate) fn borrow_field(
-    state: AbstractState,
-    stack: Operands,
+    names: &mut [u32; MAX_NAMES],
+    edges: &mut [[u32; 10]; MAX_EDGES],
+    stack: &mut [u32; MAX_OPERANDS],
+    m: Machine,
     field: u16,
     mutable: bool,
 ) -> Machine
-    ensures { λ r. ⌜ machineOf r ≡ then (outcomeOf state) (stepOn 0 (Instr.BorrowField field mutable) (stackOf stack)) ⌝ }
+    ensures { λ r. ⌜ ((ls : List ℕ) → Runs (stepOn 0 (Instr.BorrowField field mutable) (stackIn (now (stack .entry)) (m .depth))) (words ls (now (names .entry)) (now (edges .entry)) (m .state)) (now (stack .entry)) (board ls (now (names .exit)) (now (edges .exit)) (now (stack .exit)) r)) ⌝ }
 {
-    let p = pop_ref(stack);
-    let rest = p.stack;
-    if p.refusal != 0 {
-        return stop(state, rest, p.refusal);
-    }
+    let state = m.state;
+    let p = pop_ref(stack, m.depth);
+    let s = refuse(state, p.refusal);
     let id = p.id;
-    let s = abstract_state_steps::borrow_field(state, mutable, id, field);
-    pushed(s, rest)
+    let t = abstract_state_steps::borrow_field(names, edges, s, mutable, id, field);
+    pushed(
+        stack,
+        Machine {
+            state: t,
+            depth: p.depth,
+        },
+    )
 }
 
 pub(crate) fn borrow_global(
-    state: AbstractState,
-    stack: Operands,
+    names: &mut [u32; MAX_NAMES],
+    edges: &mut [[u32; 10]; MAX_EDGES],
+    stack: &mut [u32; MAX_OPERANDS],
+    m: Machine,
     resource: u16,
     mutable: bool,
 ) -> Machine
-    ensures { λ r. ⌜ machineOf r ≡ then (outcomeOf state) (stepOn 0 (Instr.BorrowGlobal resource mutable) (stackOf stack)) ⌝ }
+    ensures { λ r. ⌜ ((ls : List ℕ) → Runs (stepOn 0 (Instr.BorrowGlobal resource mutable) (stackIn (now (stack .entry)) (m .depth))) (words ls (now (names .entry)) (now (edges .entry)) (m .state)) (now (stack .entry)) (board ls (now (names .exit)) (now (edges .exit)) (now (stack .exit)) r)) ⌝ }
 {
-    let p = pop_values(stack, 1);
-    let rest = p.stack;
-    if p.refusal != 0 {
-        return stop(state, rest, p.refusal);
-    }
-    let s = abstract_state_steps::borrow_global(state, mutable, resource);
-    pushed(s, rest)
+    let state = m.state;
+    let p = pop_values(stack, m.depth, 1);
+    let s = refuse(state, p.refusal);
+    let t = abstract_state_steps::borrow_global(names, edges, s, mutable, resource);
+    pushed(
+        stack,
+        Machine {
+            state: t,
+            depth: p.depth,
+        },
+    )
 }
 
-pub(crate) fn move_from(state: AbstractState, stack: Operands, resource: u16) -> Machine
-    ensures { λ r. ⌜ machineOf r ≡ then (outcomeOf state) (stepOn 0 (Instr.MoveFrom resource) (stackOf stack)) ⌝ }
+pub(crate) fn move_from(
+    names: &[u32; MAX_NAMES],
+    edges: &[[u32; 10]; MAX_EDGES],
+    stack: &mut [u32; MAX_OPERANDS],
+    m: Machine,
+    resource: u16,
+) -> Machine
+    ensures { λ r. ⌜ ((ls : List ℕ) → Runs (stepOn 0 (Instr.MoveFrom resource) (stackIn (now (stack .entry)) (m .depth))) (words ls (now (names .entry)) (now (edges .entry)) (m .state)) (now (stack .entry)) (board ls (now (names .entry)) (now (edges .entry)) (now (stack .exit)) r)) ⌝ }
 {
-    let p = pop_values(stack, 1);
-    let rest = p.stack;
-    if p.refusal != 0 {
-        return stop(state, rest, p.refusal);
-    }
-    let s = abstract_state_steps::move_from(state, resource);
-    pushed(s, rest)
+    let state = m.state;
+    let p = pop_values(stack, m.depth, 1);
+    let s = refuse(state, p.refusal);
+    let t = abstract_state_steps::move_from(names, edges, s, resource);
+    pushed(
+        stack,
+        Machine {
+            state: t,
+            depth: p.depth,
+        },
+    )
 }
 
 pub(crate) fn call(
-    state: AbstractState,
-    stack: Operands,
+    names: &mut [u32; MAX_NAMES],
+    edges: &mut [[u32; 10]; MAX_EDGES],
+    stack: &mut [u32; MAX_OPERANDS],
+    m: Machine,
     parameters: u8,
     acquired: [u16; 16],
     acquired_count: usize,
     tokens: [u8; 16],
     token_count: usize,
 ) -> Machine
-    ensures { λ r. ⌜ machineOf r ≡ then (outcomeOf state) (stepOn 0 (Instr.Call parameters (take «acquired_count» acquired) (map tokenAs (take «token_count» tokens))) (stackOf stack)) ⌝ }
+    ensures { λ r. ⌜ ((ls : List ℕ) → Runs (stepOn 0 (Instr.Call parameters (take «acquired_count» acquired) (map tokenAs (take «token_count» tokens))) (stackIn (now (stack .entry)) (m .depth))) (words ls (now (names .entry)) (now (edges .entry)) (m .state)) (now (stack .entry)) (board ls (now (names .exit)) (now (edges .exit)) (now (stack .exit)) r)) ⌝ }
 {
-    let p = pop_many(stack, parameters);
-    let rest = p.stack;
-    if p.refusal != 0 {
-        return stop(state, rest, p.refusal);
-    }
+    let state = m.state;
+    let p = pop_many(stack, m.depth, parameters);
+    let s = refuse(state, p.refusal);
     let arguments = p.values;
     let a = abstract_state_calls::call(
-        state,
+        names,
+        edges,
+        s,
         arguments,
         acquired,
         acquired_count,
         tokens,
         token_count,
     );
-    let s = a.state;
+    let t = a.state;
     let values = a.values;
-    push_results(s, rest, values)
+    push_results(
+        stack,
+        Machine {
+            state: t,
+            depth: p.depth,
+        },
+        values,
+    )
 }
 
-pub(crate) fn ret(state: AbstractState, stack: Operands, returns: u8) -> Machine
-    ensures { λ r. ⌜ machineOf r ≡ then (outcomeOf state) (stepOn returns Instr.Ret (stackOf stack)) ⌝ }
+pub(crate) fn ret(
+    locals: &[u32; LOCALS],
+    names: &mut [u32; MAX_NAMES],
+    edges: &mut [[u32; 10]; MAX_EDGES],
+    stack: &[u32; MAX_OPERANDS],
+    m: Machine,
+    returns: u8,
+) -> Machine
+    ensures { λ r. ⌜ (Runs (stepOn returns Instr.Ret (stackIn (now (stack .entry)) (m .depth))) (words (now (locals .entry)) (now (names .entry)) (now (edges .entry)) (m .state)) (now (stack .entry)) (board (now (locals .entry)) (now (names .exit)) (now (edges .exit)) (now (stack .entry)) r)) ⌝ }
 {
-    let p = pop_many(stack, returns);
-    let rest = p.stack;
-    if p.refusal != 0 {
-        return stop(state, rest, p.refusal);
-    }
+    let state = m.state;
+    let p = pop_many(stack, m.depth, returns);
+    let s = refuse(state, p.refusal);
     let values = p.values;
-    let s = abstract_state_calls::ret(state, values);
+    let t = abstract_state_calls::ret(locals, names, edges, s, values);
     Machine {
-        state: s,
-        stack: rest,
+        state: t,
+        depth: p.depth,
     }
 }
 
 pub(crate) fn values(
-    state: AbstractState,
-    stack: Operands,
+    names: &mut [u32; MAX_NAMES],
+    stack: &mut [u32; MAX_OPERANDS],
+    m: Machine,
     takes: u16,
     pushes: u16,
     token: SignatureToken,
 ) -> Machine
-    ensures { λ r. ⌜ machineOf r ≡ then (outcomeOf state) (stepOn 0 (Instr.Values takes pushes (tokenOf token)) (stackOf stack)) ⌝ }
+    ensures { λ r. ⌜ ((ls : List ℕ) (es : List (List ℕ)) → Runs (stepOn 0 (Instr.Values takes pushes (tokenOf token)) (stackIn (now (stack .entry)) (m .depth))) (words ls (now (names .entry)) es (m .state)) (now (stack .entry)) (board ls (now (names .exit)) es (now (stack .exit)) r)) ⌝ }
 {
-    let p = pop_values(stack, takes);
-    let rest = p.stack;
-    if p.refusal != 0 {
-        return stop(state, rest, p.refusal);
-    }
-    push_new(state, rest, pushes, token)
+    let state = m.state;
+    let p = pop_values(stack, m.depth, takes);
+    let s = refuse(state, p.refusal);
+    push_new(
+        names,
+        stack,
+        Machine {
+            state: s,
+            depth: p.depth,
+        },
+        pushes,
+        token,
+    )
 }
 
-pub(crate) fn move_to(state: AbstractState, stack: Operands) -> Machine
-    ensures { λ r. ⌜ machineOf r ≡ then (outcomeOf state) (stepOn 0 Instr.MoveTo (stackOf stack)) ⌝ }
+pub(crate) fn move_to(
+    names: &mut [u32; MAX_NAMES],
+    edges: &mut [[u32; 10]; MAX_EDGES],
+    stack: &[u32; MAX_OPERANDS],
+    m: Machine,
+) -> Machine
+    ensures { λ r. ⌜ ((ls : List ℕ) → Runs (stepOn 0 Instr.MoveTo (stackIn (now (stack .entry)) (m .depth))) (words ls (now (names .entry)) (now (edges .entry)) (m .state)) (now (stack .entry)) (board ls (now (names .exit)) (now (edges .exit)) (now (stack .entry)) r)) ⌝ }
 {
-    let p = pop_under(stack, 1);
-    let rest = p.stack;
-    if p.refusal != 0 {
-        return stop(state, rest, p.refusal);
-    }
+    let state = m.state;
+    let p = pop_under(stack, m.depth, 1);
+    let s = refuse(state, p.refusal);
     let v = p.value;
-    let s = abstract_state_steps::release_value(state, v);
+    let t = abstract_state_steps::release_value(names, edges, s, v);
     Machine {
-        state: s,
-        stack: rest,
+        state: t,
+        depth: p.depth,
     }
 }
 
 pub(crate) fn vector_op(
-    state: AbstractState,
-    stack: Operands,
+    names: &mut [u32; MAX_NAMES],
+    edges: &mut [[u32; 10]; MAX_EDGES],
+    stack: &mut [u32; MAX_OPERANDS],
+    m: Machine,
     takes: u8,
     mutable: bool,
     pushes: u8,
     token: SignatureToken,
 ) -> Machine
-    ensures { λ r. ⌜ machineOf r ≡ then (outcomeOf state) (stepOn 0 (Instr.VectorOp takes mutable pushes (tokenOf token)) (stackOf stack)) ⌝ }
+    ensures { λ r. ⌜ ((ls : List ℕ) → Runs (stepOn 0 (Instr.VectorOp takes mutable pushes (tokenOf token)) (stackIn (now (stack .entry)) (m .depth))) (words ls (now (names .entry)) (now (edges .entry)) (m .state)) (now (stack .entry)) (board ls (now (names .exit)) (now (edges .exit)) (now (stack .exit)) r)) ⌝ }
 {
-    let p = pop_under(stack, takes as u16);
-    let rest = p.stack;
-    if p.refusal != 0 {
-        return stop(state, rest, p.refusal);
-    }
+    let state = m.state;
+    let p = pop_under(stack, m.depth, takes as u16);
+    let s = refuse(state, p.refusal);
     let v = p.value;
-    let s = abstract_state_steps::vector_op(state, v, mutable);
-    push_new(s, rest, pushes as u16, token)
+    let t = abstract_state_steps::vector_op(names, edges, s, v, mutable);
+    push_new(
+        names,
+        stack,
+        Machine {
+            state: t,
+            depth: p.depth,
+        },
+        pushes as u16,
+        token,
+    )
 }
 
-pub(crate) fn borrow_element(state: AbstractState, stack: Operands, mutable: bool) -> Machine
-    ensures { λ r. ⌜ machineOf r ≡ then (outcomeOf state) (stepOn 0 (Instr.BorrowElement mutable) (stackOf stack)) ⌝ }
+pub(crate) fn borrow_element(
+    names: &mut [u32; MAX_NAMES],
+    edges: &mut [[u32; 10]; MAX_EDGES],
+    stack: &mut [u32; MAX_OPERANDS],
+    m: Machine,
+    mutable: bool,
+) -> Machine
+    ensures { λ r. ⌜ ((ls : List ℕ) → Runs (stepOn 0 (Instr.BorrowElement mutable) (stackIn (now (stack .entry)) (m .depth))) (words ls (now (names .entry)) (now (edges .entry)) (m .state)) (now (stack .entry)) (board ls (now (names .exit)) (now (edges .exit)) (now (stack .exit)) r)) ⌝ }
 {
-    let p = pop_under(stack, 1);
-    let rest = p.stack;
-    if p.refusal != 0 {
-        return stop(state, rest, p.refusal);
-    }
+    let state = m.state;
+    let p = pop_under(stack, m.depth, 1);
+    let s = refuse(state, p.refusal);
     let v = p.value;
-    let s = abstract_state_steps::vector_element_borrow(state, v, mutable);
-    pushed(s, rest)
+    let t = abstract_state_steps::vector_element_borrow(names, edges, s, v, mutable);
+    pushed(
+        stack,
+        Machine {
+            state: t,
+            depth: p.depth,
+        },
+    )
 }

@@ -1,55 +1,233 @@
--- Sets of edges read and written one edge at a time.
-use mathlib.Core.Path.{_≡_, refl, sym, ap, _∙_}
-use mathlib.Core.Bool.{Bool, true, false, _||_}
-use mathlib.Core.List.{List, [], _∷_, map}
-use Prim.Native.Nat.{ℕ, _+_, _≤_, _<_, min}
+-- The models read and written one element at a time.
+use mathlib.Core.Path.{_≡_, refl, sym, ap, _∙_, subst}
+use mathlib.Core.Bool.{Bool, true, false, cond, _||_}
+use mathlib.Core.List.{List, [], _∷_, _++_, map, append-nil}
+use Prim.Native.Nat.{ℕ, suc, _+_, _≤_, _<_, min}
+use native.Mathlib.Nat.{not-suc-le-zero}
 use native.Mathlib.Omega.{arith}
-use lib.ListN.{length, take, drop, getD, length-map, length-take, drop-of-length-le}
-use Rattle.meaning.specs.Lists.{any}
-use Rattle.meaning.specs.Answers.{Ans, ok}
-use Rattle.meaning.specs.References.{Edge, EdgeSet}
-use Rattle.meaning.specs.Laws.Array.{front-map-step, front-take}
-use Rattle.references.specs.Models.{edgeOf, edgesOf, setOf}
-use Rattle.references.specs.declared.BorrowEdge.{BorrowEdge}
-use Rattle.references.specs.declared.BorrowEdgeSet.{BorrowEdgeSet}
+use borrow.Author.Tests.{eq-eqb, ne-eqb}
+use lib.Dec.{eqb}
+use lib.ListN.{length, take, drop, getD, set, replicate, drop-of-length-le, length-map, length-take}
+use Rattle.meaning.specs.Lists.{any, upTo}
+use Rattle.meaning.specs.Answers.{Ans, ok, refuse, andThen, leaves}
+use Rattle.meaning.specs.References.{Edge, blur}
+use Rattle.meaning.specs.BorrowGraph.{Name, GEdge}
+use Rattle.meaning.specs.Area.{nameIn}
+use Rattle.meaning.specs.Refinement.Pairs.{or21}
+use Rattle.meaning.specs.Laws.Array.{front-map-step, front-take, front-all, push-map, shift-on, fill-in, drop-set}
+use Rattle.references.specs.Models.{rowOf, edgesIn, namesIn, setEdges, setIn, told}
 
--- what lies past the end of an array of edges
-abbrev pub no-edge : BorrowEdge
-no-edge = record { strong = false; path = record { labels = []; kinds = 0; len = 0 } }
+-- ---- names: the first n words of an array
 
-pub set-count : (s : BorrowEdgeSet) → length (s .edges) ≡ 10 → length (edgesOf s) ≡ min (s .len) 10
-unfolding edgesOf
-set-count s e = simp (length-map, length-take) (omega arith)
+module _ (ws : List ℕ) (n : ℕ) where
+  pub names-step : (i : ℕ) → i < length (namesIn ws n) → drop i (namesIn ws n) ≡ nameIn (getD ws i 0) ∷ drop (i + 1) (namesIn ws n)
+  unfolding namesIn
+  names-step i h = front-map-step nameIn n ws 0 i h
 
-pub set-step : (s : BorrowEdgeSet) (i : ℕ) → i < length (edgesOf s) → drop i (edgesOf s) ≡ edgeOf (getD (s .edges) i no-edge) ∷ drop (i + 1) (edgesOf s)
-unfolding edgesOf
-set-step s i h = front-map-step edgeOf (s .len) (s .edges) no-edge i h
+  pub names-end : (i : ℕ) → length (namesIn ws n) ≤ i → drop i (namesIn ws n) ≡ []
+  names-end i h = drop-of-length-le (namesIn ws n) h
 
-pub set-end : (s : BorrowEdgeSet) (i : ℕ) → length (edgesOf s) ≤ i → drop i (edgesOf s) ≡ []
-set-end s i h = drop-of-length-le (edgesOf s) h
+  pub names-front : (k : ℕ) → k ≤ length (namesIn ws n) → namesIn ws k ≡ take k (namesIn ws n)
+  unfolding namesIn
+  names-front k h = front-take nameIn n k ws h
 
-pub set-front : (s : BorrowEdgeSet) (k : ℕ) → k ≤ length (edgesOf s) → map edgeOf (take k (s .edges)) ≡ take k (edgesOf s)
-unfolding edgesOf
-set-front s k h = front-take edgeOf (s .len) k (s .edges) h
+  pub names-few : length ws ≡ 48 → length (namesIn ws n) ≤ 48
+  unfolding namesIn
+  names-few e = simp (length-map, length-take) (omega arith)
 
-pub set-made : (l : List BorrowEdge) (n : ℕ) (b : Bool) → edgesOf (record { edges = l; len = n; overflown = b }) ≡ map edgeOf (take n l)
-unfolding edgesOf
-set-made l n b = refl
+  pub names-count : n ≤ length ws → length (namesIn ws n) ≡ n
+  unfolding namesIn
+  names-count h = simp (length-map, length-take) (omega arith)
 
-pub plain-set : (s : BorrowEdgeSet) (xs : List Edge) → edgesOf s ≡ xs → s .overflown ≡ false → _≡_ {A = Ans EdgeSet} (ok (record { edges = xs; blurred = false })) (ok (setOf s))
-plain-set s xs p q = λ i. ok (record { edges = sym p i; blurred = sym q i })
+  pub names-size : length (namesIn ws n) ≡ min n (length ws)
+  unfolding namesIn
+  names-size = simp (length-map, length-take)
 
--- A search for an edge that passes a test: the edges from i on decide as the whole set does. The test of the edge at i gave b.
-module _ (f : Edge → Bool) (s : BorrowEdgeSet) (i : ℕ) (inv : any f (drop i (edgesOf s)) ≡ any f (edgesOf s)) where
-  module _ (h : i < length (edgesOf s)) (b : Bool) (e : b ≡ f (edgeOf (getD (s .edges) i no-edge))) where
-    turn : (b || any f (drop (i + 1) (edgesOf s))) ≡ any f (edgesOf s)
-    turn = ap (λ (t : Bool). t || any f (drop (i + 1) (edgesOf s))) e ∙ sym (ap (any f) (set-step s i h)) ∙ inv
+  pub names-made : namesIn ws n ≡ map nameIn (take n ws)
+  unfolding namesIn
+  names-made = refl
 
-    pub search-hit : b ≡ true → true ≡ any f (edgesOf s)
-    search-hit t = sym (ap (λ (t : Bool). t || any f (drop (i + 1) (edgesOf s))) t) ∙ turn
+  -- a step by the count
+  pub names-next : (i : ℕ) → i < n → n ≤ length ws → drop i (namesIn ws n) ≡ nameIn (getD ws i 0) ∷ drop (i + 1) (namesIn ws n)
+  names-next i h k = names-step i (omega (arith, names-count k))
 
-    pub search-on : b ≡ false → any f (drop (i + 1) (edgesOf s)) ≡ any f (edgesOf s)
-    search-on t = sym (ap (λ (t : Bool). t || any f (drop (i + 1) (edgesOf s))) t) ∙ turn
+  pub names-over : (i : ℕ) → n ≤ i → n ≤ length ws → drop i (namesIn ws n) ≡ []
+  names-over i h k = names-end i (omega (arith, names-count k))
 
-  pub search-over : length (edgesOf s) ≤ i → false ≡ any f (edgesOf s)
-  search-over h = sym (ap (any f) (set-end s i h)) ∙ inv
+-- a word is written behind the first j names; at a free place; before the k-th name
+module _ (ws : List ℕ) (w : ℕ) where
+  pub names-push : (j j′ : ℕ) (ys : List Name) → j′ ≡ j + 1 → j < length ws → namesIn (set ws j w) j′ ++ ys ≡ namesIn ws j ++ nameIn w ∷ ys
+  unfolding namesIn
+  names-push j j′ ys e h = push-map nameIn ws j j′ w ys e h
+
+  pub names-fill : (k m : ℕ) → k < length ws → k < m
+      → namesIn (set ws k w) m ≡ take k (map nameIn (take k ws ++ drop (suc k) (take m ws))) ++ (nameIn w ∷ drop k (map nameIn (take k ws ++ drop (suc k) (take m ws))))
+  unfolding namesIn
+  names-fill k m h l = fill-in nameIn ws k m w h l
+
+  pub names-past : (j k n : ℕ) → j < k → drop k (namesIn (set ws j w) n) ≡ drop k (namesIn ws n)
+  unfolding namesIn
+  names-past j k n h = drop-set nameIn ws j k n w h
+
+-- ---- edges: the first m rows of an array
+
+module _ (rows : List (List ℕ)) (m : ℕ) where
+  pub edges-step : (d : List ℕ) (i : ℕ) → i < length (edgesIn rows m) → drop i (edgesIn rows m) ≡ rowOf (getD rows i d) ∷ drop (i + 1) (edgesIn rows m)
+  unfolding edgesIn
+  edges-step d i h = front-map-step rowOf m rows d i h
+
+  pub edges-end : (i : ℕ) → length (edgesIn rows m) ≤ i → drop i (edgesIn rows m) ≡ []
+  edges-end i h = drop-of-length-le (edgesIn rows m) h
+
+  pub edges-front : (k : ℕ) → k ≤ length (edgesIn rows m) → edgesIn rows k ≡ take k (edgesIn rows m)
+  unfolding edgesIn
+  edges-front k h = front-take rowOf m k rows h
+
+  pub edges-few : length rows ≡ 96 → length (edgesIn rows m) ≤ 96
+  unfolding edgesIn
+  edges-few e = simp (length-map, length-take) (omega arith)
+
+  pub edges-count : m ≤ length rows → length (edgesIn rows m) ≡ m
+  unfolding edgesIn
+  edges-count h = simp (length-map, length-take) (omega arith)
+
+  pub edges-size : length (edgesIn rows m) ≡ min m (length rows)
+  unfolding edgesIn
+  edges-size = simp (length-map, length-take)
+
+  pub edges-made : edgesIn rows m ≡ map rowOf (take m rows)
+  unfolding edgesIn
+  edges-made = refl
+
+  -- a step by the count
+  pub edges-next : (d : List ℕ) (i : ℕ) → i < m → m ≤ length rows → drop i (edgesIn rows m) ≡ rowOf (getD rows i d) ∷ drop (i + 1) (edgesIn rows m)
+  edges-next d i h k = edges-step d i (omega (arith, edges-count k))
+
+  pub edges-over : (i : ℕ) → m ≤ i → m ≤ length rows → drop i (edgesIn rows m) ≡ []
+  edges-over i h k = edges-end i (omega (arith, edges-count k))
+
+-- a row is written behind the first j edges; at a free place; before the k-th edge
+module _ (rows : List (List ℕ)) (r : List ℕ) where
+  pub edges-push : (j j′ : ℕ) (ys : List GEdge) → j′ ≡ j + 1 → j < length rows → edgesIn (set rows j r) j′ ++ ys ≡ edgesIn rows j ++ rowOf r ∷ ys
+  unfolding edgesIn
+  edges-push j j′ ys e h = push-map rowOf rows j j′ r ys e h
+
+  pub edges-fill : (k m : ℕ) → k < length rows → k < m
+      → edgesIn (set rows k r) m ≡ take k (map rowOf (take k rows ++ drop (suc k) (take m rows))) ++ (rowOf r ∷ drop k (map rowOf (take k rows ++ drop (suc k) (take m rows))))
+  unfolding edgesIn
+  edges-fill k m h l = fill-in rowOf rows k m r h l
+
+  pub edges-past : (j k m : ℕ) → j < k → drop k (edgesIn (set rows j r) m) ≡ drop k (edgesIn rows m)
+  unfolding edgesIn
+  edges-past j k m h = drop-set rowOf rows j k m r h
+
+-- ---- the edges of a set: the first n rows, without ends and marks
+
+abbrev pub edgeIn : List ℕ → Edge
+edgeIn r = rowOf r .edge
+
+module _ (rows : List (List ℕ)) (n : ℕ) where
+  pub set-step : (d : List ℕ) (i : ℕ) → i < length (setEdges rows n) → drop i (setEdges rows n) ≡ edgeIn (getD rows i d) ∷ drop (i + 1) (setEdges rows n)
+  unfolding setEdges
+  set-step d i h = front-map-step edgeIn n rows d i h
+
+  pub set-end : (i : ℕ) → length (setEdges rows n) ≤ i → drop i (setEdges rows n) ≡ []
+  set-end i h = drop-of-length-le (setEdges rows n) h
+
+  pub set-front : (k : ℕ) → k ≤ length (setEdges rows n) → setEdges rows k ≡ take k (setEdges rows n)
+  unfolding setEdges
+  set-front k h = front-take edgeIn n k rows h
+
+  pub set-few : length rows ≡ 10 → length (setEdges rows n) ≤ 10
+  unfolding setEdges
+  set-few e = simp (length-map, length-take) (omega arith)
+
+  pub set-count : length rows ≡ 10 → length (setEdges rows n) ≡ min n 10
+  unfolding setEdges
+  set-count e = simp (length-map, length-take) (omega arith)
+
+  pub set-made : setEdges rows n ≡ map edgeIn (take n rows)
+  unfolding setEdges
+  set-made = refl
+
+module _ (rows : List (List ℕ)) (r : List ℕ) where
+  pub set-push : (j j′ : ℕ) (ys : List Edge) → j′ ≡ j + 1 → j < length rows → setEdges (set rows j r) j′ ++ ys ≡ setEdges rows j ++ edgeIn r ∷ ys
+  unfolding setEdges
+  set-push j j′ ys e h = push-map edgeIn rows j j′ r ys e h
+
+  pub set-fill : (k m : ℕ) → k < length rows → k < m
+      → setEdges (set rows k r) m ≡ take k (map edgeIn (take k rows ++ drop (suc k) (take m rows))) ++ (edgeIn r ∷ drop k (map edgeIn (take k rows ++ drop (suc k) (take m rows))))
+  unfolding setEdges
+  set-fill k m h l = fill-in edgeIn rows k m r h l
+
+  pub set-past : (j k n : ℕ) → j < k → drop k (setEdges (set rows j r) n) ≡ drop k (setEdges rows n)
+  unfolding setEdges
+  set-past j k n h = drop-set edgeIn rows j k n r h
+
+-- the first n rows with a free place j, which moves down from n; a set of at most ten rows reads a greater count as ten
+pub room-start : (rows : List (List ℕ)) (n : ℕ) → n ≤ length rows → map edgeIn (take n rows ++ drop (suc n) (take (n + 1) rows)) ≡ setEdges rows n
+unfolding setEdges
+room-start rows n h =
+    let a : drop (suc n) (take (n + 1) rows) ≡ [] = drop-of-length-le (take (n + 1) rows) {i = suc n} (simp length-take (omega arith)) in
+    ap (λ (r : List (List ℕ)). map edgeIn (take n rows ++ r)) a ∙ ap (map edgeIn) (append-nil (take n rows))
+
+pub room-on : (rows : List (List ℕ)) (d : List ℕ) (k j m : ℕ) → j ≡ suc k → j < length rows → j < m
+    → map edgeIn (take k (set rows j (getD rows k d)) ++ drop (suc k) (take m (set rows j (getD rows k d)))) ≡ map edgeIn (take j rows ++ drop (suc j) (take m rows))
+room-on rows d k j m e h n =
+    ap (map edgeIn) (subst (λ (i : ℕ). take k (set rows i (getD rows k d)) ++ drop (suc k) (take m (set rows i (getD rows k d))) ≡ take i rows ++ drop (suc i) (take m rows)) (sym e)
+    (shift-on rows d k m (subst (λ (i : ℕ). i < length rows) e h) (subst (λ (i : ℕ). i < m) e n)))
+
+-- a row of zeros is the weakest edge: what too many edges become
+pub set-blurred : (rows : List (List ℕ)) → 0 < length rows → setIn (set rows 0 (replicate 10 0)) (record { len = 1; overflown = true }) ≡ blur
+unfolding setEdges upTo
+set-blurred [] h = absurd (not-suc-le-zero h)
+set-blurred (r ∷ rows) h = refl
+
+pub set-cut : (rows : List (List ℕ)) (n : ℕ) → length rows ≡ 10 → setEdges rows (min n 10) ≡ setEdges rows n
+unfolding setEdges
+set-cut rows n e =
+    let m : min n 10 ≡ length (take n rows) = simp length-take (omega arith) in
+    ap (λ (i : ℕ). map edgeIn (take i rows)) m ∙ ap (map edgeIn) (front-all n rows)
+
+-- A search for an edge of a set that passes a test: the edges from i on decide as the whole set does. The test of the edge at i gave b.
+module _ (f : Edge → Bool) (rows : List (List ℕ)) (n i : ℕ) (inv : any f (drop i (setEdges rows n)) ≡ any f (setEdges rows n)) where
+  module _ (h : i < length (setEdges rows n)) (d : List ℕ) (b : Bool) (e : b ≡ f (edgeIn (getD rows i d))) where
+    turn : (b || any f (drop (i + 1) (setEdges rows n))) ≡ any f (setEdges rows n)
+    turn = ap (λ (t : Bool). t || any f (drop (i + 1) (setEdges rows n))) e ∙ sym (ap (any f) (set-step rows n d i h)) ∙ inv
+
+    pub search-hit : b ≡ true → true ≡ any f (setEdges rows n)
+    search-hit t = sym (ap (λ (t : Bool). t || any f (drop (i + 1) (setEdges rows n))) t) ∙ turn
+
+    pub search-on : b ≡ false → any f (drop (i + 1) (setEdges rows n)) ≡ any f (setEdges rows n)
+    search-on t = sym (ap (λ (t : Bool). t || any f (drop (i + 1) (setEdges rows n))) t) ∙ turn
+
+  pub search-over : length (setEdges rows n) ≤ i → false ≡ any f (setEdges rows n)
+  search-over h = sym (ap (any f) (set-end rows n i h)) ∙ inv
+
+-- ---- an answer as a number and a value
+
+pub told-yes : {A : Type 0} (n : ℕ) (t : A) → n ≡ 0 → told n t ≡ ok t
+told-yes {A} n t z = ap (λ (b : Bool). cond b (ok t) (refuse n)) (eq-eqb n 0 z)
+
+pub told-no : {A : Type 0} (n : ℕ) (t : A) → (n ≡ 0 → ⊥) → told n t ≡ refuse n
+told-no {A} n t z = ap (λ (b : Bool). cond b (ok t) (refuse n)) (ne-eqb n 0 z)
+
+-- a turn of a loop: a step a that is answered goes on, one that is refused ends it
+module _ {A B : Type 0} (n : ℕ) (t : A) (a : Ans A) (f : A → Ans B) (r : Ans B) (e : told n t ≡ a) (h : andThen a f ≡ r) where
+  pub told-on : n ≡ 0 → f t ≡ r
+  told-on z = ap (λ (b : Ans A). andThen b f) (sym (told-yes n t z) ∙ e) ∙ h
+
+  pub told-off : (n ≡ 0 → ⊥) → (s : B) → told n s ≡ r
+  told-off z s = told-no n s z ∙ ap (λ (b : Ans A). andThen b f) (sym (told-no n t z) ∙ e) ∙ h
+
+-- a call refused with what a callee was refused with
+pub told-declined : {A : Type 0} (n : ℕ) (s : A) (a : Ans A) → (n ≡ 0 → ⊥) → a ≡ refuse n → (told n s ≡ a) × (s ≡ leaves s a)
+told-declined {A} n s a z e = (told-no n s z ∙ sym e, sym (ap (λ (b : Ans A). leaves s b) e))
+
+-- an answer that is not 21 needs no second pass
+pub told-first : {A : Type 0} (n : ℕ) (t : A) (a k : Ans A) → (n ≡ 21 → ⊥) → told n t ≡ a → told n t ≡ or21 a k
+told-first {A} n t a k z e = go (eqb n 0) ∙ ap (λ (b : Ans A). or21 b k) e
+  where
+    go : (b : Bool) → cond b (ok t) (refuse n) ≡ or21 (cond b (ok t) (refuse n)) k
+    go true = refl
+    go false = ap (λ (b : Bool). cond b k (refuse n)) (sym (ne-eqb n 21 z))

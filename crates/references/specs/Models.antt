@@ -1,28 +1,56 @@
--- What edges and sets of edges of the code stand for in the definitions. A count beyond an array's length reads as the length.
+-- What words and rows of the code stand for in the definitions. A count beyond an array's length reads as the length.
+use Prim.Native.Nat.{ℕ, _+_}
 use mathlib.Core.Bool.{cond}
-use mathlib.Core.List.{List, map}
+use mathlib.Core.Option.{Option, none, some}
+use mathlib.Core.List.{List, [], _∷_, map}
 use lib.Dec.{eqb}
-use lib.ListN.{take}
+use lib.ListN.{take, getD}
 use Rattle.meaning.specs.Answers.{Ans, ok, refuse}
+use Rattle.meaning.specs.Labels.{numberOf}
 use Rattle.meaning.specs.References.{Edge, EdgeSet}
-use Rattle.paths.specs.Models.{pathOf}
-use Rattle.references.specs.declared.BorrowEdge.{BorrowEdge}
-use Rattle.references.specs.declared.BorrowEdgeSet.{BorrowEdgeSet}
-use Rattle.references.specs.declared.Candidate.{Candidate}
-use Rattle.references.specs.declared.Inserted.{Inserted}
+use Rattle.meaning.specs.BorrowGraph.{Name, GEdge}
+use Rattle.meaning.specs.Area.{nameIn, labelIn, edgeOf}
+use Rattle.paths.specs.Models.{labelOf}
+use Rattle.references.specs.declared.rows.LabelFilter.{LabelFilter}
+use Rattle.references.specs.declared.rows.LabelFilter.the-variants.{Any, At}
+use Rattle.references.specs.declared.rows.Candidate.{Candidate}
+use Rattle.references.specs.declared.set.BorrowEdgeSet.{BorrowEdgeSet}
+use Rattle.references.specs.declared.set.Inserted.{Inserted}
 
-abbrev pub edgeOf : BorrowEdge → Edge
-edgeOf e = record { strong = e .strong; path = pathOf (e .path) }
+-- the edge of a row, with its ends
+abbrev pub rowOf : List ℕ → GEdge
+rowOf r = edgeOf (getD r 0 0) (getD r 1 0) (λ i. labelIn (getD r (2 + i) 0))
 
-unfoldable pub edgesOf : BorrowEdgeSet → List Edge
-edgesOf s = map edgeOf (take (s .len) (s .edges))
+-- the first m rows
+unfoldable pub edgesIn : List (List ℕ) → ℕ → List GEdge
+edgesIn rows m = map rowOf (take m rows)
 
-abbrev pub setOf : BorrowEdgeSet → EdgeSet
-setOf s = record { edges = edgesOf s; blurred = s .overflown }
+-- the first n names
+unfoldable pub namesIn : List ℕ → ℕ → List Name
+namesIn ws n = map nameIn (take n ws)
+
+-- a filter as a path, and as a label that counts
+abbrev pub pathAt : LabelFilter → List ℕ
+pathAt Any = []
+pathAt (At l) = numberOf (labelOf l) ∷ []
+
+abbrev pub filterOf : LabelFilter → Option ℕ
+filterOf Any = none
+filterOf (At l) = some (numberOf (labelOf l))
+
+-- a refusal has its number of document 01; 0 is none
+abbrev pub told : {A : Type 0} → ℕ → A → Ans A
+told n a = cond (eqb n 0) (ok a) (refuse n)
 
 abbrev pub candidateOf : Candidate → Ans Edge
-candidateOf c = cond (c .fits) (ok (edgeOf (c .edge))) (refuse 22)
+candidateOf c = cond (c .fits) (ok (rowOf (c .row) .edge)) (refuse 22)
 
--- a refusal has its number of document 01
-abbrev pub insertedOf : Inserted → Ans EdgeSet
-insertedOf r = cond (eqb (r .refusal) 0) (ok (setOf (r .set))) (refuse (r .refusal))
+-- the edges of a set's rows, without ends and marks
+unfoldable pub setEdges : List (List ℕ) → ℕ → List Edge
+setEdges rows n = map (λ r. rowOf r .edge) (take n rows)
+
+abbrev pub setIn : List (List ℕ) → BorrowEdgeSet → EdgeSet
+setIn rows s = record { edges = setEdges rows (s .len); blurred = s .overflown }
+
+abbrev pub insertedIn : List (List ℕ) → Inserted → Ans EdgeSet
+insertedIn rows r = told (r .refusal) (setIn rows (r .set))

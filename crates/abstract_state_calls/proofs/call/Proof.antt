@@ -1,9 +1,10 @@
 use mathlib.Core.List.{map}
 use lib.ListN.{take}
 use Rattle.meaning.specs.Listing.{tokenAs}
-use Rattle.abstract_state.specs.Models.{runningOf, outcomeOf, operandsOf}
-use Rattle.abstract_state_calls.specs.Models.{idsOf, calledOf}
-use Rattle.abstract_state_calls.specs.CallLaws.{released, call-done}
+use Rattle.abstract_state.specs.Models.{operandsOf, words}
+use Rattle.abstract_state_calls.specs.Models.{idsOf}
+use Rattle.abstract_state_calls.specs.CallLaws.{calls-done}
+use native.Mathlib.Omega.{arith}
 use borrow.Author.Needs.{needs}
 use Rattle.abstract_state_calls.proofs.call.Statement.{statement}
 use Rattle.abstract_state_calls.proofs.call.Tie as tie
@@ -28,12 +29,11 @@ release-all-requires c κs = search needs
 
 returns : tie.Need-returns
 returns c =
-    let a = (c .before .before .before .before .before .before .before .before .args) in
-    let u = (c .before .before .before .return-values) .result in
-    let w = (c .release-all) .result in
-    call-done (operandsOf (a .arguments)) (take (a .acquired-count) (a .acquired)) (map tokenAs (take (a .token-count) (a .tokens))) (idsOf ((c .before .before .before .before .before .before .mutable) .result)) (idsOf ((c .before .before .before .before .before .before .before .operand-ids) .result)) (runningOf (a .state)) (a .state .violation) (a .state .refusal) (outcomeOf ((c .before .before .before .before .before .fail-acquired) .result)) (outcomeOf ((c .before .before .before .before .hand-over) .result)) (calledOf u) _
-    ((c .before .before .before .before .before .before .before .operand-ids) .ensures) ((c .before .before .before .before .before .before .mutable) .ensures) ((c .before .before .before .before .before .fail-acquired) .ensures) ((c .before .before .before .before .hand-over) .ensures) ((c .before .before .before .return-values) .ensures)
-    (released (u .state .violation) (u .state .refusal) (runningOf (u .state)) (w .violation) (w .refusal) (runningOf w) (operandsOf (u .values)) (idsOf ((c .before .before .before .before .before .before .before .operand-ids) .result)) ((c .release-all) .ensures))
+    let a = (c .before .before .before .before .before .before .before .before .before .before .before .before .before .before .before .before .before .args) in
+    λ ls. let k = calls-done (operandsOf (a .arguments)) (take (a .acquired-count) (a .acquired)) (map tokenAs (take (a .token-count) (a .tokens))) (idsOf ((c .before .before .before .before .before .before .before .before .before .before .before .before .before .before .mutable) .result)) (idsOf ((c .before .before .before .before .before .before .before .before .before .before .before .before .before .before .before .before .operand-ids) .result))
+    (words ls (a .names .now) (a .edges .now) (a .state)) _ _ _ _ (operandsOf ((c .before .before .before .before .before .return-values) .result .values)) ((c .before .before .before .before .before .before .before .before .before .before .before .before .before .before .before .before .operand-ids) .ensures) (λ h. (c .before .before .before .before .before .before .before .before .before .before .before .before .before .before .mutable) .ensures ls _ h)
+    ((c .before .before .before .before .before .before .before .before .before .before .before .fail-acquired) .ensures ls) ((c .before .before .before .before .before .before .before .before .hand-over) .ensures ls) ((c .before .before .before .before .before .return-values) .ensures ls) ((c .release-all) .ensures ls) in
+    (k .fits, k .calls)
 
 pub call-spec : {M : Type 1} → statement M
 call-spec =

@@ -1,65 +1,71 @@
-use mathlib.Core.Path.{_≡_, refl, _∙_}
-use mathlib.Core.List.{[], _∷_}
-use Prim.Native.Nat.{_-_, _<_, _≤_, min}
+use mathlib.Core.Path.{_≡_}
+use mathlib.Core.List.{List, [], _∷_}
+use Prim.Native.Nat.{ℕ, _-_, _<_, _≤_, min}
 use lib.ListN.{length, drop, drop-of-length-le}
 use Rattle.meaning.specs.Laws.Array.{length-of-map}
 use Rattle.meaning.specs.AbstractState.{Operand}
-use Rattle.meaning.specs.Answers.{then}
 use Rattle.meaning.specs.EntryPoints.{handOver}
-use Rattle.abstract_state.specs.Models.{operandsOf, outcomeOf}
+use Rattle.abstract_state.specs.Models.{operandOf, operandsOf, words}
+use Rattle.abstract_state.specs.ModelLaws.{does-nothing}
+use Rattle.abstract_state_calls.specs.Models.{handing}
 use Rattle.abstract_state_calls.specs.ModelLaws.{operands-step, operands-count}
-use Rattle.abstract_state.specs.OutcomeLaws.{then-done}
-use Rattle.abstract_state_calls.specs.LoopLaws.{each-turn, each-done}
-use Rattle.abstract_state_calls.specs.CallLaws.{handing, hand-step}
+use Rattle.abstract_state_calls.specs.LoopLaws.{Left, left-all, left-turn, left-done}
+use Rattle.abstract_state_calls.specs.CallLaws.{hand-step}
 use native.Mathlib.Omega.{arith}
 use borrow.Author.Needs.{needs}
 use Rattle.abstract_state_calls.proofs.hand_over.Statement.{statement}
 use Rattle.abstract_state_calls.proofs.hand_over.Tie as tie
 
 abbrev Inv-loop : tie.InvT-loop
-Inv-loop code values n s₀ i₀ s i = then (outcomeOf s) (handing code (drop i (operandsOf values))) ≡ then (outcomeOf s₀) (handing code (operandsOf values))
+Inv-loop names edges code values n s₀ i₀ s i = (ls : List ℕ) → Left (handing code (operandsOf values)) (handing code (drop i (operandsOf values))) (words ls names edges s₀) (words ls names edges s)
 
 abbrev μ-loop : tie.MeasureT-loop
-μ-loop code values n s₀ i₀ s i = n - i
-
-cast-lesser : tie.Need-cast-lesser Inv-loop μ-loop
-cast-lesser c = omega arith
+μ-loop names edges code values n s₀ i₀ s i = n - i
 
 lesser-requires : tie.Need-lesser-requires Inv-loop μ-loop
 lesser-requires c κs = search needs
 
 loop-holds : tie.Need-loop-holds Inv-loop μ-loop
-loop-holds c = refl
+loop-holds c = λ ls. left-all _ _
 
-mul-x : tie.Need-mul-x Inv-loop μ-loop
-mul-x c = omega (arith, (c .loop-test) .taken, (c .before .before .lesser) .ensures)
+mul-value-of : tie.Need-mul-value-of Inv-loop μ-loop
+mul-value-of c = omega arith
 
-element-copy-out-x : tie.Need-element-copy-out-x Inv-loop μ-loop
-element-copy-out-x c = omega (arith, (c .loop-test) .taken, (c .before .before .lesser) .ensures)
+element-copy-out-value-of : tie.Need-element-copy-out-value-of Inv-loop μ-loop
+element-copy-out-value-of c = omega arith
+
+value-of-requires : tie.Need-value-of-requires Inv-loop μ-loop
+value-of-requires c κs = search needs
 
 hand-value-requires : tie.Need-hand-value-requires Inv-loop μ-loop
-hand-value-requires c κs = (c .before .before .before .before .pre)
+hand-value-requires c κs = (c .before .before .before .before .before .pre)
 
 add-i : tie.Need-add-i Inv-loop μ-loop
-add-i c = omega (arith, (c .before .before .loop-test) .taken, (c .before .before .before .before .lesser) .ensures)
+add-i c = omega arith
 
 loop-less : tie.Need-loop-less Inv-loop μ-loop
-loop-less c = omega (arith, (c .before .before .loop-test) .taken)
+loop-less c = omega arith
 
 loop-again : tie.Need-loop-again Inv-loop μ-loop
 loop-again c =
-    let z : length ((c .before .before .before .before .before .args) .t2 .list) ≡ 16 = search length-of-map in
-    let k : length (operandsOf ((c .before .before .before .before .before .args) .t2)) ≡ min ((c .before .before .before .before .before .args) .t2 .len) 16 = operands-count ((c .before .before .before .before .before .args) .t2 .list) ((c .before .before .before .before .before .args) .t2 .len) z in
-    let h : (c .before .before .before .loop) .i < length (operandsOf ((c .before .before .before .before .before .args) .t2)) = omega (arith, (c .before .before .loop-test) .taken, (c .before .before .before .before .lesser) .ensures) in
-    each-turn (handing ((c .before .before .before .before .before .args) .code)) (operandsOf ((c .before .before .before .before .before .args) .t2)) (λ (v : Operand). handing ((c .before .before .before .before .before .args) .code) (v ∷ [])) (hand-step ((c .before .before .before .before .before .args) .code)) ((c .before .before .before .loop) .i) _ (outcomeOf ((c .before .before .before .loop) .s)) _ _ (operands-step ((c .before .before .before .before .before .args) .t2 .list) ((c .before .before .before .before .before .args) .t2 .len) ((c .before .before .before .loop) .i) h) ((c .hand-value) .ensures) ((c .before .before .before .loop) .inv)
+    let a = (c .before .before .before .before .before .before .args) in
+    let l = (c .before .before .before .before .loop) in
+    let v : Operand = operandOf ((c .before .value-of) .result) in
+    let z : length (a .t4 .list) ≡ 16 = search (needs, length-of-map) in
+    let k : length (operandsOf (a .t4)) ≡ min (a .t4 .len) 16 = operands-count (a .t4 .list) (a .t4 .len) z in
+    let h : l .i < length (operandsOf (a .t4)) = omega (arith, (c .before .before .before .loop-test) .taken, (c .before .before .before .before .before .lesser) .ensures) in
+    λ ls. left-turn (handing (a .code)) (operandsOf (a .t4)) (l .i) _ (words ls (a .names .now) (a .edges .now) (l .s)) _ (λ (u : Operand). handing (a .code) (u ∷ [])) (hand-step (a .code)) v
+    (operands-step (a .t4 .list) (a .t4 .len) (l .i) v ((c .before .value-of) .ensures) h) ((c .hand-value) .ensures ls) (l .inv ls)
 
 returns : tie.Need-returns Inv-loop μ-loop
 unfolding handOver
 returns c =
-    let z : length ((c .before .before .before .args) .t2 .list) ≡ 16 = search length-of-map in
-    let k : length (operandsOf ((c .before .before .before .args) .t2)) ≡ min ((c .before .before .before .args) .t2 .len) 16 = operands-count ((c .before .before .before .args) .t2 .list) ((c .before .before .before .args) .t2 .len) z in
-    let h : length (operandsOf ((c .before .before .before .args) .t2)) ≤ (c .before .loop) .i = omega (arith, (c .loop-test) .left, (c .before .before .lesser) .ensures) in
-    then-done (outcomeOf ((c .before .loop) .s)) ∙ each-done (handing ((c .before .before .before .args) .code)) (operandsOf ((c .before .before .before .args) .t2)) ((c .before .loop) .i) (outcomeOf ((c .before .loop) .s)) _ (drop-of-length-le (operandsOf ((c .before .before .before .args) .t2)) h) ((c .before .loop) .inv)
+    let a = (c .before .before .before .args) in
+    let l = (c .before .loop) in
+    let z : length (a .t4 .list) ≡ 16 = search (needs, length-of-map) in
+    let k : length (operandsOf (a .t4)) ≡ min (a .t4 .len) 16 = operands-count (a .t4 .list) (a .t4 .len) z in
+    let h : length (operandsOf (a .t4)) ≤ l .i = omega (arith, (c .loop-test) .left, (c .before .before .lesser) .ensures) in
+    λ ls. left-done (handing (a .code)) (operandsOf (a .t4)) (l .i) _ (words ls (a .names .now) (a .edges .now) (l .s)) _ (drop-of-length-le (operandsOf (a .t4)) h) (does-nothing _) (l .inv ls)
 
 pub hand-over-spec : {M : Type 1} → statement M
 hand-over-spec =
@@ -67,11 +73,11 @@ hand-over-spec =
     (tie.spec
     Inv-loop
     μ-loop
-    cast-lesser
     lesser-requires
     loop-holds
-    mul-x
-    element-copy-out-x
+    mul-value-of
+    element-copy-out-value-of
+    value-of-requires
     hand-value-requires
     add-i
     loop-less

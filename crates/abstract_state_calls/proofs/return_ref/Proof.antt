@@ -1,6 +1,7 @@
-use Rattle.abstract_state.specs.Models.{runningOf, outcomeOf, operandOf}
+use Rattle.abstract_state.specs.Models.{words}
 use Rattle.abstract_state_calls.specs.Models.{idsOf}
-use Rattle.abstract_state_calls.specs.CallLaws.{ref-returned}
+use Rattle.abstract_state_calls.specs.CallLaws.{calls-ref}
+use native.Mathlib.Omega.{arith}
 use borrow.Author.Needs.{needs}
 use Rattle.abstract_state_calls.proofs.return_ref.Statement.{statement}
 use Rattle.abstract_state_calls.proofs.return_ref.Tie as tie
@@ -18,7 +19,9 @@ give-requires : tie.Need-give-requires
 give-requires c κs = search needs
 
 returns : tie.Need-returns
-returns c = ref-returned ((c .before .before .before .before .args) .mutable) (idsOf ((c .before .before .before .before .args) .parents)) ((c .before .before .before .before .args) .state .violation) ((c .before .before .before .before .args) .state .refusal) (runningOf ((c .before .before .before .before .args) .state)) ((c .before .before .before .fresh) .result .0) (outcomeOf ((c .before .before .new-ref) .result)) (outcomeOf ((c .before .lend-all) .result)) ((c .give) .result .violation) ((c .give) .result .refusal) (record { state = runningOf ((c .give) .result); operand = operandOf ((c .give) .result .value) }) ((c .before .before .before .fresh) .ensures) ((c .before .before .new-ref) .ensures) ((c .before .lend-all) .ensures) ((c .give) .ensures)
+returns c =
+    let a = (c .before .before .before .before .before .before .before .args) in
+    λ ls. calls-ref (a .mutable) (idsOf (a .parents)) ((c .before .before .before .before .before .before .fresh) .result .0) (words ls (a .names .now) (a .edges .now) (a .state)) _ _ _ ((c .before .before .before .before .before .before .fresh) .ensures) ((c .before .before .before .before .new-ref) .ensures ls _) ((c .before .lend-all) .ensures ls) ((c .give) .ensures ls _ _)
 
 pub return-ref-spec : {M : Type 1} → statement M
 return-ref-spec =

@@ -1,12 +1,12 @@
 use mathlib.Core.Path.{_≡_, ap}
 use mathlib.Core.Bool.{false}
 use borrow.Author.Tests.{ne-eqb}
-use Rattle.meaning.specs.Listing.{tokenAs}
 use Rattle.meaning.specs.AbstractState.{ofRef}
+use Rattle.meaning.specs.Listing.{tokenAs}
 use Rattle.meaning.specs.EntryPoints.{returnValues}
-use Rattle.abstract_state.specs.Models.{runningOf, outcomeOf, operandOf}
 use Rattle.abstract_state_calls.specs.Models.{idsOf}
-use Rattle.abstract_state_calls.specs.CallLaws.{value-returned}
+use Rattle.abstract_state_calls.specs.CallLaws.{calls-value}
+use native.Mathlib.Omega.{arith}
 use borrow.Author.Needs.{needs}
 use Rattle.abstract_state_calls.proofs.return_value.Statement.{statement}
 use Rattle.abstract_state_calls.proofs.return_value.Tie as tie
@@ -21,17 +21,17 @@ return-ref-requires-2 : tie.Need-return-ref-requires-2
 return-ref-requires-2 c κs = search needs
 
 returns : tie.Need-returns
-returns c = rw (ap tokenAs ((c .before .match) .keys1)) (value-returned (idsOf ((c .before .before .args) .mutable)) (idsOf ((c .before .before .args) .all)) (outcomeOf ((c .before .before .args) .state)) ((c .give) .result .violation) ((c .give) .result .refusal) (record { state = runningOf ((c .give) .result); operand = operandOf ((c .give) .result .value) }) ((c .give) .ensures))
+returns c = λ ls. rw (ap tokenAs ((c .before .match) .keys1)) (calls-value (idsOf ((c .before .before .args) .mutable)) (idsOf ((c .before .before .args) .all)) _ _ ((c .give) .ensures ls _ _))
 
 returns-2 : tie.Need-returns-2
 unfolding returnValues
-returns-2 c = rw (ap tokenAs ((c .before .match) .keys2)) ((c .return-ref) .ensures)
+returns-2 c = λ ls. rw (ap tokenAs ((c .before .before .before .match) .keys2)) ((c .return-ref) .ensures ls)
 
 returns-3 : tie.Need-returns-3
 unfolding returnValues
 returns-3 c =
-    let e : tokenAs ((c .before .before .args) .token) ≡ ofRef false = simp (ne-eqb _ _ ((c .before .match) .rest .0 .1), ne-eqb _ _ ((c .before .match) .rest .1)) in
-    rw e ((c .return-ref2) .ensures)
+    let e : tokenAs ((c .before .before .before .before .args) .token) ≡ ofRef false = simp (ne-eqb _ _ ((c .before .before .before .match) .rest .0 .1), ne-eqb _ _ ((c .before .before .before .match) .rest .1)) in
+    λ ls. rw e ((c .return-ref2) .ensures ls)
 
 pub return-value-spec : {M : Type 1} → statement M
 return-value-spec =

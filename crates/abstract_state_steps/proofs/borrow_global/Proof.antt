@@ -1,13 +1,9 @@
-use mathlib.Core.Path.{_≡_, ap, _∙_}
-use mathlib.Core.Bool.{Bool, _&&_, _||_}
+use mathlib.Core.Bool.{_&&_, _||_}
 use mathlib.Core.Option.{some}
-use Rattle.meaning.specs.Answers.{Ans, then}
 use Rattle.meaning.specs.Labels.{globalLabel}
-use Rattle.meaning.specs.BorrowGraph as L
-use Rattle.meaning.specs.EntryPoints as R
-use Rattle.borrow_graph.specs.Models.{graphOf, toldOf}
-use Rattle.abstract_state.specs.Models.{runningOf, outcomeOf, failing}
-use Rattle.abstract_state.specs.ModelLaws.{told-both}
+use Rattle.meaning.specs.BorrowGraph.{borrowed, mutablyBorrowed}
+use Rattle.abstract_state.specs.Models.{words, runningOf}
+use Rattle.abstract_state.specs.ModelLaws.{gives-as, gives-then, told-both}
 use Rattle.abstract_state_steps.specs.EntryLaws as E
 use borrow.Author.Needs.{needs}
 use Rattle.abstract_state_steps.proofs.borrow_global.Statement.{statement}
@@ -22,8 +18,8 @@ is-global-mutably-borrowed-requires c κs = search needs
 fresh-requires : tie.Need-fresh-requires
 fresh-requires c κs = search needs
 
-fail-requires : tie.Need-fail-requires
-fail-requires c κs = search needs
+violate-if-requires : tie.Need-violate-if-requires
+violate-if-requires c κs = search needs
 
 new-ref-requires : tie.Need-new-ref-requires
 new-ref-requires c κs = search needs
@@ -35,9 +31,29 @@ give-requires : tie.Need-give-requires
 give-requires c κs = search needs
 
 returns : tie.Need-returns
-returns c =
-    let q : toldOf (record { refusal = (c .before .before .before .before .before .before .before .before .is-global-borrowed) .result .refusal; yes = (((c .before .before .before .before .before .before .before .before .before .args) .mutable) && (c .before .before .before .before .before .before .before .before .is-global-borrowed) .result .yes) || (c .before .before .before .before .before .before .before .is-global-mutably-borrowed) .result .yes }) ≡ (L.ofName (graphOf ((c .before .before .before .before .before .before .before .before .before .args) .state .«borrow_graph»)) ((c .before .before .before .before .before .before .before .before .before .args) .state .«num_locals») ((((c .before .before .before .before .before .before .before .before .before .args) .mutable) && (L.borrowed (graphOf ((c .before .before .before .before .before .before .before .before .before .args) .state .«borrow_graph»)) ((c .before .before .before .before .before .before .before .before .before .args) .state .«num_locals») (some (globalLabel ((c .before .before .before .before .before .before .before .before .before .args) .resource))))) || (L.mutablyBorrowed (graphOf ((c .before .before .before .before .before .before .before .before .before .args) .state .«borrow_graph»)) ((c .before .before .before .before .before .before .before .before .before .args) .state .«num_locals») (some (globalLabel ((c .before .before .before .before .before .before .before .before .before .args) .resource)))))) = told-both (graphOf ((c .before .before .before .before .before .before .before .before .before .args) .state .«borrow_graph»)) ((c .before .before .before .before .before .before .before .before .before .args) .state .«num_locals») ((c .before .before .before .before .before .before .before .is-global-mutably-borrowed) .result .refusal) ((c .before .before .before .before .before .before .before .before .is-global-borrowed) .result .refusal) ((c .before .before .before .before .before .before .before .is-global-mutably-borrowed) .result .yes) (L.mutablyBorrowed (graphOf ((c .before .before .before .before .before .before .before .before .before .args) .state .«borrow_graph»)) ((c .before .before .before .before .before .before .before .before .before .args) .state .«num_locals») (some (globalLabel ((c .before .before .before .before .before .before .before .before .before .args) .resource)))) ((c .before .before .before .before .before .before .before .before .is-global-borrowed) .result .yes) (L.borrowed (graphOf ((c .before .before .before .before .before .before .before .before .before .args) .state .«borrow_graph»)) ((c .before .before .before .before .before .before .before .before .before .args) .state .«num_locals») (some (globalLabel ((c .before .before .before .before .before .before .before .before .before .args) .resource)))) (λ y w. (((c .before .before .before .before .before .before .before .before .before .args) .mutable) && w) || y) ((c .before .before .before .before .before .before .before .is-global-mutably-borrowed) .ensures) ((c .before .before .before .before .before .before .before .before .is-global-borrowed) .ensures) in
-    E.lend-law ((c .before .before .before .before .before .before .before .before .before .args) .state .violation) ((c .before .before .before .before .before .before .before .before .before .args) .state .refusal) (runningOf ((c .before .before .before .before .before .before .before .before .before .args) .state)) (failing (L.ofName (graphOf ((c .before .before .before .before .before .before .before .before .before .args) .state .«borrow_graph»)) ((c .before .before .before .before .before .before .before .before .before .args) .state .«num_locals») ((((c .before .before .before .before .before .before .before .before .before .args) .mutable) && (L.borrowed (graphOf ((c .before .before .before .before .before .before .before .before .before .args) .state .«borrow_graph»)) ((c .before .before .before .before .before .before .before .before .before .args) .state .«num_locals») (some (globalLabel ((c .before .before .before .before .before .before .before .before .before .args) .resource))))) || (L.mutablyBorrowed (graphOf ((c .before .before .before .before .before .before .before .before .before .args) .state .«borrow_graph»)) ((c .before .before .before .before .before .before .before .before .before .args) .state .«num_locals») (some (globalLabel ((c .before .before .before .before .before .before .before .before .before .args) .resource)))))) 109) ((c .before .before .before .before .before .before .before .before .before .args) .mutable) (R.addResourceBorrow ((c .before .before .before .before .before .before .before .before .before .args) .resource)) ((c .before .before .before .before .before .before .fresh) .result .0) _ _ _ _ (R.borrowGlobal ((c .before .before .before .before .before .before .before .before .before .args) .mutable) ((c .before .before .before .before .before .before .before .before .before .args) .resource)) (E.borrow-global-at (runningOf ((c .before .before .before .before .before .before .before .before .before .args) .state)) ((c .before .before .before .before .before .before .fresh) .result .0) ((c .before .before .before .before .before .before .fresh) .ensures) ((c .before .before .before .before .before .before .before .before .before .args) .mutable) ((c .before .before .before .before .before .before .before .before .before .args) .resource)) ((c .before .before .before .fail) .ensures ∙ ap (λ (t : Ans Bool). then (outcomeOf ((c .before .before .before .before .before .before .before .before .before .args) .state)) (failing t 109)) q) ((c .before .before .new-ref) .ensures) ((c .before .add-resource-borrow) .ensures) ((c .give) .ensures)
+returns c = λ ls.
+    let at-add-resource-borrow = c .before in
+    let at-new-ref = at-add-resource-borrow .before .before .before in
+    let at-violate-if = at-new-ref .before .before in
+    let at-fresh = at-violate-if .before .before .before in
+    let at-is-global-mutably-borrowed = at-fresh .before in
+    let at-is-global-borrowed = at-is-global-mutably-borrowed .before .before .before in
+    let start = at-is-global-borrowed .before .before .before in
+    let a = start .args in
+    let w = words ls (a .names .now) (a .edges .now) (a .state) in
+    let r = runningOf w in
+    let b = (at-is-global-borrowed .is-global-borrowed) .result in
+    let m = (at-is-global-mutably-borrowed .is-global-mutably-borrowed) .result in
+    let x = borrowed (r .graph) (r .root) (some (globalLabel (a .resource))) in
+    let y = mutablyBorrowed (r .graph) (r .root) (some (globalLabel (a .resource))) in
+    gives-as _ _ w _
+    (λ h. E.borrow-global-at r (at-fresh .fresh .result .0) (at-fresh .fresh .ensures) (a .mutable) (a .resource) _
+    (told-both (r .graph) (r .root) (m .refusal) (b .refusal) (m .yes) y (b .yes) x (λ q p. (a .mutable && p) || q)
+    (at-is-global-mutably-borrowed .is-global-mutably-borrowed .ensures ls h) (at-is-global-borrowed .is-global-borrowed .ensures ls h)))
+    (gives-then _ _ _ _ _ (at-violate-if .violate-if .ensures ls _ _)
+    (gives-then _ _ _ _ _ (at-new-ref .new-ref .ensures ls _)
+    (gives-then _ _ _ _ _ (at-add-resource-borrow .add-resource-borrow .ensures ls)
+    (c .give .ensures ls _ _))))
 
 pub borrow-global-spec : {M : Type 1} → statement M
 borrow-global-spec =
@@ -46,7 +62,7 @@ borrow-global-spec =
     is-global-borrowed-requires
     is-global-mutably-borrowed-requires
     fresh-requires
-    fail-requires
+    violate-if-requires
     new-ref-requires
     add-resource-borrow-requires
     give-requires

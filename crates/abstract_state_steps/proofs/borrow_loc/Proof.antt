@@ -1,13 +1,9 @@
-use mathlib.Core.Path.{_≡_, ap, _∙_}
-use mathlib.Core.Bool.{Bool, not, _&&_}
+use mathlib.Core.Bool.{not, _&&_}
 use mathlib.Core.Option.{some}
-use Rattle.meaning.specs.Answers.{Ans, then}
 use Rattle.meaning.specs.Labels.{localLabel}
-use Rattle.meaning.specs.BorrowGraph as L
-use Rattle.meaning.specs.EntryPoints as R
-use Rattle.borrow_graph.specs.Models.{graphOf, toldOf}
-use Rattle.abstract_state.specs.Models.{runningOf, outcomeOf, failing}
-use Rattle.abstract_state.specs.ModelLaws.{told-map}
+use Rattle.meaning.specs.BorrowGraph.{mutablyBorrowed}
+use Rattle.abstract_state.specs.Models.{words, runningOf}
+use Rattle.abstract_state.specs.ModelLaws.{gives-as, gives-then, told-map}
 use Rattle.abstract_state_steps.specs.EntryLaws as E
 use borrow.Author.Needs.{needs}
 use Rattle.abstract_state_steps.proofs.borrow_loc.Statement.{statement}
@@ -19,8 +15,8 @@ is-local-mutably-borrowed-requires c κs = search needs
 fresh-requires : tie.Need-fresh-requires
 fresh-requires c κs = search needs
 
-fail-requires : tie.Need-fail-requires
-fail-requires c κs = search needs
+violate-if-requires : tie.Need-violate-if-requires
+violate-if-requires c κs = search needs
 
 new-ref-requires : tie.Need-new-ref-requires
 new-ref-requires c κs = search needs
@@ -32,9 +28,26 @@ give-requires : tie.Need-give-requires
 give-requires c κs = search needs
 
 returns : tie.Need-returns
-returns c =
-    let q : toldOf (record { refusal = (c .before .before .before .before .before .before .is-local-mutably-borrowed) .result .refusal; yes = not ((c .before .before .before .before .before .before .before .args) .mutable) && (c .before .before .before .before .before .before .is-local-mutably-borrowed) .result .yes }) ≡ (L.ofName (graphOf ((c .before .before .before .before .before .before .before .args) .state .«borrow_graph»)) ((c .before .before .before .before .before .before .before .args) .state .«num_locals») (not ((c .before .before .before .before .before .before .before .args) .mutable) && (L.mutablyBorrowed (graphOf ((c .before .before .before .before .before .before .before .args) .state .«borrow_graph»)) ((c .before .before .before .before .before .before .before .args) .state .«num_locals») (some (localLabel ((c .before .before .before .before .before .before .before .args) .local .0)))))) = told-map (graphOf ((c .before .before .before .before .before .before .before .args) .state .«borrow_graph»)) ((c .before .before .before .before .before .before .before .args) .state .«num_locals») ((c .before .before .before .before .before .before .is-local-mutably-borrowed) .result .refusal) ((c .before .before .before .before .before .before .is-local-mutably-borrowed) .result .yes) (L.mutablyBorrowed (graphOf ((c .before .before .before .before .before .before .before .args) .state .«borrow_graph»)) ((c .before .before .before .before .before .before .before .args) .state .«num_locals») (some (localLabel ((c .before .before .before .before .before .before .before .args) .local .0)))) (λ y. not ((c .before .before .before .before .before .before .before .args) .mutable) && y) ((c .before .before .before .before .before .before .is-local-mutably-borrowed) .ensures) in
-    E.lend-law ((c .before .before .before .before .before .before .before .args) .state .violation) ((c .before .before .before .before .before .before .before .args) .state .refusal) (runningOf ((c .before .before .before .before .before .before .before .args) .state)) (failing (L.ofName (graphOf ((c .before .before .before .before .before .before .before .args) .state .«borrow_graph»)) ((c .before .before .before .before .before .before .before .args) .state .«num_locals») (not ((c .before .before .before .before .before .before .before .args) .mutable) && (L.mutablyBorrowed (graphOf ((c .before .before .before .before .before .before .before .args) .state .«borrow_graph»)) ((c .before .before .before .before .before .before .before .args) .state .«num_locals») (some (localLabel ((c .before .before .before .before .before .before .before .args) .local .0)))))) 107) ((c .before .before .before .before .before .before .before .args) .mutable) (R.addLocalBorrow ((c .before .before .before .before .before .before .before .args) .local .0)) ((c .before .before .before .before .before .fresh) .result .0) _ _ _ _ (R.borrowLoc ((c .before .before .before .before .before .before .before .args) .mutable) ((c .before .before .before .before .before .before .before .args) .local .0)) (E.borrow-loc-at (runningOf ((c .before .before .before .before .before .before .before .args) .state)) ((c .before .before .before .before .before .fresh) .result .0) ((c .before .before .before .before .before .fresh) .ensures) ((c .before .before .before .before .before .before .before .args) .mutable) ((c .before .before .before .before .before .before .before .args) .local .0)) ((c .before .before .before .fail) .ensures ∙ ap (λ (t : Ans Bool). then (outcomeOf ((c .before .before .before .before .before .before .before .args) .state)) (failing t 107)) q) ((c .before .before .new-ref) .ensures) ((c .before .add-local-borrow) .ensures) ((c .give) .ensures)
+returns c = λ ls.
+    let at-add-local-borrow = c .before in
+    let at-new-ref = at-add-local-borrow .before .before .before in
+    let at-violate-if = at-new-ref .before .before in
+    let at-fresh = at-violate-if .before .before in
+    let at-is-local-mutably-borrowed = at-fresh .before in
+    let start = at-is-local-mutably-borrowed .before .before .before in
+    let a = start .args in
+    let w = words ls (a .names .now) (a .edges .now) (a .state) in
+    let r = runningOf w in
+    let b = (at-is-local-mutably-borrowed .is-local-mutably-borrowed) .result in
+    let y = mutablyBorrowed (r .graph) (r .root) (some (localLabel (a .i .0))) in
+    gives-as _ _ w _
+    (λ h. E.borrow-loc-at r (at-fresh .fresh .result .0) (at-fresh .fresh .ensures) (a .mutable) (a .i .0) _
+    (told-map (r .graph) (r .root) (b .refusal) (b .yes) y (λ z. not (a .mutable) && z)
+    (at-is-local-mutably-borrowed .is-local-mutably-borrowed .ensures ls h)))
+    (gives-then _ _ _ _ _ (at-violate-if .violate-if .ensures ls _ _)
+    (gives-then _ _ _ _ _ (at-new-ref .new-ref .ensures ls _)
+    (gives-then _ _ _ _ _ (at-add-local-borrow .add-local-borrow .ensures ls)
+    (c .give .ensures ls _ _))))
 
 pub borrow-loc-spec : {M : Type 1} → statement M
 borrow-loc-spec =
@@ -42,7 +55,7 @@ borrow-loc-spec =
     (tie.spec
     is-local-mutably-borrowed-requires
     fresh-requires
-    fail-requires
+    violate-if-requires
     new-ref-requires
     add-local-borrow-requires
     give-requires

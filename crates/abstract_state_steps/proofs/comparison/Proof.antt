@@ -1,8 +1,6 @@
 use mathlib.Core.Path.{refl}
 use Rattle.meaning.specs.EntryPoints as R
-use Rattle.meaning.specs.AbstractState as S
-use Rattle.abstract_state.specs.Models.{runningOf, halted}
-use Rattle.abstract_state_steps.specs.EntryLaws as E
+use Rattle.abstract_state.specs.ModelLaws.{gives-as, gives-then}
 use borrow.Author.Needs.{needs}
 use Rattle.abstract_state_steps.proofs.comparison.Statement.{statement}
 use Rattle.abstract_state_steps.proofs.comparison.Tie as tie
@@ -44,19 +42,32 @@ give-requires-3 : tie.Need-give-requires-3
 give-requires-3 c κs = search needs
 
 returns : tie.Need-returns
-returns c = rw ((c .before .before .before .before .before .v1) .given .1, (c .before .before .v2) .given .1) ((c .compare-refs) .ensures)
+returns c = λ ls.
+    let at-v2 = c .before .before .before .before in
+    let at-v1 = at-v2 .before .before .before in
+    rw (at-v1 .v1 .given .1, (at-v2 .v2) .given .1) (c .compare-refs .ensures ls)
 
 returns-2 : tie.Need-returns-2
 unfolding R.comparison
-returns-2 c = rw ((c .before .before .before .before .before .v1) .given .1, (c .before .before .enum-told) .given .1) (E.test-law ((c .before .before .before .before .before .before .before .args) .state .violation) ((c .before .before .before .before .before .before .before .args) .state .refusal) (runningOf ((c .before .before .before .before .before .before .before .args) .state)) (λ s. halted 0 11 s) (R.comparison (S.Operand.reference ((c .before .before .before .before .before .v1) .given .0 .0 .0)) S.Operand.nonRef) S.Operand.nonRef _ _ refl ((c .before .refuse) .ensures) ((c .give) .ensures))
+returns-2 c = λ ls.
+    let at-refuse = c .before in
+    let at-enum-told = at-refuse .before in
+    let at-v1 = at-enum-told .before .before .before in
+    rw (at-v1 .v1 .given .1, (at-enum-told .enum-told) .given .1) (gives-as _ _ _ _ (λ h. refl) (gives-then _ _ _ _ _ (at-refuse .refuse .ensures ls _ _)
+    (c .give .ensures ls _ _)))
 
 returns-3 : tie.Need-returns-3
 unfolding R.comparison
-returns-3 c = rw ((c .before .before .before .before .before .enum-told2) .given .1, (c .before .before .before .v22) .given .1) (E.test-law ((c .before .before .before .before .before .before .before .args) .state .violation) ((c .before .before .before .before .before .before .before .args) .state .refusal) (runningOf ((c .before .before .before .before .before .before .before .args) .state)) (λ s. halted 0 11 s) (R.comparison S.Operand.nonRef (S.Operand.reference ((c .before .before .before .v22) .given .0 .0 .0))) S.Operand.nonRef _ _ refl ((c .before .refuse2) .ensures) ((c .give2) .ensures))
+returns-3 c = λ ls.
+    let at-refuse2 = c .before in
+    let at-v22 = at-refuse2 .before .before in
+    let at-enum-told2 = at-v22 .before .before in
+    rw (at-enum-told2 .enum-told2 .given .1, (at-v22 .v22) .given .1) (gives-as _ _ _ _ (λ h. refl) (gives-then _ _ _ _ _ (at-refuse2 .refuse2 .ensures ls _ _)
+    (c .give2 .ensures ls _ _)))
 
 returns-4 : tie.Need-returns-4
 unfolding R.comparison
-returns-4 c = rw ((c .before .before .before .enum-told2) .given .1, (c .before .enum-told3) .given .1) ((c .give3) .ensures)
+returns-4 c = λ ls. rw ((c .before .before .before .enum-told2) .given .1, (c .before .enum-told3) .given .1) (c .give3 .ensures ls _ _)
 
 pub comparison-spec : {M : Type 1} → statement M
 comparison-spec =

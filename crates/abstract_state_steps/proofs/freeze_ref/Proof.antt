@@ -1,13 +1,5 @@
-use mathlib.Core.Path.{_≡_, ap, _∙_}
-use mathlib.Core.Bool.{Bool, false}
-use mathlib.Core.Option.{none}
-use Rattle.meaning.specs.Answers.{Ans, then}
-use Rattle.meaning.specs.BorrowGraph as L
-use Rattle.meaning.specs.EntryPoints as R
-use Rattle.borrow_graph.specs.Models.{graphOf}
-use Rattle.abstract_state.specs.Models.{runningOf, outcomeOf, failing, needing}
-use Rattle.abstract_state.specs.ModelLaws.{then-then}
-use Rattle.abstract_state.specs.OutcomeLaws as O
+use Rattle.abstract_state.specs.Models.{words, runningOf}
+use Rattle.abstract_state.specs.ModelLaws.{gives-as, gives-then}
 use Rattle.abstract_state_steps.specs.EntryLaws as E
 use borrow.Author.Needs.{needs}
 use Rattle.abstract_state_steps.proofs.freeze_ref.Statement.{statement}
@@ -22,11 +14,11 @@ has-consistent-mutable-borrows-requires c κs = search needs
 fresh-requires : tie.Need-fresh-requires
 fresh-requires c κs = search needs
 
-need-requires : tie.Need-need-requires
-need-requires c κs = search needs
+require-yes-requires : tie.Need-require-yes-requires
+require-yes-requires c κs = search needs
 
-fail-requires : tie.Need-fail-requires
-fail-requires c κs = search needs
+violate-if-requires : tie.Need-violate-if-requires
+violate-if-requires c κs = search needs
 
 new-ref-requires : tie.Need-new-ref-requires
 new-ref-requires c κs = search needs
@@ -41,10 +33,27 @@ give-requires : tie.Need-give-requires
 give-requires c κs = search needs
 
 returns : tie.Need-returns
-returns c =
-    let needy : outcomeOf ((c .before .before .before .before .before .need) .result) ≡ then (outcomeOf ((c .before .before .before .before .before .before .before .before .before .args) .state)) (needing (L.ofName (graphOf ((c .before .before .before .before .before .before .before .before .before .args) .state .«borrow_graph»)) ((c .before .before .before .before .before .before .before .before .before .args) .id .0) (L.isMutable (graphOf ((c .before .before .before .before .before .before .before .before .before .args) .state .«borrow_graph»)) ((c .before .before .before .before .before .before .before .before .before .args) .id .0))) 13) = (c .before .before .before .before .before .need) .ensures ∙ ap (λ (t : Ans Bool). then (outcomeOf ((c .before .before .before .before .before .before .before .before .before .args) .state)) (needing t 13)) ((c .before .before .before .before .before .before .before .before .is-mutable) .ensures) in
-    let faily : outcomeOf ((c .before .before .before .before .fail) .result) ≡ then (outcomeOf ((c .before .before .before .before .before .need) .result)) (failing (L.ofName (graphOf ((c .before .before .before .before .before .before .before .before .before .args) .state .«borrow_graph»)) ((c .before .before .before .before .before .before .before .before .before .args) .id .0) (L.mutablyBorrowed (graphOf ((c .before .before .before .before .before .before .before .before .before .args) .state .«borrow_graph»)) ((c .before .before .before .before .before .before .before .before .before .args) .id .0) none)) 104) = (c .before .before .before .before .fail) .ensures ∙ ap (λ (t : Ans Bool). then (outcomeOf ((c .before .before .before .before .before .need) .result)) (failing t 104)) ((c .before .before .before .before .before .before .before .has-consistent-mutable-borrows) .ensures) in
-    E.pass-law ((c .before .before .before .before .before .before .before .before .before .args) .state .violation) ((c .before .before .before .before .before .before .before .before .before .args) .state .refusal) (runningOf ((c .before .before .before .before .before .before .before .before .before .args) .state)) (λ s. then (needing (L.ofName (graphOf ((c .before .before .before .before .before .before .before .before .before .args) .state .«borrow_graph»)) ((c .before .before .before .before .before .before .before .before .before .args) .id .0) (L.isMutable (graphOf ((c .before .before .before .before .before .before .before .before .before .args) .state .«borrow_graph»)) ((c .before .before .before .before .before .before .before .before .before .args) .id .0))) 13 s) (failing (L.ofName (graphOf ((c .before .before .before .before .before .before .before .before .before .args) .state .«borrow_graph»)) ((c .before .before .before .before .before .before .before .before .before .args) .id .0) (L.mutablyBorrowed (graphOf ((c .before .before .before .before .before .before .before .before .before .args) .state .«borrow_graph»)) ((c .before .before .before .before .before .before .before .before .before .args) .id .0) none)) 104)) false (R.addCopy ((c .before .before .before .before .before .before .before .before .before .args) .id .0)) ((c .before .before .before .before .before .before .fresh) .result .0) ((c .before .before .before .before .before .before .before .before .before .args) .id .0) _ _ _ _ _ (R.freezeRef ((c .before .before .before .before .before .before .before .before .before .args) .id .0)) (then-then (needing (L.ofName (graphOf ((c .before .before .before .before .before .before .before .before .before .args) .state .«borrow_graph»)) ((c .before .before .before .before .before .before .before .before .before .args) .id .0) (L.isMutable (graphOf ((c .before .before .before .before .before .before .before .before .before .args) .state .«borrow_graph»)) ((c .before .before .before .before .before .before .before .before .before .args) .id .0))) 13 (runningOf ((c .before .before .before .before .before .before .before .before .before .args) .state))) (failing (L.ofName (graphOf ((c .before .before .before .before .before .before .before .before .before .args) .state .«borrow_graph»)) ((c .before .before .before .before .before .before .before .before .before .args) .id .0) (L.mutablyBorrowed (graphOf ((c .before .before .before .before .before .before .before .before .before .args) .state .«borrow_graph»)) ((c .before .before .before .before .before .before .before .before .before .args) .id .0) none)) 104) (λ t. then (R.newRef false t) (E.pass (R.addCopy ((c .before .before .before .before .before .before .before .before .before .args) .id .0)) ((c .before .before .before .before .before .before .before .before .before .args) .id .0) ((c .before .before .before .before .before .before .fresh) .result .0))) ∙ E.freeze-at (runningOf ((c .before .before .before .before .before .before .before .before .before .args) .state)) ((c .before .before .before .before .before .before .fresh) .result .0) ((c .before .before .before .before .before .before .fresh) .ensures) ((c .before .before .before .before .before .before .before .before .before .args) .id .0)) (O.link (outcomeOf ((c .before .before .before .before .before .before .before .before .before .args) .state)) _ _ (needing (L.ofName (graphOf ((c .before .before .before .before .before .before .before .before .before .args) .state .«borrow_graph»)) ((c .before .before .before .before .before .before .before .before .before .args) .id .0) (L.isMutable (graphOf ((c .before .before .before .before .before .before .before .before .before .args) .state .«borrow_graph»)) ((c .before .before .before .before .before .before .before .before .before .args) .id .0))) 13) (failing (L.ofName (graphOf ((c .before .before .before .before .before .before .before .before .before .args) .state .«borrow_graph»)) ((c .before .before .before .before .before .before .before .before .before .args) .id .0) (L.mutablyBorrowed (graphOf ((c .before .before .before .before .before .before .before .before .before .args) .state .«borrow_graph»)) ((c .before .before .before .before .before .before .before .before .before .args) .id .0) none)) 104) needy faily) ((c .before .before .before .new-ref) .ensures) ((c .before .before .add-copy) .ensures) ((c .before .release) .ensures) ((c .give) .ensures)
+returns c = λ ls.
+    let at-release = c .before in
+    let at-add-copy = at-release .before .before .before in
+    let at-new-ref = at-add-copy .before .before .before in
+    let at-violate-if = at-new-ref .before .before in
+    let at-require-yes = at-violate-if .before in
+    let at-fresh = at-require-yes .before in
+    let at-has-consistent-mutable-borrows = at-fresh .before in
+    let at-is-mutable = at-has-consistent-mutable-borrows .before .before .before in
+    let start = at-is-mutable .before .before in
+    let a = start .args in
+    let w = words ls (a .names .now) (a .edges .now) (a .state) in
+    gives-as _ _ w _
+    (λ h. E.freeze-at (runningOf w) (at-fresh .fresh .result .0) (at-fresh .fresh .ensures) (a .id .0) _ _
+    (at-is-mutable .is-mutable .ensures ls _ h) (at-has-consistent-mutable-borrows .has-consistent-mutable-borrows .ensures ls h))
+    (gives-then _ _ _ _ _ (at-require-yes .require-yes .ensures ls _ _)
+    (gives-then _ _ _ _ _ (at-violate-if .violate-if .ensures ls _ _)
+    (gives-then _ _ _ _ _ (at-new-ref .new-ref .ensures ls _)
+    (gives-then _ _ _ _ _ (at-add-copy .add-copy .ensures ls)
+    (gives-then _ _ _ _ _ (at-release .release .ensures ls)
+    (c .give .ensures ls _ _))))))
 
 pub freeze-ref-spec : {M : Type 1} → statement M
 freeze-ref-spec =
@@ -53,8 +62,8 @@ freeze-ref-spec =
     is-mutable-requires
     has-consistent-mutable-borrows-requires
     fresh-requires
-    need-requires
-    fail-requires
+    require-yes-requires
+    violate-if-requires
     new-ref-requires
     add-copy-requires
     release-requires

@@ -1,15 +1,7 @@
 use Rattle.abstract_state.specs.declared.state.AbstractValue.the-variants.{Reference, NonReference}
-use mathlib.Core.Path.{sym, ap, _∙_}
-use mathlib.Core.Bool.{Bool}
-use mathlib.Core.Option.{some}
-use Rattle.meaning.specs.Answers.{Ans, then, done}
-use Rattle.meaning.specs.Labels.{localLabel}
-use Rattle.meaning.specs.BorrowGraph as L
 use Rattle.meaning.specs.AbstractState as S
-use Rattle.meaning.specs.EntryPoints as R
-use Rattle.borrow_graph.specs.Models.{graphOf}
-use Rattle.abstract_state.specs.Models.{runningOf, outcomeOf, halted, failing}
-use Rattle.abstract_state.specs.OutcomeLaws as O
+use Rattle.abstract_state.specs.Models.{words, runningOf}
+use Rattle.abstract_state.specs.ModelLaws.{gives-as, gives-then}
 use Rattle.abstract_state_steps.specs.EntryLaws as E
 use borrow.Author.Needs.{needs}
 use Rattle.abstract_state_steps.proofs.move_loc.Statement.{statement}
@@ -28,7 +20,19 @@ give-requires : tie.Need-give-requires
 give-requires c κs = search needs
 
 returns : tie.Need-returns
-returns c = E.test-law ((c .before .before .before .before .before .before .before .args) .state .violation) ((c .before .before .before .before .before .before .before .args) .state .refusal) (runningOf ((c .before .before .before .before .before .before .before .args) .state)) (λ s. done (R.withLocal s ((c .before .before .before .before .before .before .before .args) .local .0) S.Local.absent)) (R.moveLoc ((c .before .before .before .before .before .before .before .args) .local .0)) (S.Operand.reference ((c .before .before .before .v) .given .0 .0 .0)) _ _ (E.move-ref (runningOf ((c .before .before .before .before .before .before .before .args) .state)) ((c .before .before .before .before .before .before .before .args) .local .0) (((c .before .before .before .v) .given .0 .0) .0) (sym ((c .before .before .before .before .before .before .local) .ensures) ∙ E.local-told ((c .before .before .before .before .before .before .local) .result) (Reference ((c .before .before .before .v) .given .0 .0)) ((c .before .before .before .before .before .if1) .taken) ((c .before .before .before .v) .given .1))) ((c .before .set-local) .ensures) ((c .give) .ensures)
+returns c =
+    let at-set-local = c .before in
+    let at-v = at-set-local .before .before .before in
+    let at-if1 = at-v .before .before in
+    let at-local = at-if1 .before in
+    let start = at-local .before .before in
+    let a = start .args in
+    let w = words (a .locals .now) (a .names .now) (a .edges .now) (a .state) in
+    gives-as _ _ w _
+    (λ h. E.move-over (runningOf w) (a .i .0) (S.Local.ref (at-v .v .given .0 .0 .0))
+    (E.local-told (at-local .local .result) (Reference (at-v .v .given .0 .0)) _ (at-local .local .ensures _ _ h) (at-if1 .if1 .taken) (at-v .v .given .1)))
+    (gives-then _ _ _ _ _ (at-set-local .set-local .ensures _ _ _)
+    (c .give .ensures _ _ _))
 
 enum-told : tie.Need-enum-told
 enum-told c = search needs
@@ -36,8 +40,8 @@ enum-told c = search needs
 is-local-borrowed-requires : tie.Need-is-local-borrowed-requires
 is-local-borrowed-requires c κs = search needs
 
-fail-requires : tie.Need-fail-requires
-fail-requires c κs = search needs
+violate-if-requires : tie.Need-violate-if-requires
+violate-if-requires c κs = search needs
 
 set-local-requires-2 : tie.Need-set-local-requires-2
 set-local-requires-2 c κs = search needs
@@ -46,7 +50,23 @@ give-requires-2 : tie.Need-give-requires-2
 give-requires-2 c κs = search needs
 
 returns-2 : tie.Need-returns-2
-returns-2 c = E.test-law ((c .before .before .before .before .before .before .before .before .args) .state .violation) ((c .before .before .before .before .before .before .before .before .args) .state .refusal) (runningOf ((c .before .before .before .before .before .before .before .before .args) .state)) (λ s. then (failing (L.ofName (graphOf ((c .before .before .before .before .before .before .before .before .args) .state .«borrow_graph»)) ((c .before .before .before .before .before .before .before .before .args) .state .«num_locals») (L.borrowed (graphOf ((c .before .before .before .before .before .before .before .before .args) .state .«borrow_graph»)) ((c .before .before .before .before .before .before .before .before .args) .state .«num_locals») (some (localLabel ((c .before .before .before .before .before .before .before .before .args) .local .0))))) 102 s) (λ u. done (R.withLocal u ((c .before .before .before .before .before .before .before .before .args) .local .0) S.Local.absent))) (R.moveLoc ((c .before .before .before .before .before .before .before .before .args) .local .0)) S.Operand.nonRef _ _ (E.move-value (runningOf ((c .before .before .before .before .before .before .before .before .args) .state)) ((c .before .before .before .before .before .before .before .before .args) .local .0) (sym ((c .before .before .before .before .before .before .before .local) .ensures) ∙ E.local-told ((c .before .before .before .before .before .before .before .local) .result) NonReference ((c .before .before .before .before .before .before .if1) .taken) ((c .before .before .before .before .enum-told) .given .1))) (O.link (outcomeOf ((c .before .before .before .before .before .before .before .before .args) .state)) _ _ (failing (L.ofName (graphOf ((c .before .before .before .before .before .before .before .before .args) .state .«borrow_graph»)) ((c .before .before .before .before .before .before .before .before .args) .state .«num_locals») (L.borrowed (graphOf ((c .before .before .before .before .before .before .before .before .args) .state .«borrow_graph»)) ((c .before .before .before .before .before .before .before .before .args) .state .«num_locals») (some (localLabel ((c .before .before .before .before .before .before .before .before .args) .local .0))))) 102) (λ u. done (R.withLocal u ((c .before .before .before .before .before .before .before .before .args) .local .0) S.Local.absent)) ((c .before .before .fail) .ensures ∙ ap (λ (t : Ans Bool). then (outcomeOf ((c .before .before .before .before .before .before .before .before .args) .state)) (failing t 102)) ((c .before .before .before .is-local-borrowed) .ensures)) ((c .before .set-local2) .ensures)) ((c .give2) .ensures)
+returns-2 c =
+    let at-set-local2 = c .before in
+    let at-violate-if = at-set-local2 .before .before in
+    let at-is-local-borrowed = at-violate-if .before in
+    let at-enum-told = at-is-local-borrowed .before in
+    let at-if1 = at-enum-told .before .before in
+    let at-local = at-if1 .before in
+    let start = at-local .before .before in
+    let a = start .args in
+    let w = words (a .locals .now) (a .names .now) (a .edges .now) (a .state) in
+    gives-as _ _ w _
+    (λ h. E.move-value (runningOf w) (a .i .0) _
+    (E.local-told (at-local .local .result) NonReference _ (at-local .local .ensures _ _ h) (at-if1 .if1 .taken) (at-enum-told .enum-told .given .1))
+    (at-is-local-borrowed .is-local-borrowed .ensures _ h))
+    (gives-then _ _ _ _ _ (at-violate-if .violate-if .ensures _ _ _)
+    (gives-then _ _ _ _ _ (at-set-local2 .set-local2 .ensures _ _ _)
+    (c .give2 .ensures _ _ _)))
 
 refuse-requires : tie.Need-refuse-requires
 refuse-requires c κs = search needs
@@ -55,7 +75,18 @@ give-requires-3 : tie.Need-give-requires-3
 give-requires-3 c κs = search needs
 
 returns-3 : tie.Need-returns-3
-returns-3 c = E.test-law ((c .before .before .before .before .args) .state .violation) ((c .before .before .before .before .args) .state .refusal) (runningOf ((c .before .before .before .before .args) .state)) (λ s. halted 0 12 s) (R.moveLoc ((c .before .before .before .before .args) .local .0)) S.Operand.nonRef _ _ (E.move-absent (runningOf ((c .before .before .before .before .args) .state)) ((c .before .before .before .before .args) .local .0) (sym ((c .before .before .before .local) .ensures) ∙ E.local-absent ((c .before .before .before .local) .result) ((c .before .before .if1) .left))) ((c .before .refuse) .ensures) ((c .give3) .ensures)
+returns-3 c =
+    let at-refuse = c .before in
+    let at-if1 = at-refuse .before in
+    let at-local = at-if1 .before in
+    let start = at-local .before .before in
+    let a = start .args in
+    let w = words (a .locals .now) (a .names .now) (a .edges .now) (a .state) in
+    gives-as _ _ w _
+    (λ h. E.move-over (runningOf w) (a .i .0) S.Local.absent
+    (E.local-absent (at-local .local .result) _ (at-local .local .ensures _ _ h) (at-if1 .if1 .left)))
+    (gives-then _ _ _ _ _ (at-refuse .refuse .ensures _ _ _)
+    (c .give3 .ensures _ _ _))
 
 pub move-loc-spec : {M : Type 1} → statement M
 move-loc-spec =
@@ -68,7 +99,7 @@ move-loc-spec =
     returns
     enum-told
     is-local-borrowed-requires
-    fail-requires
+    violate-if-requires
     set-local-requires-2
     give-requires-2
     returns-2

@@ -1,16 +1,12 @@
-use mathlib.Core.Option.{none}
-use Rattle.meaning.specs.EntryPoints as R
-use Rattle.meaning.specs.AbstractState as S
-use Rattle.meaning.specs.Answers.{then}
-use Rattle.abstract_state.specs.Models.{runningOf, outcomeOf}
-use Rattle.abstract_state.specs.OutcomeLaws as O
+use Rattle.abstract_state.specs.Models.{words, runningOf}
+use Rattle.abstract_state.specs.ModelLaws.{gives-as, gives-then}
 use Rattle.abstract_state_steps.specs.EntryLaws as E
 use borrow.Author.Needs.{needs}
 use Rattle.abstract_state_steps.proofs.read_ref.Statement.{statement}
 use Rattle.abstract_state_steps.proofs.read_ref.Tie as tie
 
-fail-unreadable-requires : tie.Need-fail-unreadable-requires
-fail-unreadable-requires c κs = search needs
+violate-if-unreadable-requires : tie.Need-violate-if-unreadable-requires
+violate-if-unreadable-requires c κs = search needs
 
 release-requires : tie.Need-release-requires
 release-requires c κs = search needs
@@ -19,8 +15,15 @@ give-requires : tie.Need-give-requires
 give-requires c κs = search needs
 
 returns : tie.Need-returns
-returns c = E.test-law ((c .before .before .before .args) .state .violation) ((c .before .before .before .args) .state .refusal) (runningOf ((c .before .before .before .args) .state)) (λ s. then (E.unreadable (runningOf ((c .before .before .before .args) .state)) ((c .before .before .before .args) .id .0) none 105 s) (R.releaseName ((c .before .before .before .args) .id .0))) (R.readRef ((c .before .before .before .args) .id .0)) S.Operand.nonRef _ _ (E.read-at (runningOf ((c .before .before .before .args) .state)) ((c .before .before .before .args) .id .0)) (O.link (outcomeOf ((c .before .before .before .args) .state)) _ _ (E.unreadable (runningOf ((c .before .before .before .args) .state)) ((c .before .before .before .args) .id .0) none 105) (R.releaseName ((c .before .before .before .args) .id .0)) ((c .before .before .fail-unreadable) .ensures) ((c .before .release) .ensures)) ((c .give) .ensures)
+returns c = λ ls.
+    let a = (c .before .before .before .before .before .before .before .args) in
+    let w = words ls (a .names .now) (a .edges .now) (a .state) in
+    gives-as _ _ w _
+    (λ h. E.read-at (runningOf w) (a .id .0))
+    (gives-then _ _ _ _ _ ((c .before .before .before .before .violate-if-unreadable) .ensures ls)
+    (gives-then _ _ _ _ _ ((c .before .release) .ensures ls)
+    (c .give .ensures ls _ _)))
 
 pub read-ref-spec : {M : Type 1} → statement M
 read-ref-spec =
-    tie.close (tie.spec fail-unreadable-requires release-requires give-requires returns)
+    tie.close (tie.spec violate-if-unreadable-requires release-requires give-requires returns)

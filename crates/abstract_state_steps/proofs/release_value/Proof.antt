@@ -1,6 +1,5 @@
 use Rattle.meaning.specs.EntryPoints as R
-use Rattle.abstract_state.specs.Models.{outcomeOf}
-use Rattle.abstract_state.specs.OutcomeLaws as O
+use Rattle.abstract_state.specs.ModelLaws.{does-nothing}
 use borrow.Author.Needs.{needs}
 use Rattle.abstract_state_steps.proofs.release_value.Statement.{statement}
 use Rattle.abstract_state_steps.proofs.release_value.Tie as tie
@@ -16,11 +15,11 @@ enum-told c = search needs
 
 returns : tie.Need-returns
 unfolding R.releaseValue
-returns c = rw ((c .before .before .value) .given .1) ((c .release) .ensures)
+returns c = λ ls. rw ((c .before .before .before .before .value) .given .1) (c .release .ensures ls)
 
 returns-2 : tie.Need-returns-2
 unfolding R.releaseValue
-returns-2 c = rw ((c .enum-told) .given .1) (O.then-done (outcomeOf ((c .before .before .args) .state)))
+returns-2 c = λ ls. rw (c .enum-told .given .1) (does-nothing _)
 
 pub release-value-spec : {M : Type 1} → statement M
 release-value-spec =

@@ -1,15 +1,7 @@
 use Rattle.abstract_state.specs.declared.state.AbstractValue.the-variants.{Reference, NonReference}
-use mathlib.Core.Path.{sym, ap, _∙_}
-use mathlib.Core.Bool.{Bool}
-use mathlib.Core.Option.{some}
-use Rattle.meaning.specs.Answers.{Ans, then, done}
-use Rattle.meaning.specs.Labels.{localLabel}
-use Rattle.meaning.specs.BorrowGraph as L
 use Rattle.meaning.specs.AbstractState as S
-use Rattle.meaning.specs.EntryPoints as R
-use Rattle.borrow_graph.specs.Models.{graphOf}
-use Rattle.abstract_state.specs.Models.{runningOf, outcomeOf, operandOf, failing}
-use Rattle.abstract_state.specs.ModelLaws.{here}
+use Rattle.abstract_state.specs.Models.{operandOf, words, runningOf}
+use Rattle.abstract_state.specs.ModelLaws.{does-as, does-then}
 use Rattle.abstract_state_steps.specs.EntryLaws as E
 use borrow.Author.Needs.{needs}
 use Rattle.abstract_state_steps.proofs.st_loc.Statement.{statement}
@@ -28,7 +20,19 @@ release-requires : tie.Need-release-requires
 release-requires c κs = search needs
 
 returns : tie.Need-returns
-returns c = E.test-call ((c .before .before .before .before .before .before .before .args) .state .violation) ((c .before .before .before .before .before .before .before .args) .state .refusal) (runningOf ((c .before .before .before .before .before .before .before .args) .state)) (λ s. done (R.withLocal s ((c .before .before .before .before .before .before .before .args) .local .0) (R.localOf (operandOf ((c .before .before .before .before .before .before .before .args) .new))))) (R.releaseName (((c .before .before .v) .given .0 .0) .0)) (R.stLoc ((c .before .before .before .before .before .before .before .args) .local .0) (operandOf ((c .before .before .before .before .before .before .before .args) .new))) _ _ (E.store-over (runningOf ((c .before .before .before .before .before .before .before .args) .state)) ((c .before .before .before .before .before .before .before .args) .local .0) (operandOf ((c .before .before .before .before .before .before .before .args) .new)) (S.Local.ref (((c .before .before .v) .given .0 .0) .0)) (sym ((c .before .before .before .before .before .before .local) .ensures) ∙ E.local-told ((c .before .before .before .before .before .before .local) .result) (Reference ((c .before .before .v) .given .0 .0)) ((c .before .before .before .before .if1) .taken) ((c .before .before .v) .given .1))) ((c .before .before .before .before .before .set-local) .ensures) ((c .release) .ensures)
+returns c =
+    let at-v = c .before .before .before .before in
+    let at-if1 = at-v .before .before in
+    let at-set-local = at-if1 .before in
+    let at-local = at-set-local .before .before in
+    let start = at-local .before .before in
+    let a = start .args in
+    let w = words (a .locals .now) (a .names .now) (a .edges .now) (a .state) in
+    does-as _ _ w _
+    (λ h. E.store-over (runningOf w) (a .i .0) (operandOf (a .new)) (S.Local.ref (at-v .v .given .0 .0 .0))
+    (E.local-told (at-local .local .result) (Reference (at-v .v .given .0 .0)) _ (at-local .local .ensures _ _ h) (at-if1 .if1 .taken) (at-v .v .given .1)))
+    (does-then _ _ _ _ _ (at-set-local .set-local .ensures _ _ _)
+    (c .release .ensures _))
 
 enum-told : tie.Need-enum-told
 enum-told c = search needs
@@ -36,14 +40,34 @@ enum-told c = search needs
 is-local-borrowed-requires : tie.Need-is-local-borrowed-requires
 is-local-borrowed-requires c κs = search needs
 
-fail-requires : tie.Need-fail-requires
-fail-requires c κs = search needs
+violate-if-requires : tie.Need-violate-if-requires
+violate-if-requires c κs = search needs
 
 returns-2 : tie.Need-returns-2
-returns-2 c = E.test-call ((c .before .before .before .before .before .before .before .args) .state .violation) ((c .before .before .before .before .before .before .before .args) .state .refusal) (runningOf ((c .before .before .before .before .before .before .before .args) .state)) (λ s. done (R.withLocal s ((c .before .before .before .before .before .before .before .args) .local .0) (R.localOf (operandOf ((c .before .before .before .before .before .before .before .args) .new))))) (failing (L.ofName (graphOf ((c .before .before .before .before .before .before .before .args) .state .«borrow_graph»)) ((c .before .before .before .before .before .before .before .args) .state .«num_locals») (L.borrowed (graphOf ((c .before .before .before .before .before .before .before .args) .state .«borrow_graph»)) ((c .before .before .before .before .before .before .before .args) .state .«num_locals») (some (localLabel ((c .before .before .before .before .before .before .before .args) .local .0))))) 103) (R.stLoc ((c .before .before .before .before .before .before .before .args) .local .0) (operandOf ((c .before .before .before .before .before .before .before .args) .new))) _ _ (E.store-value (runningOf ((c .before .before .before .before .before .before .before .args) .state)) ((c .before .before .before .before .before .before .before .args) .local .0) (operandOf ((c .before .before .before .before .before .before .before .args) .new)) (sym ((c .before .before .before .before .before .before .local) .ensures) ∙ E.local-told ((c .before .before .before .before .before .before .local) .result) NonReference ((c .before .before .before .before .if1) .taken) ((c .before .before .enum-told) .given .1))) ((c .before .before .before .before .before .set-local) .ensures) ((c .fail) .ensures ∙ ap (λ (t : Ans Bool). then (outcomeOf ((c .before .before .before .before .before .set-local) .result)) (failing t 103)) ((c .before .is-local-borrowed) .ensures))
+returns-2 c =
+    let at-is-local-borrowed = c .before in
+    let at-enum-told = at-is-local-borrowed .before .before .before in
+    let at-if1 = at-enum-told .before .before in
+    let at-set-local = at-if1 .before in
+    let at-local = at-set-local .before .before in
+    let start = at-local .before .before in
+    let a = start .args in
+    let w = words (a .locals .now) (a .names .now) (a .edges .now) (a .state) in
+    does-as _ _ w _
+    (λ h. E.store-value (runningOf w) (a .i .0) (operandOf (a .new)) _
+    (E.local-told (at-local .local .result) NonReference _ (at-local .local .ensures _ _ h) (at-if1 .if1 .taken) (at-enum-told .enum-told .given .1))
+    (at-is-local-borrowed .is-local-borrowed .ensures _ h))
+    (does-then _ _ _ _ _ (at-set-local .set-local .ensures _ _ _)
+    (c .violate-if .ensures _ _ _))
 
 returns-3 : tie.Need-returns-3
-returns-3 c = (c .before .set-local) .ensures ∙ here ((c .before .before .before .args) .state .violation) ((c .before .before .before .args) .state .refusal) (runningOf ((c .before .before .before .args) .state)) (λ s. done (R.withLocal s ((c .before .before .before .args) .local .0) (R.localOf (operandOf ((c .before .before .before .args) .new))))) (R.stLoc ((c .before .before .before .args) .local .0) (operandOf ((c .before .before .before .args) .new))) (E.store-over (runningOf ((c .before .before .before .args) .state)) ((c .before .before .before .args) .local .0) (operandOf ((c .before .before .before .args) .new)) S.Local.absent (sym ((c .before .before .local) .ensures) ∙ E.local-absent ((c .before .before .local) .result) ((c .if1) .left)))
+returns-3 c =
+    let a = (c .before .before .before .before .before .args) in
+    let w = words (a .locals .now) (a .names .now) (a .edges .now) (a .state) in
+    does-as _ _ w _
+    (λ h. E.store-over (runningOf w) (a .i .0) (operandOf (a .new)) S.Local.absent
+    (E.local-absent ((c .before .before .before .local) .result) _ ((c .before .before .before .local) .ensures _ _ h) (c .if1 .left)))
+    ((c .before .set-local) .ensures _ _ _)
 
 pub st-loc-spec : {M : Type 1} → statement M
 st-loc-spec =
@@ -56,6 +80,6 @@ st-loc-spec =
     returns
     enum-told
     is-local-borrowed-requires
-    fail-requires
+    violate-if-requires
     returns-2
     returns-3)

@@ -23,13 +23,13 @@ value-for-ref-requires-2 c κs = search needs
 
 returns : tie.Need-returns
 unfolding R.valueFor
-returns c = rw ((c .before .enum-told) .given .1) ((c .give) .ensures)
+returns c = λ ls es. rw ((c .before .enum-told) .given .1) (c .give .ensures ls _ es)
 
 returns-2 : tie.Need-returns-2
-returns-2 c = rw ((c .before .enum-told2) .given .1) ((c .value-for-ref) .ensures)
+returns-2 c = λ ls es. rw ((c .before .before .enum-told2) .given .1) (c .value-for-ref .ensures ls es)
 
 returns-3 : tie.Need-returns-3
-returns-3 c = rw ((c .before .enum-told3) .given .1) ((c .value-for-ref2) .ensures)
+returns-3 c = λ ls es. rw ((c .before .before .enum-told3) .given .1) (c .value-for-ref2 .ensures ls es)
 
 pub value-for-spec : {M : Type 1} → statement M
 value-for-spec =

@@ -1,8 +1,7 @@
 use mathlib.Core.Path.{refl}
 use Rattle.meaning.specs.EntryPoints as R
-use Rattle.meaning.specs.AbstractState as S
-use Rattle.meaning.specs.Answers.{done}
-use Rattle.abstract_state.specs.Models.{runningOf, halted}
+use Rattle.abstract_state.specs.Models.{words, runningOf}
+use Rattle.abstract_state.specs.ModelLaws.{gives-as, gives-then}
 use Rattle.abstract_state_steps.specs.EntryLaws as E
 use borrow.Author.Needs.{needs}
 use Rattle.abstract_state_steps.proofs.vector_element_borrow.Statement.{statement}
@@ -39,11 +38,29 @@ give-requires-2 : tie.Need-give-requires-2
 give-requires-2 c κs = search needs
 
 returns : tie.Need-returns
-returns c = rw ((c .before .before .before .before .before .before .before .vector) .given .1) (E.pass-law ((c .before .before .before .before .before .before .before .before .before .args) .state .violation) ((c .before .before .before .before .before .before .before .before .before .args) .state .refusal) (runningOf ((c .before .before .before .before .before .before .before .before .before .args) .state)) (λ s. R.needsName (s .graph) ((c .before .before .before .before .before .before .before .vector) .given .0 .0 .0) (R.vectorTest ((c .before .before .before .before .before .before .before .before .before .args) .mutable) (s .graph) ((c .before .before .before .before .before .before .before .vector) .given .0 .0 .0) 111 (done s))) ((c .before .before .before .before .before .before .before .before .before .args) .mutable) (R.addBorrow ((c .before .before .before .before .before .before .before .vector) .given .0 .0 .0)) ((c .before .before .before .before .before .fresh) .result .0) ((c .before .before .before .before .before .before .before .vector) .given .0 .0 .0) _ _ _ _ _ (R.vectorElementBorrow (S.Operand.reference ((c .before .before .before .before .before .before .before .vector) .given .0 .0 .0)) ((c .before .before .before .before .before .before .before .before .before .args) .mutable)) (E.element-at (runningOf ((c .before .before .before .before .before .before .before .before .before .args) .state)) ((c .before .before .before .before .before .fresh) .result .0) ((c .before .before .before .before .before .fresh) .ensures) ((c .before .before .before .before .before .before .before .before .before .args) .mutable) ((c .before .before .before .before .before .before .before .vector) .given .0 .0 .0)) ((c .before .before .before .before .vector-test) .ensures) ((c .before .before .before .new-ref) .ensures) ((c .before .before .add-borrow) .ensures) ((c .before .release) .ensures) ((c .give) .ensures))
+returns c = λ ls.
+    let at-release = c .before in
+    let at-add-borrow = at-release .before .before .before in
+    let at-new-ref = at-add-borrow .before .before .before in
+    let at-vector-test = at-new-ref .before .before in
+    let at-fresh = at-vector-test .before .before .before in
+    let at-vector = at-fresh .before .before in
+    let start = at-vector .before .before in
+    let a = start .args in
+    let w = words ls (a .names .now) (a .edges .now) (a .state) in
+    rw (at-vector .vector .given .1) (gives-as _ _ w _
+    (λ h. E.element-at (runningOf w) (at-fresh .fresh .result .0) (at-fresh .fresh .ensures) (a .mutable) (at-vector .vector .given .0 .0 .0))
+    (gives-then _ _ _ _ _ (at-vector-test .vector-test .ensures ls)
+    (gives-then _ _ _ _ _ (at-new-ref .new-ref .ensures ls _)
+    (gives-then _ _ _ _ _ (at-add-borrow .add-borrow .ensures ls)
+    (gives-then _ _ _ _ _ (at-release .release .ensures ls)
+    (c .give .ensures ls _ _))))))
 
 returns-2 : tie.Need-returns-2
 unfolding R.vectorElementBorrow
-returns-2 c = rw ((c .before .before .enum-told) .given .1) (E.test-law ((c .before .before .before .before .args) .state .violation) ((c .before .before .before .before .args) .state .refusal) (runningOf ((c .before .before .before .before .args) .state)) (λ s. halted 0 11 s) (R.vectorElementBorrow S.Operand.nonRef ((c .before .before .before .before .args) .mutable)) S.Operand.nonRef _ _ refl ((c .before .refuse) .ensures) ((c .give2) .ensures))
+returns-2 c = λ ls.
+    rw ((c .before .before .enum-told) .given .1) (gives-as _ _ _ _ (λ h. refl) (gives-then _ _ _ _ _ ((c .before .refuse) .ensures ls _ _)
+    (c .give2 .ensures ls _ _)))
 
 pub vector-element-borrow-spec : {M : Type 1} → statement M
 vector-element-borrow-spec =

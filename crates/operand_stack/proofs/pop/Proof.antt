@@ -1,45 +1,53 @@
 -- `operand_stack::pop` meets its contract. Assumes nothing.
 use Prim.Native.Nat.{suc, _-_}
 use mathlib.Core.Path.{_≡_, refl, sym, ap, _∙_}
-use Rattle.abstract_state.specs.declared.state.AbstractValue.the-variants.{Reference}
-use Rattle.operand_stack.specs.Models.{stackIn, popOne}
-use Rattle.operand_stack.specs.StackLaws.{stack-at, stack-none}
+use Rattle.meaning.specs.AbstractState.{Operand}
+use Rattle.operand_stack.specs.Models.{stackIn, taken, popOne}
+use Rattle.operand_stack.specs.StackLaws.{stack-at, stack-none, stack-cut}
 use native.Mathlib.Omega.{arith}
 use borrow.Author.Needs.{needs}
 use Rattle.operand_stack.proofs.pop.Statement.{statement}
 use Rattle.operand_stack.proofs.pop.Tie as tie
 
-depth-requires : tie.Need-depth-requires
-depth-requires c κs = search needs
+lesser-requires : tie.Need-lesser-requires
+lesser-requires c κs = search needs
 
 returns : tie.Need-returns
 returns c =
-    let xs = c .before .before .args .t1 .list in
-    (sym (ap popOne (c .before .depth .ensures .3 ∙ ap (stackIn xs) (c .if1 .taken) ∙ stack-none xs)), λ n. refl)
+    let xs = (c .before .before .args) .stack .now in
+    (λ e. sym (ap popOne (stack-cut xs ((c .before .before .args) .depth) ((c .before .lesser) .result) e ((c .before .lesser) .ensures) ∙ ap (stackIn xs) ((c .if1) .taken) ∙ stack-none xs)), λ n. refl)
 
-sub-x : tie.Need-sub-x
-sub-x c = search needs
+sub-value-of : tie.Need-sub-value-of
+sub-value-of c = search needs
 
-mul-x : tie.Need-mul-x
-mul-x c = search needs
+mul-value-of : tie.Need-mul-value-of
+mul-value-of c = search needs
 
-element-copy-out-x : tie.Need-element-copy-out-x
-element-copy-out-x c = search needs
+element-copy-out-value-of : tie.Need-element-copy-out-value-of
+element-copy-out-value-of c = search needs
 
-sub-rest : tie.Need-sub-rest
-sub-rest c = search needs
+value-of-requires : tie.Need-value-of-requires
+value-of-requires c κs = search needs
 
-cast-rest : tie.Need-cast-rest
-cast-rest c = search needs
+sub-t7 : tie.Need-sub-t7
+sub-t7 c = search needs
 
 returns-2 : tie.Need-returns-2
 returns-2 c =
-    let d = c .before .before .depth in
-    let xs = c .before .before .before .args .t1 .list in
-    let n : d .result ≡ suc (d .result - 1) = omega arith in
-    (sym (ap popOne (d .ensures .3 ∙ ap (stackIn xs) n ∙ stack-at xs (d .result - 1) (omega arith) (record { 0 = Reference (record { 0 = 0 }) }))), λ r. absurd (r refl))
+    let xs = (c .before .before .before .before .args) .stack .now in
+    let k = (c .before .before .before .lesser) .result in
+    let n : k ≡ suc (k - 1) = omega arith in
+    (λ e. ap (λ (v : Operand). taken v (stackIn xs (k - 1))) ((c .value-of) .ensures) ∙ sym (ap popOne (stack-cut xs ((c .before .before .before .before .args) .depth) k e ((c .before .before .before .lesser) .ensures) ∙ ap (stackIn xs) n ∙ stack-at xs (k - 1) (omega arith))), λ r. absurd (r refl))
 
 pub pop-spec : {M : Type 1} → statement M
 pop-spec =
     tie.close
-    (tie.spec depth-requires returns sub-x mul-x element-copy-out-x sub-rest cast-rest returns-2)
+    (tie.spec
+    lesser-requires
+    returns
+    sub-value-of
+    mul-value-of
+    element-copy-out-value-of
+    value-of-requires
+    sub-t7
+    returns-2)

@@ -1,45 +1,54 @@
 -- `operand_stack::pop_values` meets its contract. Assumes nothing.
 use Prim.Native.Nat.{_≤_, _-_}
-use mathlib.Core.Path.{_≡_, sym, ap}
-use Rattle.abstract_state.specs.Models.{operandOf}
-use Rattle.abstract_state.specs.declared.state.AbstractValue.the-variants.{Reference}
+use mathlib.Core.Path.{_≡_, refl, sym, ap, _∙_}
+use lib.ListN.{length}
 use Rattle.meaning.specs.Steps.{popValues}
-use Rattle.operand_stack.specs.Models.{stackIn, stackOf, popRest}
-use Rattle.operand_stack.specs.StackLaws.{values-out, values-ref, values-turn}
+use Rattle.abstract_state.specs.Models.{operandOf}
+use Rattle.operand_stack.specs.Models.{stackIn, popRest}
+use Rattle.operand_stack.specs.StackLaws.{stack-cut, values-out, values-ref, values-turn}
 use native.Mathlib.Omega.{arith}
 use borrow.Author.Needs.{needs}
 use Rattle.operand_stack.proofs.pop_values.Statement.{statement}
 use Rattle.operand_stack.proofs.pop_values.Tie as tie
 
 abbrev Inv-loop : tie.InvT-loop
-Inv-loop n stack k₀ left₀ k left = (k ≤ 16) × (popRest left (stackIn (stack .list) k) ≡ popRest n (stackOf stack))
+Inv-loop stack depth n k₀ left₀ k left = (k ≤ 16) × (length stack ≡ 16 → popRest left (stackIn stack k) ≡ popRest n (stackIn stack depth))
 
 abbrev μ-loop : tie.MeasureT-loop
-μ-loop n stack k₀ left₀ k left = left
+μ-loop stack depth n k₀ left₀ k left = left
 
-depth-requires : tie.Need-depth-requires Inv-loop μ-loop
-depth-requires c κs = search needs
+lesser-requires : tie.Need-lesser-requires Inv-loop μ-loop
+lesser-requires c κs = search needs
 
 loop-holds : tie.Need-loop-holds Inv-loop μ-loop
-loop-holds c = (omega arith, ap (popRest ((c .before .args) .n)) (sym ((c .depth) .ensures .3)))
+loop-holds c = (omega arith, λ e. ap (popRest ((c .before .args) .n)) (sym (stack-cut ((c .before .args) .stack .now) ((c .before .args) .depth) ((c .lesser) .result) e ((c .lesser) .ensures))))
 
 returns : tie.Need-returns Inv-loop μ-loop
-returns c = values-out ((c .before .before .before .before .args) .t1 .list) ((c .before .before .loop) .left) ((c .before .before .loop) .left - 1) (omega arith) (popRest ((c .before .before .before .before .args) .n) (stackOf ((c .before .before .before .before .args) .t1))) ((c .before .before .loop) .k) ((c .if1) .taken) ((c .before .before .loop) .inv .1)
+returns c =
+    let a = (c .before .before .before .before .args) in
+    let l = (c .before .before .loop) in
+    (λ e. values-out (a .stack .now) (l .left) (l .left - 1) (omega arith) (popRest (a .n) (stackIn (a .stack .now) (a .depth))) (l .k) ((c .if1) .taken) (l .inv .1 e), λ n. refl)
 
-sub-x : tie.Need-sub-x Inv-loop μ-loop
-sub-x c = omega arith
+sub-value-of : tie.Need-sub-value-of Inv-loop μ-loop
+sub-value-of c = omega arith
 
-mul-x : tie.Need-mul-x Inv-loop μ-loop
-mul-x c = omega arith
+mul-value-of : tie.Need-mul-value-of Inv-loop μ-loop
+mul-value-of c = omega arith
 
-element-copy-out-x : tie.Need-element-copy-out-x Inv-loop μ-loop
-element-copy-out-x c = omega arith
+element-copy-out-value-of : tie.Need-element-copy-out-value-of Inv-loop μ-loop
+element-copy-out-value-of c = omega arith
+
+value-of-requires : tie.Need-value-of-requires Inv-loop μ-loop
+value-of-requires c κs = search needs
 
 enum-known-v : tie.Need-enum-known-v Inv-loop μ-loop
 enum-known-v c = search needs
 
 returns-2 : tie.Need-returns-2 Inv-loop μ-loop
-returns-2 c = values-ref ((c .before .before .before .before .before .before .before .before .args) .t1 .list) ((c .before .before .before .before .before .before .loop) .left) ((c .before .before .before .before .before .before .loop) .left - 1) (omega arith) (popRest ((c .before .before .before .before .before .before .before .before .args) .n) (stackOf ((c .before .before .before .before .before .before .before .before .args) .t1))) (record { 0 = Reference (record { 0 = 0 }) }) ((c .before .before .before .before .before .before .loop) .k) ((c .before .before .before .before .before .before .loop) .k - 1) (omega arith) (omega arith) ((c .before .before .before .before .before .before .loop) .inv .1) _ (ap operandOf ((c .before .v) .given .1))
+returns-2 c =
+    let a = (c .before .before .before .before .before .before .before .before .before .args) in
+    let l = (c .before .before .before .before .before .before .before .loop) in
+    (λ e. values-ref (a .stack .now) (l .left) (l .left - 1) (omega arith) (popRest (a .n) (stackIn (a .stack .now) (a .depth))) (l .k) (l .k - 1) (omega arith) (omega arith) (l .inv .1 e) _ (sym ((c .before .before .before .value-of) .ensures) ∙ ap operandOf ((c .before .v) .given .1)), λ n. refl)
 
 enum-told : tie.Need-enum-told Inv-loop μ-loop
 enum-told c = search needs
@@ -54,16 +63,18 @@ loop-less : tie.Need-loop-less Inv-loop μ-loop
 loop-less c = omega arith
 
 loop-again : tie.Need-loop-again Inv-loop μ-loop
-loop-again c = (omega arith, values-turn ((c .before .before .before .before .before .before .before .args) .t1 .list) ((c .before .before .before .before .before .loop) .left) ((c .before .before .before .before .before .loop) .left - 1) (omega arith) (popRest ((c .before .before .before .before .before .before .before .args) .n) (stackOf ((c .before .before .before .before .before .before .before .args) .t1))) (record { 0 = Reference (record { 0 = 0 }) }) ((c .before .before .before .before .before .loop) .k) ((c .before .before .before .before .before .loop) .k - 1) (omega arith) (omega arith) ((c .before .before .before .before .before .loop) .inv .1) (ap operandOf ((c .enum-told) .given .1)))
-
-cast-rest : tie.Need-cast-rest Inv-loop μ-loop
-cast-rest c = omega arith
+loop-again c =
+    let a = (c .before .before .before .before .before .before .before .before .args) in
+    let l = (c .before .before .before .before .before .before .loop) in
+    (omega arith, λ e. values-turn (a .stack .now) (l .left) (l .left - 1) (omega arith) (popRest (a .n) (stackIn (a .stack .now) (a .depth))) (l .k) (l .k - 1) (omega arith) (omega arith) (l .inv .1 e) (sym ((c .before .before .value-of) .ensures) ∙ ap operandOf ((c .enum-told) .given .1)))
 
 returns-3 : tie.Need-returns-3 Inv-loop μ-loop
 unfolding popValues
 returns-3 c =
-    let z : (c .before .loop) .left ≡ 0 = omega arith in
-    rw z at ((c .before .loop) .inv .1)
+    let a = (c .before .before .before .args) in
+    let l = (c .before .loop) in
+    let z : l .left ≡ 0 = omega arith in
+    (λ e. rw z at (l .inv .1 e), λ n. absurd (n refl))
 
 pub pop-values-spec : {M : Type 1} → statement M
 pop-values-spec =
@@ -71,12 +82,13 @@ pop-values-spec =
     (tie.spec
     Inv-loop
     μ-loop
-    depth-requires
+    lesser-requires
     loop-holds
     returns
-    sub-x
-    mul-x
-    element-copy-out-x
+    sub-value-of
+    mul-value-of
+    element-copy-out-value-of
+    value-of-requires
     enum-known-v
     returns-2
     enum-told
@@ -84,5 +96,4 @@ pop-values-spec =
     sub-left
     loop-less
     loop-again
-    cast-rest
     returns-3)

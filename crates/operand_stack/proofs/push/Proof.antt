@@ -1,45 +1,68 @@
 -- `operand_stack::push` meets its contract. Assumes nothing.
-use mathlib.Core.Path.{refl, sym, ap}
+use mathlib.Core.Path.{refl, sym, ap, _∙_}
 use mathlib.Core.List.{[], _∷_}
+use lib.ListN.{length-set}
+use Rattle.meaning.specs.AbstractState.{Operand}
 use Rattle.abstract_state.specs.Models.{operandOf}
-use Rattle.operand_stack.specs.Models.{stackOf, pushEach}
-use Rattle.operand_stack.specs.StackLaws.{push-full, push-turn}
+use Rattle.operand_stack.specs.Models.{stackIn, pushEach}
+use Rattle.operand_stack.specs.StackLaws.{stack-cut, push-full, push-turn}
 use native.Mathlib.Omega.{arith}
 use borrow.Author.Needs.{needs}
 use Rattle.operand_stack.proofs.push.Statement.{statement}
 use Rattle.operand_stack.proofs.push.Tie as tie
 
-depth-requires : tie.Need-depth-requires
-depth-requires c κs = search needs
+lesser-requires : tie.Need-lesser-requires
+lesser-requires c κs = search needs
 
 returns : tie.Need-returns
 returns c =
-    let a = c .before .before .args in
+    let a = (c .before .before .args) in
     let v = operandOf (a .value) in
-    let d = c .before .depth in
-    (push-full (a .stack .list) (d .result) [] (pushEach (stackOf (a .stack)) (v ∷ [])) v (omega arith) (omega arith) (ap (λ vs. pushEach vs (v ∷ [])) (sym (d .ensures .3))), λ n. refl)
+    let ws = a .stack .now in (
+      record {
+        words = λ e. e;
+        pushes = λ e. push-full ws ((c .before .lesser) .result) [] (pushEach (stackIn ws (a .depth)) (v ∷ [])) v (omega arith) (omega arith) (ap (λ vs. pushEach vs (v ∷ [])) (sym (stack-cut ws (a .depth) ((c .before .lesser) .result) e ((c .before .lesser) .ensures))));
+        depth = λ n. refl;
+      },
+      λ n. refl,
+    )
 
-mul-t8 : tie.Need-mul-t8
-mul-t8 c = search needs
+value-word-requires : tie.Need-value-word-requires
+value-word-requires c κs = search needs
 
-element-set-from-out : tie.Need-element-set-from-out
-element-set-from-out c = search needs
+mul-stack : tie.Need-mul-stack
+mul-stack c = search needs
 
-add-out : tie.Need-add-out
-add-out c = search needs
+element-write-stack : tie.Need-element-write-stack
+element-write-stack c = search needs
 
-cast-out : tie.Need-cast-out
-cast-out c = search needs
+add-t7 : tie.Need-add-t7
+add-t7 c = search needs
 
 returns-2 : tie.Need-returns-2
 unfolding pushEach
 returns-2 c =
-    let a = c .before .before .args in
+    let a = (c .before .before .before .args) in
     let v = operandOf (a .value) in
-    let d = c .before .depth in
-    (push-turn (a .stack .list) (d .result) [] (pushEach (stackOf (a .stack)) (v ∷ [])) (record { 0 = a .value }) (omega arith) (omega arith) (ap (λ vs. pushEach vs (v ∷ [])) (sym (d .ensures .3))), λ r. absurd (r refl))
+    let ws = a .stack .now in
+    let d = (c .before .before .lesser) .result in
+    let w = (c .value-word) .result in (
+      record {
+        words = λ e. simp length-set e;
+        pushes = λ e. push-turn ws d [] (pushEach (stackIn ws (a .depth)) (v ∷ [])) w (omega arith) (omega arith) (ap (λ (u : Operand). pushEach (stackIn ws d) (u ∷ [])) ((c .value-word) .ensures .0) ∙ ap (λ vs. pushEach vs (v ∷ [])) (sym (stack-cut ws (a .depth) d e ((c .before .before .lesser) .ensures))));
+        depth = λ n. absurd (n refl);
+      },
+      λ n. absurd (n refl),
+    )
 
 pub push-spec : {M : Type 1} → statement M
 push-spec =
     tie.close
-    (tie.spec depth-requires returns mul-t8 element-set-from-out add-out cast-out returns-2)
+    (tie.spec
+    lesser-requires
+    returns
+    value-word-requires
+    mul-stack
+    element-write-stack
+    add-t7
+    returns-2)

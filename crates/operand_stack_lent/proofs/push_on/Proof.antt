@@ -39,21 +39,21 @@ use denote.Triple.Statement.{Contract, Triple}
 use denote.Triple.Table.{entered, cited}
 use denote.Triple.Walked.{says, Stays, stay-ref, stay-none, walkOf, AllGo, goes-none, goes-ref, Walks, ends-at, walked, walk-meets}
 use denote.Exit.{yes}
-use Rattle.abstract_state.specs.Models.{operandOf}
+use Rattle.abstract_state.specs.Models.{operandOf, halted}
 use Rattle.abstract_state.specs.declared.state.AbstractValue.{AbstractValue}
 use Rattle.abstract_state.specs.declared.state.Operands.{Operands}
 use Rattle.abstract_state.proofs.state.AbstractValue as Value
 use Rattle.abstract_state.proofs.state.AbstractValue.Laws as Value′
 use Rattle.abstract_state.proofs.state.Operands as T
 use Rattle.abstract_state.proofs.state.Operands.Laws as T′
-use Rattle.operand_stack.specs.Models.{stackOf, restOf, pushEach, Keeps}
-use Rattle.operand_stack.specs.declared.Rest.{Rest}
-use Rattle.operand_stack.proofs.Rest as R
-use Rattle.operand_stack.proofs.Rest.Laws as R′
-use Rattle.operand_stack.proofs.push as push
-use Rattle.operand_stack.proofs.push.Symbol as push-def
-use Rattle.operand_stack.proofs.push.Symbol.{name as #push}
-use Rattle.operand_stack.proofs.push.Met as push-thm
+use Rattle.operand_stack.specs.Models.{stackOf, pushEach, Keeps}
+use Rattle.operand_stack.specs.declared.value.Pushed.{Pushed}
+use Rattle.operand_stack.proofs.value.Pushed as R
+use Rattle.operand_stack.proofs.value.Pushed.Laws as R′
+use Rattle.operand_stack.proofs.value.push as push
+use Rattle.operand_stack.proofs.value.push.Symbol as push-def
+use Rattle.operand_stack.proofs.value.push.Symbol.{name as #push}
+use Rattle.operand_stack.proofs.value.push.Met as push-thm
 use Rattle.operand_stack_lent.proofs.push_on.Key.{name as #push-on}
 use Rattle.operand_stack_lent.proofs.push_on as push-on
 use Rattle.operand_stack_lent.proofs.push_on.Statement as stated
@@ -85,8 +85,8 @@ module _ {M : Type 1} (𝓤 : URA M) (H : Heap 𝓤) (A : Atoms 𝓤) (W : Given
   Post = walkOf 𝓤 H A push-on.ended stayed (push-on.clauses 𝓤 H A at-mem run) .post (((κ, tt), (q, tt), tt, x, at), tt)
 
   -- what `push` says of its answer
-  abbrev Said : Rest → Type 0
-  Said r = (restOf r ≡ pushEach (stackOf h) (operandOf v ∷ [])) × Keeps (r .refusal) h (r .stack)
+  abbrev Said : Pushed → Type 0
+  Said r = (halted 0 (r .refusal) (stackOf (r .stack)) ≡ pushEach (stackOf h) (operandOf v ∷ [])) × Keeps (r .refusal) h (r .stack)
 
   abbrev to-push : Push 𝓤 H A at-mem run .Ghost
   to-push = ((tt, tt, tt, (h, (v, tt)), (stack-val h ∷ [], (value-val v ∷ [], tt))), tt)
@@ -96,10 +96,10 @@ module _ {M : Type 1} (𝓤 : URA M) (H : Heap 𝓤) (A : Atoms 𝓤) (W : Given
       qed W [] ∵ nothing ! $ owned ! Value.the-row (Is Value.the-row) (EL.makes Value.the-type Value′.the-plain 𝓤 H A) v _ v-is $ fjoin ! $ owned ! T.the-row (Is T.the-row) (LL.makes T.the-type T′.the-plain 𝓤 H A) h _ h-is $ fjoin ! $
       nothing ! $ join ! $ frame ! $ done !
 
-  said : (r : Rest) → ent 𝓤 (ensured 𝓤 H A push.ended (push.clauses 𝓤 H A at-mem run) tt (h, (v, tt)) tt r) (fact 𝓤 (Said r))
+  said : (r : Pushed) → ent 𝓤 (ensured 𝓤 H A push.ended (push.clauses 𝓤 H A at-mem run) tt (h, (v, tt)) tt r) (fact 𝓤 (Said r))
   said r = exE 𝓤 _ (λ ws. snd∗ 𝓤 (sem 𝓤 H A (lasts push.ended tt (h, (v, tt)) ws)) (fact 𝓤 (Said r)))
 
-  exits : (r : Rest) → Said r → Is u8 (r .refusal) (vint w8 (r .refusal) ∷ []) → ent 𝓤 (sep 𝓤 (A .obs γ (T.the-row .coded .code (r .stack))) (sep 𝓤 (A .bor κ (Body (mem T.the-row) b o γ)) (A .lft κ q))) (Post (vint w8 (r .refusal)))
+  exits : (r : Pushed) → Said r → Is u8 (r .refusal) (vint w8 (r .refusal) ∷ []) → ent 𝓤 (sep 𝓤 (A .obs γ (T.the-row .coded .code (r .stack))) (sep 𝓤 (A .bor κ (Body (mem T.the-row) b o γ)) (A .lft κ q))) (Post (vint w8 (r .refusal)))
   exits r e is =
       qed W (‵ (fobs γ (T.the-row .coded .code (r .stack))) ∷ ‵ (fbor κ (Body (mem T.the-row) b o γ)) ∷ ‵ (flft κ q) ∷ []) ∵
       suffices ! _ (ends-at 𝓤 H A push-on.ended stayed (push-on.clauses 𝓤 H A at-mem run) W (((κ, tt), (q, tt), tt, x, at), tt) (vint w8 (r .refusal)) (r .refusal) (r .stack, (tt, tt)) (tt, (tt, tt))) $ says ! e $
@@ -120,7 +120,7 @@ module _ {M : Type 1} (𝓤 : URA M) (H : Heap 𝓤) (A : Atoms 𝓤) (W : Given
         assigns ! (of-opd ! (load ! (from ! (hop ! (look ! 10 refl) (stop !))) (look-raw ! 0 refl))) (from ! (stop !)) (init ! 4 refl (LL.lawful T.the-type T′.the-laws 𝓤 H A W .typed h _ h-is .0)) $
         use0 W (raw (Push 𝓤 H A at-mem run .pre to-push)) (asked h-is) $
         calls-at ! fm (Push 𝓤 H A at-mem run) known to-push (and-then ! (load ! (from ! (stop !)) (look ! 5 refl)) (and-then ! (load ! (from ! (stop !)) (look ! 9 refl)) (no-more !))) (λ u.
-        use1 W (later (some (λ (r : Rest). (‵ ftrue ⊛ ‵ (R.the-row .own r (u ∷ []))) ⊛ raw (ensured 𝓤 H A push.ended (push.clauses 𝓤 H A at-mem run) tt (h, (v, tt)) tt r)))) (id⊢ 𝓤 _) $ await ! tt $ pick ! (λ r.
+        use1 W (later (some (λ (r : Pushed). (‵ ftrue ⊛ ‵ (R.the-row .own r (u ∷ []))) ⊛ raw (ensured 𝓤 H A push.ended (push.clauses 𝓤 H A at-mem run) tt (h, (v, tt)) tt r)))) (id⊢ 𝓤 _) $ await ! tt $ pick ! (λ r.
         split ! $ move ! (1 ∷ []) $ use1 W (raw (fact 𝓤 (Said r))) (said r) $ heard ! (Said r) (λ e. split ! $ drop ! $
         facts ! R.the-row (Is R.the-row) (shows 𝓤 H A R.the-row) r (u ∷ []) (λ is.
         land ! (from ! (stop !)) (init ! 6 refl (LL.lawful R.the-type R′.the-laws 𝓤 H A W .typed r _ is .0)) $ rewrite ! 6 (λ (w : Val). ‵ (fat fullShare R′.mir l₃ 0 w)) (ap only (LL.tells R.the-type R′.the-laws r _ is)) refl $
@@ -151,4 +151,4 @@ push-on-spec 𝓤 H 𝓜 𝓖 𝓡 =
     entered 𝓤 H (tripleOf 𝓤 H (𝓖 .A) push-on.signature (push-on.spec 𝓤 H (𝓖 .A) (𝓜 .mem) (𝓡 .run)))
     (tables 𝓤 H 𝓜 𝓡 code.env .C) (tables 𝓤 H 𝓜 𝓡 code.env .Λ) #push-on code.function (code.unfolded 𝓤 H 𝓜 𝓡)
     (push-on-meets 𝓤 H (𝓖 .A) (givenOf 𝓤 H 𝓜 𝓖) (𝓜 .mem) (𝓡 .run) (tablesOf 𝓤 H 𝓜 (tables 𝓤 H 𝓜 𝓡 code.env))
-    (cited 𝓤 H (Push 𝓤 H (𝓖 .A) (𝓜 .mem) (𝓡 .run)) 𝓜 𝓡 code.env #push push-def.routine code.calls-operand-stack·push (push-thm.met 𝓤 H 𝓜 𝓖 𝓡)))
+    (cited 𝓤 H (Push 𝓤 H (𝓖 .A) (𝓜 .mem) (𝓡 .run)) 𝓜 𝓡 code.env #push push-def.routine code.calls-operand-stack·value·push (push-thm.met 𝓤 H 𝓜 𝓖 𝓡)))

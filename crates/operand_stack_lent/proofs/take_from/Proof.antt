@@ -35,17 +35,18 @@ use denote.Triple.Spec.{Meets, tripleOf}
 use denote.Triple.Statement.{Contract, Triple}
 use denote.Triple.Table.{entered, cited}
 use denote.Triple.Walked.{says, Stays, stay-ref, walkOf, goes-ref, Walks, ends-at, walked, walk-meets}
+use Rattle.abstract_state.specs.Models.{operandOf, halted}
 use Rattle.abstract_state.specs.declared.state.Operands.{Operands}
 use Rattle.abstract_state.proofs.state.Operands as T
 use Rattle.abstract_state.proofs.state.Operands.Laws as T′
-use Rattle.operand_stack.specs.Models.{stackOf, poppedOf, popOne, Keeps}
-use Rattle.operand_stack.specs.declared.Popped.{Popped}
-use Rattle.operand_stack.proofs.Popped as R
-use Rattle.operand_stack.proofs.Popped.Laws as R′
-use Rattle.operand_stack.proofs.pop as pop
-use Rattle.operand_stack.proofs.pop.Symbol as pop-def
-use Rattle.operand_stack.proofs.pop.Symbol.{name as #pop}
-use Rattle.operand_stack.proofs.pop.Met as pop-thm
+use Rattle.operand_stack.specs.Models.{stackOf, popOne, Keeps}
+use Rattle.operand_stack.specs.declared.value.TakenOff.{TakenOff}
+use Rattle.operand_stack.proofs.value.TakenOff as R
+use Rattle.operand_stack.proofs.value.TakenOff.Laws as R′
+use Rattle.operand_stack.proofs.value.pop as pop
+use Rattle.operand_stack.proofs.value.pop.Symbol as pop-def
+use Rattle.operand_stack.proofs.value.pop.Symbol.{name as #pop}
+use Rattle.operand_stack.proofs.value.pop.Met as pop-thm
 use Rattle.operand_stack_lent.specs.declared.Took.{Took}
 use Rattle.operand_stack_lent.proofs.Took as K
 use Rattle.operand_stack_lent.proofs.Took.Laws as K′
@@ -65,10 +66,10 @@ abbrev took-val : Took → Val
 took-val t = LL.val K.the-type K′.the-laws t
 
 -- the answer, of the one by value
-abbrev took : Popped → Took
+abbrev took : TakenOff → Took
 took r = record { refusal = r .refusal; value = r .value }
 
-took-is : (r : Popped) (u : Val) → Is R.the-row r (u ∷ []) → Is K.the-row (took r) (took-val (took r) ∷ [])
+took-is : (r : TakenOff) (u : Val) → Is R.the-row r (u ∷ []) → Is K.the-row (took r) (took-val (took r) ∷ [])
 took-is r u is = LL.owes K.the-type K′.the-laws (took r) (LL.owed R.the-type R′.the-laws r _ is .0, (LL.owed R.the-type R′.the-laws r _ is .1 .0, tt))
 
 module _ {M : Type 1} (𝓤 : URA M) (H : Heap 𝓤) (A : Atoms 𝓤) (mem : Memory → SProp 𝓤) (run : Routine → Fun 𝓤) where
@@ -87,8 +88,8 @@ module _ {M : Type 1} (𝓤 : URA M) (H : Heap 𝓤) (A : Atoms 𝓤) (W : Given
   Post = walkOf 𝓤 H A take-from.ended stayed (take-from.clauses 𝓤 H A at-mem run) .post (((κ, tt), (q, tt), tt, x, at), tt)
 
   -- what `pop` says of its answer
-  abbrev Said : Popped → Type 0
-  Said r = (poppedOf r ≡ popOne (stackOf h)) × Keeps (r .refusal) h (r .stack)
+  abbrev Said : TakenOff → Type 0
+  Said r = (halted 0 (r .refusal) (record { what = operandOf (r .value); rest = stackOf (r .stack) }) ≡ popOne (stackOf h)) × Keeps (r .refusal) h (r .stack)
 
   abbrev to-pop : Pop 𝓤 H A at-mem run .Ghost
   to-pop = ((tt, tt, tt, (h, tt), (stack-val h ∷ [], tt)), tt)
@@ -96,10 +97,10 @@ module _ {M : Type 1} (𝓤 : URA M) (H : Heap 𝓤) (A : Atoms 𝓤) (W : Given
   asked : Is T.the-row h (stack-val h ∷ []) → ent 𝓤 (emp 𝓤) (Pop 𝓤 H A at-mem run .pre to-pop)
   asked h-is = qed W [] ∵ nothing ! $ owned ! T.the-row (Is T.the-row) (LL.makes T.the-type T′.the-plain 𝓤 H A) h _ h-is $ fjoin ! $ nothing ! $ join ! $ frame ! $ done !
 
-  said : (r : Popped) → ent 𝓤 (ensured 𝓤 H A pop.ended (pop.clauses 𝓤 H A at-mem run) tt (h, tt) tt r) (fact 𝓤 (Said r))
+  said : (r : TakenOff) → ent 𝓤 (ensured 𝓤 H A pop.ended (pop.clauses 𝓤 H A at-mem run) tt (h, tt) tt r) (fact 𝓤 (Said r))
   said r = exE 𝓤 _ (λ ws. snd∗ 𝓤 (sem 𝓤 H A (lasts pop.ended tt (h, tt) ws)) (fact 𝓤 (Said r)))
 
-  exits : (r : Popped) → Said r → Is K.the-row (took r) (took-val (took r) ∷ []) → ent 𝓤 (sep 𝓤 (A .obs γ (T.the-row .coded .code (r .stack))) (sep 𝓤 (A .bor κ (Body (mem T.the-row) b o γ)) (A .lft κ q))) (Post (took-val (took r)))
+  exits : (r : TakenOff) → Said r → Is K.the-row (took r) (took-val (took r) ∷ []) → ent 𝓤 (sep 𝓤 (A .obs γ (T.the-row .coded .code (r .stack))) (sep 𝓤 (A .bor κ (Body (mem T.the-row) b o γ)) (A .lft κ q))) (Post (took-val (took r)))
   exits r e is =
       qed W (‵ (fobs γ (T.the-row .coded .code (r .stack))) ∷ ‵ (fbor κ (Body (mem T.the-row) b o γ)) ∷ ‵ (flft κ q) ∷ []) ∵
       suffices ! _ (ends-at 𝓤 H A take-from.ended stayed (take-from.clauses 𝓤 H A at-mem run) W (((κ, tt), (q, tt), tt, x, at), tt) (took-val (took r)) (took r) (r .stack, tt) (tt, tt)) $ says ! e $
@@ -119,7 +120,7 @@ module _ {M : Type 1} (𝓤 : URA M) (H : Heap 𝓤) (A : Atoms 𝓤) (W : Given
         assigns ! (of-opd ! (load ! (from ! (hop ! (look ! 8 refl) (stop !))) (look-raw ! 0 refl))) (from ! (stop !)) (init ! 4 refl (LL.lawful T.the-type T′.the-laws 𝓤 H A W .typed h _ h-is .0)) $
         use0 W (raw (Pop 𝓤 H A at-mem run .pre to-pop)) (asked h-is) $
         calls-at ! fm (Pop 𝓤 H A at-mem run) known to-pop (and-then ! (load ! (from ! (stop !)) (look ! 5 refl)) (no-more !)) (λ u.
-        use1 W (later (some (λ (r : Popped). (‵ ftrue ⊛ ‵ (R.the-row .own r (u ∷ []))) ⊛ raw (ensured 𝓤 H A pop.ended (pop.clauses 𝓤 H A at-mem run) tt (h, tt) tt r)))) (id⊢ 𝓤 _) $ await ! tt $ pick ! (λ r.
+        use1 W (later (some (λ (r : TakenOff). (‵ ftrue ⊛ ‵ (R.the-row .own r (u ∷ []))) ⊛ raw (ensured 𝓤 H A pop.ended (pop.clauses 𝓤 H A at-mem run) tt (h, tt) tt r)))) (id⊢ 𝓤 _) $ await ! tt $ pick ! (λ r.
         split ! $ move ! (1 ∷ []) $ use1 W (raw (fact 𝓤 (Said r))) (said r) $ heard ! (Said r) (λ e. split ! $ drop ! $
         facts ! R.the-row (Is R.the-row) (shows 𝓤 H A R.the-row) r (u ∷ []) (λ is.
         land ! (from ! (stop !)) (init ! 6 refl (LL.lawful R.the-type R′.the-laws 𝓤 H A W .typed r _ is .0)) $ rewrite ! 6 (λ (w : Val). ‵ (fat fullShare R′.mir l₂ 0 w)) (ap only (LL.tells R.the-type R′.the-laws r _ is)) refl $
@@ -147,4 +148,4 @@ take-from-spec 𝓤 H 𝓜 𝓖 𝓡 =
     entered 𝓤 H (tripleOf 𝓤 H (𝓖 .A) take-from.signature (take-from.spec 𝓤 H (𝓖 .A) (𝓜 .mem) (𝓡 .run)))
     (tables 𝓤 H 𝓜 𝓡 code.env .C) (tables 𝓤 H 𝓜 𝓡 code.env .Λ) #take-from code.function (code.unfolded 𝓤 H 𝓜 𝓡)
     (take-from-meets 𝓤 H (𝓖 .A) (givenOf 𝓤 H 𝓜 𝓖) (𝓜 .mem) (𝓡 .run) (tablesOf 𝓤 H 𝓜 (tables 𝓤 H 𝓜 𝓡 code.env))
-    (cited 𝓤 H (Pop 𝓤 H (𝓖 .A) (𝓜 .mem) (𝓡 .run)) 𝓜 𝓡 code.env #pop pop-def.routine code.calls-operand-stack·pop (pop-thm.met 𝓤 H 𝓜 𝓖 𝓡)))
+    (cited 𝓤 H (Pop 𝓤 H (𝓖 .A) (𝓜 .mem) (𝓡 .run)) 𝓜 𝓡 code.env #pop pop-def.routine code.calls-operand-stack·value·pop (pop-thm.met 𝓤 H 𝓜 𝓖 𝓡)))

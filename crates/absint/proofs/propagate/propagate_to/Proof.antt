@@ -1,46 +1,76 @@
-use mathlib.Core.Path.{refl, sym, ap, _∙_}
+use mathlib.Core.Path.{_≡_, refl, sym, ap, _∙_}
 use mathlib.Core.Bool.{Bool, cond}
 use mathlib.Core.Option.{Option, none, some}
-use Prim.Native.Nat.{_≤_, _<_}
+use Prim.Native.Nat.{ℕ, _≤_, _<_}
+use lib.ListN.{length}
 use borrow.Author.Tests.{le-leb, lt-leb}
-use Rattle.meaning.specs.AbstractState.{State}
+use Rattle.meaning.specs.AbstractState.{State, join, changed}
+use Rattle.meaning.specs.Area.{keptOf}
+use Rattle.meaning.specs.Answers.{ok, refuse}
 use Rattle.meaning.specs.EntryPoints.{Running}
 use Rattle.meaning.specs.Loop.{Next, at, stopped}
-use Rattle.borrow_graph.specs.ModelLaws.{told-yes, told-no}
+use Rattle.references.specs.ModelLaws.{told-yes, told-no}
 use Rattle.listing.specs.Models.{blockOf, blocksIn}
-use Rattle.abstract_state.specs.Models.{stateOf}
-use Rattle.abstract_state_join.specs.Models.{changedBy}
-use Rattle.absint.specs.Models.{statusesOf}
+use Rattle.abstract_state.specs.Models.{Words, words, Fits, stateOf}
+use Rattle.abstract_state_join.specs.Models.{Joins, changedBy}
+use Rattle.absint.specs.Models.{statusesOf, StartsFrom}
 use Rattle.absint.specs.PropagateLaws as H
-use Rattle.absint.specs.TurnLaws.{kept-root, loaded-root}
+use Rattle.absint.specs.TurnLaws.{kept-root}
 use native.Mathlib.Omega.{arith}
 use borrow.Author.Needs.{needs}
 use Rattle.absint.proofs.propagate.propagate_to.Statement.{statement}
 use Rattle.absint.proofs.propagate.propagate_to.Tie as tie
 
+-- ---- what is known of the successor's kept state, and of the join
+
+abbrev sent : tie.Start → Words
+sent s = words (s .args .locals .now) (s .args .names .now) (s .args .edges .now) (s .args .s)
+
+abbrev kept : (c : tie.After-start-from) → Words
+kept c = words (c .start-from .last .1 .1 .1 .0) (c .start-from .last .1 .1 .1 .1 .0) (c .start-from .last .1 .1 .1 .1 .1 .0) (c .start-from .result .state)
+
+begun : (c : tie.After-start-from) → StartsFrom (keptOf ((c .before .before .before .before .before .before .before .before .before .args) .s .«num_locals») ((c .before .before .before .before .before .before .before .before .before .args) .area .now) ((c .before .before .before .before .before .before .position-of) .result)) ((c .before .before .before .before .before .before .before .before .before .args) .s .«num_locals») (kept c .locals) (kept c .names) (kept c .edges) (c .start-from .result)
+begun c = c .start-from .ensures refl refl refl
+
+abbrev joined : (c : tie.After-join) → Words
+joined c = words (c .join .last .0) (c .join .last .1 .0) (c .join .last .1 .1 .0) (c .join .result .state)
+
+joins : (c : tie.After-join) → Joins (kept (c .before .before .before .before .before .before .before .before .before .before)) (sent (c .before .before .before .before .before .before .before .before .before .before .before .before .before .before .before .before .before .before .before)) (c .join .result .refusal) (joined c)
+joins c = c .join .ensures (begun (c .before .before .before .before .before .before .before .before .before .before) .fits) ((c .before .before .before .before .before .before .before .before .before .before .before .before .before .before .before .before .before .before .before .pre) .2) .0
+
+held : (c : tie.Then3) → keptOf ((c .before .before .before .before .before .before .before .before .before .before .args) .s .«num_locals») ((c .before .before .before .before .before .before .before .before .before .before .args) .area .now) ((c .before .before .before .before .before .before .before .position-of) .result) ≡ some (stateOf (kept (c .before)))
+held c = sym (begun (c .before) .kept) ∙ ap {B = Option State} (λ (b : Bool). cond b (some (stateOf (kept (c .before)))) none) (c .if3 .taken)
+
+answered : (c : tie.After-join) → c .join .result .refusal ≡ 0 → join (stateOf (kept (c .before .before .before .before .before .before .before .before .before .before))) (stateOf (sent (c .before .before .before .before .before .before .before .before .before .before .before .before .before .before .before .before .before .before .before))) ≡ ok (stateOf (joined c))
+answered c z = sym (joins c .answer) ∙ told-yes (c .join .result .refusal) (stateOf (joined c)) z
+
+told : (c : tie.After-join) → c .join .result .refusal ≡ 0 → c .join .result .changed ≡ changed (stateOf (kept (c .before .before .before .before .before .before .before .before .before .before))) (stateOf (joined c))
+told c z = c .join .ensures (begun (c .before .before .before .before .before .before .before .before .before .before) .fits) ((c .before .before .before .before .before .before .before .before .before .before .before .before .before .before .before .before .before .before .before .pre) .2) .1 ∙ ap (changedBy (stateOf (kept (c .before .before .before .before .before .before .before .before .before .before)))) (answered c z)
+
+rooted : (c : tie.After-join) → c .join .result .state .«num_locals» ≡ (c .before .before .before .before .before .before .before .before .before .before .before .before .before .before .before .before .before .before .before .args) .s .«num_locals»
+rooted c = ap (λ (r : Running). r .root) (joins c .rest) ∙ begun (c .before .before .before .before .before .before .before .before .before .before) .locals
+
 returns : tie.Need-returns
 returns c =
-    let if1 = c .if1 in
-    let args = c .before .before .args in
-    H.propagated-stopped (blocksIn (args .blocks) (args .n)) (args .locals) (blockOf (args .b)) (stateOf (args .s)) (args .e .0) (args .area .now) (args .t) (if1 .taken)
+    let s = (c .before .before) in
+    let a = (c .before .before .args) in
+    H.propagated-stopped (blocksIn (a .blocks) (a .n)) (a .s .«num_locals») (blockOf (a .b)) (stateOf (sent s)) (a .e .0) (a .area .now) (a .t) (c .if1 .taken)
 
 position-of-requires : tie.Need-position-of-requires
 position-of-requires c κs = search needs
 
 returns-2 : tie.Need-returns-2
 returns-2 c =
-    let if2 = c .if2 in
-    let position-of = c .before .position-of in
-    let if1 = c .before .before .if1 in
-    let args = c .before .before .before .before .args in
-    let pre = c .before .before .before .before .pre in
-    let count = position-of .ensures .1 in
-    let few : (args .n) ≤ 16 = pre .0 in
-    H.propagated-nowhere (blocksIn (args .blocks) (args .n)) (args .locals) (blockOf (args .b)) (stateOf (args .s)) (args .e .0) (args .area .now)
-    (args .t) (if1 .left) (let z : (args .n) ≤ (position-of .result) = if2 .taken in let y = position-of .ensures .0 in omega (arith, count, z, y))
+    let s = (c .before .before .before .before) in
+    let a = (c .before .before .before .before .args) in
+    let count = (c .before .position-of) .ensures .1 in
+    let y = (c .before .position-of) .ensures .0 in
+    let z : (a .n) ≤ ((c .before .position-of) .result) = c .if2 .taken in
+    H.propagated-nowhere (blocksIn (a .blocks) (a .n)) (a .s .«num_locals») (blockOf (a .b)) (stateOf (sent s)) (a .e .0) (a .area .now)
+    (a .t) ((c .before .before .if1) .left) (omega (arith, count, z, y))
 
-load-requires : tie.Need-load-requires
-load-requires c κs = search needs
+start-from-requires : tie.Need-start-from-requires
+start-from-requires c κs = search needs
 
 join-requires : tie.Need-join-requires
 join-requires c κs = search needs
@@ -53,31 +83,26 @@ same-length c = search needs
 
 returns-3 : tie.Need-returns-3
 returns-3 c =
+    let s = (c .before .before .before .before .before .before .before .before .before .before .before .before .before .before .before .before .before .before .before .before .before .before .before) in
+    let a = (c .before .before .before .before .before .before .before .before .before .before .before .before .before .before .before .before .before .before .before .before .before .before .before .args) in
+    let j = (c .before .before .before .before) in
     let stop = c .stop in
-    let if4 = c .before .before .if4 in
-    let join = c .before .before .before .before .join in
-    let if3 = c .before .before .before .before .before .before .if3 in
-    let load = c .before .before .before .before .before .before .before .load in
-    let if2 = c .before .before .before .before .before .before .before .before .before .if2 in
-    let position-of = c .before .before .before .before .before .before .before .before .before .before .position-of in
-    let if1 = c .before .before .before .before .before .before .before .before .before .before .before .if1 in
-    let args = c .before .before .before .before .before .before .before .before .before .before .before .before .before .args in
-    let pre = c .before .before .before .before .before .before .before .before .before .before .before .before .before .pre in
-    let count = position-of .ensures .1 in
-    let few : (args .n) ≤ 16 = pre .0 in
-    H.propagated-refused (blocksIn (args .blocks) (args .n)) (args .locals) (blockOf (args .b)) (stateOf (args .s)) (args .e .0) (args .area .now)
-    (args .t) (if1 .left) (position-of .result) (position-of .ensures .0)
-    (let z : (position-of .result) < (args .n) = if2 .left in omega (arith, count, z)) (omega (arith, count, few)) (pre .1) (stop .result)
-    (stop .ensures .3) (stateOf (load .result .state)) (join .result .refusal)
-    (sym (load .ensures .0) ∙ ap {B = Option State} (λ (b : Bool). cond b (some (stateOf (load .result .state))) none) (if3 .taken))
-    (sym (join .ensures .0 .answer) ∙ told-no (join .result .refusal) (stateOf (join .result .state)) (if4 .taken)) (stop .ensures .0)
-    (stop .ensures .1) (stop .ensures .2)
+    let count = (c .before .before .before .before .before .before .before .before .before .before .before .before .before .before .before .before .before .before .before .before .position-of) .ensures .1 in
+    let few : (a .n) ≤ 16 = (c .before .before .before .before .before .before .before .before .before .before .before .before .before .before .before .before .before .before .before .before .before .before .before .pre) .0 in
+    let z : ((c .before .before .before .before .before .before .before .before .before .before .before .before .before .before .before .before .before .before .before .before .position-of) .result) < (a .n) = (c .before .before .before .before .before .before .before .before .before .before .before .before .before .before .before .before .before .before .before .if2) .left in
+    H.propagated-refused (blocksIn (a .blocks) (a .n)) (a .s .«num_locals») (blockOf (a .b)) (stateOf (sent s)) (a .e .0) (a .area .now)
+    (a .t) ((c .before .before .before .before .before .before .before .before .before .before .before .before .before .before .before .before .before .before .before .before .before .if1) .left) ((c .before .before .before .before .before .before .before .before .before .before .before .before .before .before .before .before .before .before .before .before .position-of) .result) ((c .before .before .before .before .before .before .before .before .before .before .before .before .before .before .before .before .before .before .before .before .position-of) .ensures .0) (omega (arith, count, z)) (omega (arith, count, few)) ((c .before .before .before .before .before .before .before .before .before .before .before .before .before .before .before .before .before .before .before .before .before .before .before .pre) .1) (stop .result)
+    (stop .ensures .3) (stateOf (kept (c .before .before .before .before .before .before .before .before .before .before .before .before .before .before))) ((c .before .before .before .before .join) .result .refusal) (held (c .before .before .before .before .before .before .before .before .before .before .before .before .before))
+    (sym (joins j .answer) ∙ told-no ((c .before .before .before .before .join) .result .refusal) (stateOf (joined j)) ((c .before .before .if4) .taken)) (stop .ensures .0) (stop .ensures .1) (stop .ensures .2)
 
 store-requires : tie.Need-store-requires
 store-requires c κs = search needs
 
 clear-requires : tie.Need-clear-requires
-clear-requires c κs = search needs
+clear-requires c κs =
+    let few : ((c .before .before .before .before .before .before .before .before .before .before .before .before .before .before .before .before .before .before .before .before .before .before .before .before .before .before .before .before .before .before .args) .n) ≤ 16 = (c .before .before .before .before .before .before .before .before .before .before .before .before .before .before .before .before .before .before .before .before .before .before .before .before .before .before .before .before .before .before .pre) .0 in
+    let z : ((c .before .before .before .before .before .before .before .before .before .before .before .before .before .before .before .before .before .before .before .before .before .before .before .before .before .before .before .position-of) .result) < ((c .before .before .before .before .before .before .before .before .before .before .before .before .before .before .before .before .before .before .before .before .before .before .before .before .before .before .before .before .before .before .args) .n) = (c .before .before .before .before .before .before .before .before .before .before .before .before .before .before .before .before .before .before .before .before .before .before .before .before .before .before .if2) .left in
+    omega (arith, few, z)
 
 same-length-2 : tie.Need-same-length-2
 same-length-2 c = search needs
@@ -85,32 +110,22 @@ same-length-2 c = search needs
 returns-4 : tie.Need-returns-4
 unfolding statusesOf
 returns-4 c =
-    let if6 = c .if6 in
-    let clear = c .before .before .before .clear in
-    let store = c .before .before .before .before .before .before .store in
-    let if5 = c .before .before .before .before .before .before .before .before .before .if5 in
-    let if4 = c .before .before .before .before .before .before .before .before .before .before .if4 in
-    let join = c .before .before .before .before .before .before .before .before .before .before .before .before .join in
-    let if3 = c .before .before .before .before .before .before .before .before .before .before .before .before .before .before .if3 in
-    let load = c .before .before .before .before .before .before .before .before .before .before .before .before .before .before .before .load in
-    let if2 = c .before .before .before .before .before .before .before .before .before .before .before .before .before .before .before .before .before .if2 in
-    let position-of = c .before .before .before .before .before .before .before .before .before .before .before .before .before .before .before .before .before .before .position-of in
-    let if1 = c .before .before .before .before .before .before .before .before .before .before .before .before .before .before .before .before .before .before .before .if1 in
-    let args = c .before .before .before .before .before .before .before .before .before .before .before .before .before .before .before .before .before .before .before .before .before .args in
-    let pre = c .before .before .before .before .before .before .before .before .before .before .before .before .before .before .before .before .before .before .before .before .before .pre in
-    let count = position-of .ensures .1 in
-    let few : (args .n) ≤ 16 = pre .0 in
-    let off = H.not-stopped (clear .result) _ (clear .ensures .0 ∙ H.going (args .t) (if1 .left)) in
-    H.propagated-changed (blocksIn (args .blocks) (args .n)) (args .locals) (blockOf (args .b)) (stateOf (args .s)) (args .e .0) (args .area .now)
-    (args .t) (if1 .left) (position-of .result) (position-of .ensures .0)
-    (let z : (position-of .result) < (args .n) = if2 .left in omega (arith, count, z)) (omega (arith, count, few)) (pre .1) _ (clear .ensures .3)
-    (stateOf (load .result .state)) (stateOf (join .result .state)) (join .result .state .«num_locals») (store .last .0) (position-of .result)
-    (kept-root (join .result .state .«num_locals») (args .locals) (ap (λ (r : Running). r .root) (join .ensures .0 .rest) ∙ loaded-root (load .result .state) _ (load .ensures .1)))
-    (sym (load .ensures .0) ∙ ap {B = Option State} (λ (b : Bool). cond b (some (stateOf (load .result .state))) none) (if3 .taken))
-    (sym (join .ensures .0 .answer) ∙ told-yes (join .result .refusal) (stateOf (join .result .state)) (if4 .left))
-    (sym (ap (changedBy (stateOf (load .result .state))) (sym (join .ensures .0 .answer) ∙ told-yes (join .result .refusal) (stateOf (join .result .state)) (if4 .left))) ∙ sym (join .ensures .1) ∙ if5 .taken)
-    (store .ensures) (rw (le-leb _ _ (if6 .taken)) refl)
-    (ap {B = Next} (λ (b : Bool). cond b (stopped (clear .result .number) (clear .result .place .0)) (at (position-of .result))) off)
+    let s = (c .before .before .before .before .before .before .before .before .before .before .before .before .before .before .before .before .before .before .before .before .before .before .before .before .before .before .before .before .before .before .before .before .before .before) in
+    let a = (c .before .before .before .before .before .before .before .before .before .before .before .before .before .before .before .before .before .before .before .before .before .before .before .before .before .before .before .before .before .before .before .before .before .before .args) in
+    let j = (c .before .before .before .before .before .before .before .before .before .before .before .before .before .before .before) in
+    let clear = (c .before .before .before .clear) in
+    let store = (c .before .before .before .before .before .before .store) in
+    let count = (c .before .before .before .before .before .before .before .before .before .before .before .before .before .before .before .before .before .before .before .before .before .before .before .before .before .before .before .before .before .before .before .position-of) .ensures .1 in
+    let few : (a .n) ≤ 16 = (c .before .before .before .before .before .before .before .before .before .before .before .before .before .before .before .before .before .before .before .before .before .before .before .before .before .before .before .before .before .before .before .before .before .before .pre) .0 in
+    let z : ((c .before .before .before .before .before .before .before .before .before .before .before .before .before .before .before .before .before .before .before .before .before .before .before .before .before .before .before .before .before .before .before .position-of) .result) < (a .n) = (c .before .before .before .before .before .before .before .before .before .before .before .before .before .before .before .before .before .before .before .before .before .before .before .before .before .before .before .before .before .before .if2) .left in
+    let f = joins j .fits in
+    let off = H.not-stopped (clear .result) _ (clear .ensures .0 ∙ H.going (a .t) ((c .before .before .before .before .before .before .before .before .before .before .before .before .before .before .before .before .before .before .before .before .before .before .before .before .before .before .before .before .before .before .before .before .if1) .left)) in
+    H.propagated-changed (blocksIn (a .blocks) (a .n)) (a .s .«num_locals») (blockOf (a .b)) (stateOf (sent s)) (a .e .0) (a .area .now)
+    (a .t) ((c .before .before .before .before .before .before .before .before .before .before .before .before .before .before .before .before .before .before .before .before .before .before .before .before .before .before .before .before .before .before .before .before .if1) .left) ((c .before .before .before .before .before .before .before .before .before .before .before .before .before .before .before .before .before .before .before .before .before .before .before .before .before .before .before .before .before .before .before .position-of) .result) ((c .before .before .before .before .before .before .before .before .before .before .before .before .before .before .before .before .before .before .before .before .before .before .before .before .before .before .before .before .before .before .before .position-of) .ensures .0) (omega (arith, count, z)) (omega (arith, count, few)) ((c .before .before .before .before .before .before .before .before .before .before .before .before .before .before .before .before .before .before .before .before .before .before .before .before .before .before .before .before .before .before .before .before .before .before .pre) .1) _ (clear .ensures .3)
+    (stateOf (kept (c .before .before .before .before .before .before .before .before .before .before .before .before .before .before .before .before .before .before .before .before .before .before .before .before .before))) (stateOf (joined j)) ((c .before .before .before .before .before .before .before .before .before .before .before .before .before .before .before .join) .result .state .«num_locals») (store .last .0) ((c .before .before .before .before .before .before .before .before .before .before .before .before .before .before .before .before .before .before .before .before .before .before .before .before .before .before .before .before .before .before .before .position-of) .result)
+    (kept-root ((c .before .before .before .before .before .before .before .before .before .before .before .before .before .before .before .join) .result .state .«num_locals») (a .s .«num_locals») (rooted j)) (held (c .before .before .before .before .before .before .before .before .before .before .before .before .before .before .before .before .before .before .before .before .before .before .before .before)) (answered j ((c .before .before .before .before .before .before .before .before .before .before .before .before .before .if4) .left)) (sym (told j ((c .before .before .before .before .before .before .before .before .before .before .before .before .before .if4) .left)) ∙ (c .before .before .before .before .before .before .before .before .before .before .before .before .if5) .taken)
+    (store .ensures (f .locals) (f .tells .words) (f .tells .rows)) (rw (le-leb _ _ (c .if6 .taken)) refl)
+    (ap {B = Next} (λ (b : Bool). cond b (stopped (clear .result .number) (clear .result .place .0)) (at ((c .before .before .before .before .before .before .before .before .before .before .before .before .before .before .before .before .before .before .before .before .before .before .before .before .before .before .before .before .before .before .before .position-of) .result))) off)
     (clear .ensures .1) (record { visits = clear .ensures .2 .visits; turns = clear .ensures .2 .turns })
 
 same-length-3 : tie.Need-same-length-3
@@ -118,56 +133,35 @@ same-length-3 c = search needs
 
 returns-5 : tie.Need-returns-5
 returns-5 c =
-    let if6 = c .if6 in
-    let clear = c .before .before .before .clear in
-    let store = c .before .before .before .before .before .before .store in
-    let if5 = c .before .before .before .before .before .before .before .before .before .if5 in
-    let if4 = c .before .before .before .before .before .before .before .before .before .before .if4 in
-    let join = c .before .before .before .before .before .before .before .before .before .before .before .before .join in
-    let if3 = c .before .before .before .before .before .before .before .before .before .before .before .before .before .before .if3 in
-    let load = c .before .before .before .before .before .before .before .before .before .before .before .before .before .before .before .load in
-    let if2 = c .before .before .before .before .before .before .before .before .before .before .before .before .before .before .before .before .before .if2 in
-    let position-of = c .before .before .before .before .before .before .before .before .before .before .before .before .before .before .before .before .before .before .position-of in
-    let if1 = c .before .before .before .before .before .before .before .before .before .before .before .before .before .before .before .before .before .before .before .if1 in
-    let args = c .before .before .before .before .before .before .before .before .before .before .before .before .before .before .before .before .before .before .before .before .before .args in
-    let pre = c .before .before .before .before .before .before .before .before .before .before .before .before .before .before .before .before .before .before .before .before .before .pre in
-    let count = position-of .ensures .1 in
-    let few : (args .n) ≤ 16 = pre .0 in
-    H.propagated-changed (blocksIn (args .blocks) (args .n)) (args .locals) (blockOf (args .b)) (stateOf (args .s)) (args .e .0) (args .area .now)
-    (args .t) (if1 .left) (position-of .result) (position-of .ensures .0)
-    (let z : (position-of .result) < (args .n) = if2 .left in omega (arith, count, z)) (omega (arith, count, few)) (pre .1) (clear .result)
-    (clear .ensures .3) (stateOf (load .result .state)) (stateOf (join .result .state)) (join .result .state .«num_locals») (store .last .0)
-    (args .t .next)
-    (kept-root (join .result .state .«num_locals») (args .locals) (ap (λ (r : Running). r .root) (join .ensures .0 .rest) ∙ loaded-root (load .result .state) _ (load .ensures .1)))
-    (sym (load .ensures .0) ∙ ap {B = Option State} (λ (b : Bool). cond b (some (stateOf (load .result .state))) none) (if3 .taken))
-    (sym (join .ensures .0 .answer) ∙ told-yes (join .result .refusal) (stateOf (join .result .state)) (if4 .left))
-    (sym (ap (changedBy (stateOf (load .result .state))) (sym (join .ensures .0 .answer) ∙ told-yes (join .result .refusal) (stateOf (join .result .state)) (if4 .left))) ∙ sym (join .ensures .1) ∙ if5 .taken)
-    (store .ensures) (rw (lt-leb _ _ (if6 .left)) refl) (clear .ensures .0 ∙ H.going (args .t) (if1 .left)) (clear .ensures .1) (clear .ensures .2)
+    let s = (c .before .before .before .before .before .before .before .before .before .before .before .before .before .before .before .before .before .before .before .before .before .before .before .before .before .before .before .before .before .before .before .before .before .before) in
+    let a = (c .before .before .before .before .before .before .before .before .before .before .before .before .before .before .before .before .before .before .before .before .before .before .before .before .before .before .before .before .before .before .before .before .before .before .args) in
+    let j = (c .before .before .before .before .before .before .before .before .before .before .before .before .before .before .before) in
+    let clear = (c .before .before .before .clear) in
+    let store = (c .before .before .before .before .before .before .store) in
+    let count = (c .before .before .before .before .before .before .before .before .before .before .before .before .before .before .before .before .before .before .before .before .before .before .before .before .before .before .before .before .before .before .before .position-of) .ensures .1 in
+    let few : (a .n) ≤ 16 = (c .before .before .before .before .before .before .before .before .before .before .before .before .before .before .before .before .before .before .before .before .before .before .before .before .before .before .before .before .before .before .before .before .before .before .pre) .0 in
+    let z : ((c .before .before .before .before .before .before .before .before .before .before .before .before .before .before .before .before .before .before .before .before .before .before .before .before .before .before .before .before .before .before .before .position-of) .result) < (a .n) = (c .before .before .before .before .before .before .before .before .before .before .before .before .before .before .before .before .before .before .before .before .before .before .before .before .before .before .before .before .before .before .if2) .left in
+    let f = joins j .fits in
+    H.propagated-changed (blocksIn (a .blocks) (a .n)) (a .s .«num_locals») (blockOf (a .b)) (stateOf (sent s)) (a .e .0) (a .area .now)
+    (a .t) ((c .before .before .before .before .before .before .before .before .before .before .before .before .before .before .before .before .before .before .before .before .before .before .before .before .before .before .before .before .before .before .before .before .if1) .left) ((c .before .before .before .before .before .before .before .before .before .before .before .before .before .before .before .before .before .before .before .before .before .before .before .before .before .before .before .before .before .before .before .position-of) .result) ((c .before .before .before .before .before .before .before .before .before .before .before .before .before .before .before .before .before .before .before .before .before .before .before .before .before .before .before .before .before .before .before .position-of) .ensures .0) (omega (arith, count, z)) (omega (arith, count, few)) ((c .before .before .before .before .before .before .before .before .before .before .before .before .before .before .before .before .before .before .before .before .before .before .before .before .before .before .before .before .before .before .before .before .before .before .pre) .1) (clear .result) (clear .ensures .3)
+    (stateOf (kept (c .before .before .before .before .before .before .before .before .before .before .before .before .before .before .before .before .before .before .before .before .before .before .before .before .before))) (stateOf (joined j)) ((c .before .before .before .before .before .before .before .before .before .before .before .before .before .before .before .join) .result .state .«num_locals») (store .last .0) (a .t .next)
+    (kept-root ((c .before .before .before .before .before .before .before .before .before .before .before .before .before .before .before .join) .result .state .«num_locals») (a .s .«num_locals») (rooted j)) (held (c .before .before .before .before .before .before .before .before .before .before .before .before .before .before .before .before .before .before .before .before .before .before .before .before)) (answered j ((c .before .before .before .before .before .before .before .before .before .before .before .before .before .if4) .left)) (sym (told j ((c .before .before .before .before .before .before .before .before .before .before .before .before .before .if4) .left)) ∙ (c .before .before .before .before .before .before .before .before .before .before .before .before .if5) .taken)
+    (store .ensures (f .locals) (f .tells .words) (f .tells .rows)) (rw (lt-leb _ _ (c .if6 .left)) refl) (clear .ensures .0 ∙ H.going (a .t) ((c .before .before .before .before .before .before .before .before .before .before .before .before .before .before .before .before .before .before .before .before .before .before .before .before .before .before .before .before .before .before .before .before .if1) .left)) (clear .ensures .1) (clear .ensures .2)
 
 same-length-4 : tie.Need-same-length-4
 same-length-4 c = search needs
 
 returns-6 : tie.Need-returns-6
 returns-6 c =
-    let if5 = c .if5 in
-    let if4 = c .before .if4 in
-    let join = c .before .before .before .join in
-    let if3 = c .before .before .before .before .before .if3 in
-    let load = c .before .before .before .before .before .before .load in
-    let if2 = c .before .before .before .before .before .before .before .before .if2 in
-    let position-of = c .before .before .before .before .before .before .before .before .before .position-of in
-    let if1 = c .before .before .before .before .before .before .before .before .before .before .if1 in
-    let args = c .before .before .before .before .before .before .before .before .before .before .before .before .args in
-    let pre = c .before .before .before .before .before .before .before .before .before .before .before .before .pre in
-    let count = position-of .ensures .1 in
-    let few : (args .n) ≤ 16 = pre .0 in
-    H.propagated-same (blocksIn (args .blocks) (args .n)) (args .locals) (blockOf (args .b)) (stateOf (args .s)) (args .e .0) (args .area .now)
-    (args .t) (if1 .left) (position-of .result) (position-of .ensures .0)
-    (let z : (position-of .result) < (args .n) = if2 .left in omega (arith, count, z)) (omega (arith, count, few)) (pre .1)
-    (stateOf (load .result .state)) (stateOf (join .result .state))
-    (sym (load .ensures .0) ∙ ap {B = Option State} (λ (b : Bool). cond b (some (stateOf (load .result .state))) none) (if3 .taken))
-    (sym (join .ensures .0 .answer) ∙ told-yes (join .result .refusal) (stateOf (join .result .state)) (if4 .left))
-    (sym (ap (changedBy (stateOf (load .result .state))) (sym (join .ensures .0 .answer) ∙ told-yes (join .result .refusal) (stateOf (join .result .state)) (if4 .left))) ∙ sym (join .ensures .1) ∙ if5 .left)
+    let s = (c .before .before .before .before .before .before .before .before .before .before .before .before .before .before .before .before .before .before .before .before .before .before) in
+    let a = (c .before .before .before .before .before .before .before .before .before .before .before .before .before .before .before .before .before .before .before .before .before .before .args) in
+    let j = (c .before .before .before) in
+    let count = (c .before .before .before .before .before .before .before .before .before .before .before .before .before .before .before .before .before .before .before .position-of) .ensures .1 in
+    let few : (a .n) ≤ 16 = (c .before .before .before .before .before .before .before .before .before .before .before .before .before .before .before .before .before .before .before .before .before .before .pre) .0 in
+    let z : ((c .before .before .before .before .before .before .before .before .before .before .before .before .before .before .before .before .before .before .before .position-of) .result) < (a .n) = (c .before .before .before .before .before .before .before .before .before .before .before .before .before .before .before .before .before .before .if2) .left in
+    H.propagated-same (blocksIn (a .blocks) (a .n)) (a .s .«num_locals») (blockOf (a .b)) (stateOf (sent s)) (a .e .0) (a .area .now)
+    (a .t) ((c .before .before .before .before .before .before .before .before .before .before .before .before .before .before .before .before .before .before .before .before .if1) .left) ((c .before .before .before .before .before .before .before .before .before .before .before .before .before .before .before .before .before .before .before .position-of) .result) ((c .before .before .before .before .before .before .before .before .before .before .before .before .before .before .before .before .before .before .before .position-of) .ensures .0) (omega (arith, count, z)) (omega (arith, count, few)) ((c .before .before .before .before .before .before .before .before .before .before .before .before .before .before .before .before .before .before .before .before .before .before .pre) .1)
+    (stateOf (kept (c .before .before .before .before .before .before .before .before .before .before .before .before .before))) (stateOf (joined j)) (held (c .before .before .before .before .before .before .before .before .before .before .before .before)) (answered j ((c .before .if4) .left)) (sym (told j ((c .before .if4) .left)) ∙ c .if5 .left)
 
 store-requires-2 : tie.Need-store-requires-2
 store-requires-2 c κs = search needs
@@ -180,22 +174,18 @@ same-length-5 c = search needs
 
 returns-7 : tie.Need-returns-7
 returns-7 c =
+    let s = (c .before .before .before .before .before .before .before .before .before .before .before .before .before .before .before) in
+    let a = (c .before .before .before .before .before .before .before .before .before .before .before .before .before .before .before .args) in
     let clear2 = c .clear2 in
-    let store2 = c .before .before .before .store2 in
-    let if3 = c .before .before .before .before .before .if3 in
-    let load = c .before .before .before .before .before .before .load in
-    let if2 = c .before .before .before .before .before .before .before .before .if2 in
-    let position-of = c .before .before .before .before .before .before .before .before .before .position-of in
-    let if1 = c .before .before .before .before .before .before .before .before .before .before .if1 in
-    let args = c .before .before .before .before .before .before .before .before .before .before .before .before .args in
-    let pre = c .before .before .before .before .before .before .before .before .before .before .before .before .pre in
-    let count = position-of .ensures .1 in
-    let few : (args .n) ≤ 16 = pre .0 in
-    H.propagated-fresh (blocksIn (args .blocks) (args .n)) (args .locals) (blockOf (args .b)) (stateOf (args .s)) (args .e .0) (args .area .now)
-    (args .t) (if1 .left) (position-of .result) (position-of .ensures .0)
-    (let z : (position-of .result) < (args .n) = if2 .left in omega (arith, count, z)) (omega (arith, count, few)) (pre .1) (clear2 .result)
-    (clear2 .ensures .3) (args .s .«num_locals») (store2 .last .0) (pre .2)
-    (sym (load .ensures .0) ∙ ap {B = Option State} (λ (b : Bool). cond b (some (stateOf (load .result .state))) none) (if3 .left)) (store2 .ensures)
+    let store2 = (c .before .before .before .store2) in
+    let count = (c .before .before .before .before .before .before .before .before .before .before .before .before .position-of) .ensures .1 in
+    let few : (a .n) ≤ 16 = (c .before .before .before .before .before .before .before .before .before .before .before .before .before .before .before .pre) .0 in
+    let z : ((c .before .before .before .before .before .before .before .before .before .before .before .before .position-of) .result) < (a .n) = (c .before .before .before .before .before .before .before .before .before .before .before .if2) .left in
+    let f = (c .before .before .before .before .before .before .before .before .before .before .before .before .before .before .before .pre) .2 in
+    H.propagated-fresh (blocksIn (a .blocks) (a .n)) (a .s .«num_locals») (blockOf (a .b)) (stateOf (sent s)) (a .e .0) (a .area .now)
+    (a .t) ((c .before .before .before .before .before .before .before .before .before .before .before .before .before .if1) .left) ((c .before .before .before .before .before .before .before .before .before .before .before .before .position-of) .result) ((c .before .before .before .before .before .before .before .before .before .before .before .before .position-of) .ensures .0) (omega (arith, count, z)) (omega (arith, count, few)) ((c .before .before .before .before .before .before .before .before .before .before .before .before .before .before .before .pre) .1) (clear2 .result)
+    (clear2 .ensures .3) (a .s .«num_locals») (store2 .last .0) (λ us i. refl)
+    (sym (begun (c .before .before .before .before .before .before) .kept) ∙ ap {B = Option State} (λ (b : Bool). cond b (some (stateOf (kept (c .before .before .before .before .before .before)))) none) ((c .before .before .before .before .before .if3) .left)) (store2 .ensures (f .locals) (f .tells .words) (f .tells .rows))
     (clear2 .ensures .0) (clear2 .ensures .1) (clear2 .ensures .2)
 
 pub propagate-to-spec : {M : Type 1} → statement M
@@ -205,7 +195,7 @@ propagate-to-spec =
     returns
     position-of-requires
     returns-2
-    load-requires
+    start-from-requires
     join-requires
     stop-requires
     same-length

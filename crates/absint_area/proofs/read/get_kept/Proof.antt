@@ -1,12 +1,11 @@
-use Rattle.meaning.specs.Laws.Area.{kept-read}
-use Rattle.meaning.specs.AbstractState.{State}
-use Rattle.absint_area.specs.ModelLaws.{state-parts}
-use mathlib.Core.Bool.{not, cond}
-use mathlib.Core.Option.{none, some}
-use mathlib.Core.Path.{ap, _∙_}
+use mathlib.Core.Bool.{not}
+use mathlib.Core.Path.{_∙_}
 use Prim.Native.Nat.{_+_, _/_}
 use lib.Dec.{eqb}
 use lib.ListN.{getD}
+use Rattle.meaning.specs.Area.{localIn, nameIn, edgeIn, wordAt, wordsFrom}
+use Rattle.meaning.specs.Laws.Area.{kept-read}
+use Rattle.absint_area.specs.ModelLaws.{state-filled}
 use native.Mathlib.Omega.{arith}
 use borrow.Author.Needs.{needs}
 use Rattle.absint_area.proofs.read.get_kept.Statement.{statement}
@@ -18,6 +17,9 @@ mul-w c = search needs
 shared-slice-read-w : tie.Need-shared-slice-read-w
 shared-slice-read-w c = search needs
 
+lesser-requires : tie.Need-lesser-requires
+lesser-requires c κs = search needs
+
 add-lesser : tie.Need-add-lesser
 add-lesser c = search needs
 
@@ -28,10 +30,10 @@ shared-slice-read-lesser : tie.Need-shared-slice-read-lesser
 shared-slice-read-lesser c = search needs
 
 cast-lesser : tie.Need-cast-lesser
-cast-lesser c = omega (arith, c .shared-slice-known3 .given (c .before .before .before .args .at + 1))
+cast-lesser c = omega (arith, (c .shared-slice-known3) .given ((c .before .before .before .before .args) .at + 1))
 
-lesser-requires : tie.Need-lesser-requires
-lesser-requires c κs = search needs
+lesser-requires-2 : tie.Need-lesser-requires-2
+lesser-requires-2 c κs = search needs
 
 add-lesser-2 : tie.Need-add-lesser-2
 add-lesser-2 c = search needs
@@ -43,10 +45,10 @@ shared-slice-read-lesser-2 : tie.Need-shared-slice-read-lesser-2
 shared-slice-read-lesser-2 c = search needs
 
 cast-lesser-2 : tie.Need-cast-lesser-2
-cast-lesser-2 c = omega (arith, c .shared-slice-known4 .given (c .before .before .before .before .before .args .at + 2))
+cast-lesser-2 c = omega (arith, (c .shared-slice-known4) .given ((c .before .before .before .before .before .before .args) .at + 2))
 
-lesser-requires-2 : tie.Need-lesser-requires-2
-lesser-requires-2 c κs = search needs
+lesser-requires-3 : tie.Need-lesser-requires-3
+lesser-requires-3 c κs = search needs
 
 get-locals-requires : tie.Need-get-locals-requires
 get-locals-requires c κs = search needs
@@ -57,28 +59,32 @@ add-get-refs c = search needs
 get-refs-requires : tie.Need-get-refs-requires
 get-refs-requires c κs = search needs
 
-add-get-graph : tie.Need-add-get-graph
-add-get-graph c = search needs
+add-get-edges : tie.Need-add-get-edges
+add-get-edges c = search needs
 
-get-graph-requires : tie.Need-get-graph-requires
-get-graph-requires c κs = search needs
-
-state-at-requires : tie.Need-state-at-requires
-state-at-requires c κs = search needs
+get-edges-requires : tie.Need-get-edges-requires
+get-edges-requires c κs = search needs
 
 returns : tie.Need-returns
 returns c =
-    let get-graph = c .before .get-graph in
-    let get-refs = c .before .before .get-refs in
-    let get-locals = c .before .before .before .get-locals in
-    let lesser2 = c .before .before .before .before .lesser2 in
-    let lesser = c .before .before .before .before .before .before .lesser in
-    let args = c .before .before .before .before .before .before .before .before .before .before .args in
+    let get-edges = (c .get-edges) in
+    let get-refs = (c .before .before .get-refs) in
+    let get-locals = (c .before .before .before .before .get-locals) in
+    let lesser3 = (c .before .before .before .before .before .before .lesser3) in
+    let lesser2 = (c .before .before .before .before .before .before .before .before .lesser2) in
+    let lesser = (c .before .before .before .before .before .before .before .before .before .before .lesser) in
+    let args = (c .before .before .before .before .before .before .before .before .before .before .before .before .before .args) in
     let ws = args .ws .now in (
-      ap (λ (x : State). cond (not (eqb (getD ws (args .at) 0 / 262144) 0)) (some x) none)
-          (state-parts (c .state-at .ensures .0) (get-locals .ensures) (get-graph .ensures) (get-refs .ensures))
-          ∙ kept-read (args .num-locals) (args .at) (lesser .result) (lesser2 .result) ws (lesser .ensures) (lesser2 .ensures),
-      c .state-at .ensures .1,
+      omega arith,
+      omega arith,
+      λ hl hn he. (
+        state-filled (not (eqb (getD ws (args .at) 0 / 262144) 0)) _ _ _ _ _ _ (args .num-locals) (lesser .result) (lesser2 .result) (lesser3 .result)
+            (lesser .ensures) (omega arith) (omega arith) (get-locals .ensures hl) (get-refs .ensures hn) (get-edges .ensures he)
+            ∙ kept-read (args .num-locals) (args .at) (lesser2 .result) (lesser3 .result) ws (lesser2 .ensures) (lesser3 .ensures),
+        get-locals .ensures hl .size,
+        get-refs .ensures hn .size,
+        get-edges .ensures he .size,
+      ),
     )
 
 pub get-kept-spec : {M : Type 1} → statement M
@@ -87,20 +93,20 @@ get-kept-spec =
     (tie.spec
     mul-w
     shared-slice-read-w
+    lesser-requires
     add-lesser
     mul-lesser
     shared-slice-read-lesser
     cast-lesser
-    lesser-requires
+    lesser-requires-2
     add-lesser-2
     mul-lesser-2
     shared-slice-read-lesser-2
     cast-lesser-2
-    lesser-requires-2
+    lesser-requires-3
     get-locals-requires
     add-get-refs
     get-refs-requires
-    add-get-graph
-    get-graph-requires
-    state-at-requires
+    add-get-edges
+    get-edges-requires
     returns)

@@ -1,43 +1,37 @@
+use Prim.Native.Nat.{_-_, _≤_}
+use mathlib.Core.Path.{_≡_, refl}
+use lib.ListN.{length}
 use Rattle.meaning.specs.Area.{localIn, wordsFrom}
 use Rattle.meaning.specs.Laws.Area.{Filled, filled-none, filled-one}
-use Rattle.abstract_state.specs.Models.{localOf}
-use Rattle.absint_area.specs.ModelLaws.{past-local, locals-filled}
-use mathlib.Core.Path.{_≡_, refl}
-use Prim.Native.Nat.{_-_, _≤_, min}
+use Rattle.absint_area.specs.ModelLaws.{filled-all}
 use native.Mathlib.Omega.{arith}
 use borrow.Author.Needs.{needs}
 use Rattle.absint_area.proofs.read.get_locals.Statement.{statement}
 use Rattle.absint_area.proofs.read.get_locals.Tie as tie
 
 abbrev Inv-loop : tie.InvT-loop
-Inv-loop ws at num-locals n out₀ i₀ out i = (i ≤ n) × (n ≡ min num-locals 16) × Filled localOf past-local (λ j. localIn (wordsFrom ws at j)) 16 i out
+Inv-loop ws at n locals₀ i₀ locals i = (i ≤ n) × (length locals₀ ≡ 16 → Filled localIn 0 (λ j. localIn (wordsFrom ws at j)) 16 i locals)
 
 abbrev μ-loop : tie.MeasureT-loop
-μ-loop ws at num-locals n out₀ i₀ out i = n - i
-
-lesser-requires : tie.Need-lesser-requires Inv-loop μ-loop
-lesser-requires c κs = search needs
+μ-loop ws at n locals₀ i₀ locals i = n - i
 
 loop-holds : tie.Need-loop-holds Inv-loop μ-loop
-loop-holds c = (omega arith, c .lesser .ensures, filled-none _ _ _ _ _ refl)
+loop-holds c = (omega arith, λ h. filled-none _ _ _ _ _ h)
 
-add-w : tie.Need-add-w Inv-loop μ-loop
-add-w c = omega arith
+add-locals : tie.Need-add-locals Inv-loop μ-loop
+add-locals c = omega arith
 
-mul-w : tie.Need-mul-w Inv-loop μ-loop
-mul-w c = omega arith
+mul-locals : tie.Need-mul-locals Inv-loop μ-loop
+mul-locals c = omega arith
 
-shared-slice-read-w : tie.Need-shared-slice-read-w Inv-loop μ-loop
-shared-slice-read-w c = omega arith
+shared-slice-read-locals : tie.Need-shared-slice-read-locals Inv-loop μ-loop
+shared-slice-read-locals c = omega arith
 
-get-local-requires : tie.Need-get-local-requires Inv-loop μ-loop
-get-local-requires c κs = search needs
+mul-locals-2 : tie.Need-mul-locals-2 Inv-loop μ-loop
+mul-locals-2 c = omega arith
 
-mul-out : tie.Need-mul-out Inv-loop μ-loop
-mul-out c = omega arith
-
-array-set-from-out : tie.Need-array-set-from-out Inv-loop μ-loop
-array-set-from-out c = omega (arith, c .before .before .before .loop .inv .2 .size)
+element-write-locals : tie.Need-element-write-locals Inv-loop μ-loop
+element-write-locals c = omega arith
 
 add-i : tie.Need-add-i Inv-loop μ-loop
 add-i c = omega arith
@@ -46,10 +40,10 @@ loop-less : tie.Need-loop-less Inv-loop μ-loop
 loop-less c = omega arith
 
 loop-again : tie.Need-loop-again Inv-loop μ-loop
-loop-again c = (omega arith, c .before .before .before .loop .inv .1, filled-one _ _ _ _ (c .before .before .before .loop .i) _ (c .before .before .before .loop .out) (omega arith) (c .get-local .ensures) (c .before .before .before .loop .inv .2))
+loop-again c = (omega arith, λ h. filled-one _ _ _ _ ((c .before .before .loop) .i) _ ((c .before .before .loop) .locals) (omega arith) refl ((c .before .before .loop) .inv .1 h))
 
 returns : tie.Need-returns Inv-loop μ-loop
-returns c = locals-filled _ (c .before .loop .out) _ (c .before .loop .i) (omega (arith, c .before .loop .inv .1)) (c .before .loop .inv .2)
+returns c = λ h. filled-all _ _ _ _ ((c .before .loop) .i) _ _ (omega arith) ((c .before .loop) .inv .1 h)
 
 pub get-locals-spec : {M : Type 1} → statement M
 get-locals-spec =
@@ -57,14 +51,12 @@ get-locals-spec =
     (tie.spec
     Inv-loop
     μ-loop
-    lesser-requires
     loop-holds
-    add-w
-    mul-w
-    shared-slice-read-w
-    get-local-requires
-    mul-out
-    array-set-from-out
+    add-locals
+    mul-locals
+    shared-slice-read-locals
+    mul-locals-2
+    element-write-locals
     add-i
     loop-less
     loop-again

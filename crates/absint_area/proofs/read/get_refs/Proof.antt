@@ -1,41 +1,37 @@
+use Prim.Native.Nat.{_-_, _≤_}
+use mathlib.Core.Path.{_≡_, refl}
+use lib.ListN.{length}
 use Rattle.meaning.specs.Area.{nameIn, wordsFrom}
 use Rattle.meaning.specs.Laws.Area.{Filled, filled-none, filled-one}
-use Rattle.borrow_graph.specs.Models.{refOf}
-use Rattle.borrow_graph.specs.ModelLaws.{no-ref}
-use Rattle.absint_area.specs.ModelLaws.{refs-filled}
-use mathlib.Core.Path.{refl}
-use Prim.Native.Nat.{_-_, _≤_}
+use Rattle.absint_area.specs.ModelLaws.{filled-all}
 use native.Mathlib.Omega.{arith}
 use borrow.Author.Needs.{needs}
 use Rattle.absint_area.proofs.read.get_refs.Statement.{statement}
 use Rattle.absint_area.proofs.read.get_refs.Tie as tie
 
 abbrev Inv-loop : tie.InvT-loop
-Inv-loop ws at n out₀ i₀ out i = (i ≤ n) × Filled refOf no-ref (λ j. nameIn (wordsFrom ws at j)) 48 i out
+Inv-loop ws at n names₀ i₀ names i = (i ≤ n) × (length names₀ ≡ 48 → Filled nameIn 0 (λ j. nameIn (wordsFrom ws at j)) 48 i names)
 
 abbrev μ-loop : tie.MeasureT-loop
-μ-loop ws at n out₀ i₀ out i = n - i
+μ-loop ws at n names₀ i₀ names i = n - i
 
 loop-holds : tie.Need-loop-holds Inv-loop μ-loop
-loop-holds c = (omega arith, filled-none _ _ _ _ _ refl)
+loop-holds c = (omega arith, λ h. filled-none _ _ _ _ _ h)
 
-add-w : tie.Need-add-w Inv-loop μ-loop
-add-w c = omega arith
+add-names : tie.Need-add-names Inv-loop μ-loop
+add-names c = omega arith
 
-mul-w : tie.Need-mul-w Inv-loop μ-loop
-mul-w c = omega arith
+mul-names : tie.Need-mul-names Inv-loop μ-loop
+mul-names c = omega arith
 
-shared-slice-read-w : tie.Need-shared-slice-read-w Inv-loop μ-loop
-shared-slice-read-w c = omega arith
+shared-slice-read-names : tie.Need-shared-slice-read-names Inv-loop μ-loop
+shared-slice-read-names c = omega arith
 
-get-ref-requires : tie.Need-get-ref-requires Inv-loop μ-loop
-get-ref-requires c κs = search needs
+mul-names-2 : tie.Need-mul-names-2 Inv-loop μ-loop
+mul-names-2 c = omega arith
 
-mul-out : tie.Need-mul-out Inv-loop μ-loop
-mul-out c = omega arith
-
-array-set-from-out : tie.Need-array-set-from-out Inv-loop μ-loop
-array-set-from-out c = omega (arith, c .before .before .before .loop .inv .1 .size)
+element-write-names : tie.Need-element-write-names Inv-loop μ-loop
+element-write-names c = omega arith
 
 add-i : tie.Need-add-i Inv-loop μ-loop
 add-i c = omega arith
@@ -44,13 +40,10 @@ loop-less : tie.Need-loop-less Inv-loop μ-loop
 loop-less c = omega arith
 
 loop-again : tie.Need-loop-again Inv-loop μ-loop
-loop-again c = (omega arith, filled-one _ _ _ _ (c .before .before .before .loop .i) _ (c .before .before .before .loop .out) (omega arith) (c .get-ref .ensures) (c .before .before .before .loop .inv .1))
-
-cast-t18 : tie.Need-cast-t18 Inv-loop μ-loop
-cast-t18 c = omega arith
+loop-again c = (omega arith, λ h. filled-one _ _ _ _ ((c .before .before .loop) .i) _ ((c .before .before .loop) .names) (omega arith) refl ((c .before .before .loop) .inv .1 h))
 
 returns : tie.Need-returns Inv-loop μ-loop
-returns c = refs-filled _ (c .before .loop .out) _ (c .before .loop .i) (omega arith) (omega arith) (c .before .loop .inv .1)
+returns c = λ h. filled-all _ _ _ _ ((c .before .loop) .i) _ _ (omega arith) ((c .before .loop) .inv .1 h)
 
 pub get-refs-spec : {M : Type 1} → statement M
 get-refs-spec =
@@ -59,14 +52,12 @@ get-refs-spec =
     Inv-loop
     μ-loop
     loop-holds
-    add-w
-    mul-w
-    shared-slice-read-w
-    get-ref-requires
-    mul-out
-    array-set-from-out
+    add-names
+    mul-names
+    shared-slice-read-names
+    mul-names-2
+    element-write-names
     add-i
     loop-less
     loop-again
-    cast-t18
     returns)

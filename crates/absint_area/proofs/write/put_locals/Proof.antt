@@ -1,32 +1,29 @@
-use Rattle.meaning.specs.Laws.Area.{Written, IsLocal, written-none, written-one, written-all}
-use Rattle.meaning.specs.Laws.Array.{length-of-map}
-use Rattle.absint_area.specs.ModelLaws.{localAt}
 use Prim.Native.Nat.{_-_, _≤_}
+use mathlib.Core.Path.{refl}
+use Rattle.meaning.specs.Laws.Area.{Written, IsLocal, written-none, written-one, written-all}
+use Rattle.absint_area.specs.ModelLaws.{localAt, local-above}
 use native.Mathlib.Omega.{arith}
 use borrow.Author.Needs.{needs}
 use Rattle.absint_area.proofs.write.put_locals.Statement.{statement}
 use Rattle.absint_area.proofs.write.put_locals.Tie as tie
 
 abbrev Inv-loop : tie.InvT-loop
-Inv-loop ws₀ at names edges locals i₀ ws i = (i ≤ 16) × Written (IsLocal (localAt locals) names edges) at 16 i ws₀ ws
+Inv-loop ws₀ at locals names edges i₀ ws i = (i ≤ 16) × Written (IsLocal (localAt locals) names edges) at 16 i ws₀ ws
 
 abbrev μ-loop : tie.MeasureT-loop
-μ-loop ws₀ at names edges locals i₀ ws i = 16 - i
+μ-loop ws₀ at locals names edges i₀ ws i = 16 - i
 
 loop-holds : tie.Need-loop-holds Inv-loop μ-loop
 loop-holds c = (omega arith, written-none _ _ _ _)
 
-mul-x : tie.Need-mul-x Inv-loop μ-loop
-mul-x c = omega arith
+mul-w : tie.Need-mul-w Inv-loop μ-loop
+mul-w c = omega arith
 
-array-copy-out-x : tie.Need-array-copy-out-x Inv-loop μ-loop
-array-copy-out-x c = omega arith
+element-copy-out-w : tie.Need-element-copy-out-w Inv-loop μ-loop
+element-copy-out-w c = omega arith
 
 above-local-requires : tie.Need-above-local-requires Inv-loop μ-loop
 above-local-requires c κs = search needs
-
-local-word-requires : tie.Need-local-word-requires Inv-loop μ-loop
-local-word-requires c κs = search needs
 
 mul-ws : tie.Need-mul-ws Inv-loop μ-loop
 mul-ws c = omega arith
@@ -41,7 +38,7 @@ mul-ws-2 : tie.Need-mul-ws-2 Inv-loop μ-loop
 mul-ws-2 c = omega arith
 
 slice-write-ws : tie.Need-slice-write-ws Inv-loop μ-loop
-slice-write-ws c = omega (arith, c .before .before .before .before .loop .inv .1 .frame .size)
+slice-write-ws c = omega (arith, (c .before .before .before .loop) .inv .1 .frame .size)
 
 add-i : tie.Need-add-i Inv-loop μ-loop
 add-i c = omega arith
@@ -50,16 +47,13 @@ loop-less : tie.Need-loop-less Inv-loop μ-loop
 loop-less c = omega arith
 
 loop-again : tie.Need-loop-again Inv-loop μ-loop
-loop-again c =
-    let above-local = c .before .above-local in
-    let loop = c .before .before .before .before .loop in
-    (omega arith, written-one _ _ _ _ (loop .i) _ (loop .ws) (omega arith) (omega (arith, loop .inv .1 .frame .size)) (c .local-word .ensures .1 (above-local .result), omega (arith, c .local-word .ensures .0, above-local .ensures .0)) (loop .inv .1))
+loop-again c = (omega arith, written-one _ _ _ _ ((c .before .before .before .loop) .i) _ ((c .before .before .before .loop) .ws) (omega arith) (omega (arith, (c .before .before .before .loop) .inv .1 .frame .size)) (local-above _ ((c .above-local) .result) ((c .before .before .before .before .before .args) .names) ((c .before .before .before .before .before .args) .edges) ((c .before .before .before .loop) .i) ((c .before .before .before .before .before .args) .locals .now) refl ((c .above-local) .ensures .0)) ((c .before .before .before .loop) .inv .1))
 
 same-length : tie.Need-same-length Inv-loop μ-loop
-same-length c = c .before .loop .inv .1 .frame .size
+same-length c = (c .before .loop) .inv .1 .frame .size
 
 returns : tie.Need-returns Inv-loop μ-loop
-returns c = (written-all _ _ _ _ (c .before .loop .i) _ _ (omega arith) (c .before .loop .inv .1), search (needs, length-of-map))
+returns c = written-all _ _ _ _ ((c .before .loop) .i) _ _ (omega arith) ((c .before .loop) .inv .1)
 
 pub put-locals-spec : {M : Type 1} → statement M
 put-locals-spec =
@@ -68,10 +62,9 @@ put-locals-spec =
     Inv-loop
     μ-loop
     loop-holds
-    mul-x
-    array-copy-out-x
+    mul-w
+    element-copy-out-w
     above-local-requires
-    local-word-requires
     mul-ws
     add-ws
     add-ws-2

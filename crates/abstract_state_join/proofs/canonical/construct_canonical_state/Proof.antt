@@ -1,13 +1,15 @@
 use mathlib.Core.Path.{sym, ap, _∙_}
 use mathlib.Core.List.{List}
 use Rattle.meaning.specs.BorrowGraph.{Change, nameAfter, renamed}
-use Rattle.borrow_graph.specs.Models.{graphOf}
-use Rattle.abstract_state.specs.Models.{runningOf, stateOf}
+use Rattle.borrow_graph.specs.Models.{graphIn}
+use Rattle.abstract_state.specs.Models.{words, runningOf, stateOf}
 use Rattle.abstract_state_join.specs.Models.{canonicalEnd}
-use Rattle.abstract_state.specs.ModelLaws.{stays}
-use Rattle.abstract_state_join.specs.CanonicalLaws.{canonical-16, canonical-ok, end-16, end-ok}
+use Rattle.abstract_state_join.specs.CanonicalLaws.{stays, canonical-16, canonical-ok, end-16, end-ok}
+use native.Mathlib.Omega.{arith}
 use borrow.Author.Needs.{needs}
-use Rattle.abstract_state_join.proofs.canonical.construct_canonical_state.Statement.{statement}
+use Rattle.abstract_state_join.proofs.canonical.construct_canonical_state.Statement.{
+  statement,
+}
 use Rattle.abstract_state_join.proofs.canonical.construct_canonical_state.Tie as tie
 
 crosses-requires : tie.Need-crosses-requires
@@ -15,11 +17,16 @@ crosses-requires c κs = search needs
 
 returns : tie.Need-returns
 returns c =
-    let s = (c .before .before .before .before .before .before .args) .state in
-    end-16 (s .violation) (s .refusal) (runningOf s) (runningOf s) ((c .before .before .before .if1) .taken) (canonical-16 (s .«num_locals») (stateOf s) (sym ((c .before .crosses) .ensures) ∙ (c .if2) .taken))
+    let a = (c .before .before .before .before .before .before .args) in
+    let s = a .state in
+    let before = words (a .locals .now) (a .names .now) (a .edges .now) s in
+    record {
+      fits = λ f. record { locals = f .locals; tells = f .tells };
+      does = λ f. end-16 (s .violation) (s .refusal) (runningOf before) (runningOf before) ((c .before .before .before .if1) .taken) (canonical-16 (s .«num_locals») (stateOf before) (sym ((c .before .crosses) .ensures (f .locals)) ∙ (c .if2) .taken));
+    }
 
-cast-t13 : tie.Need-cast-t13
-cast-t13 c = search needs
+cast-t16 : tie.Need-cast-t16
+cast-t16 c = search needs
 
 id-map-requires : tie.Need-id-map-requires
 id-map-requires c κs = search needs
@@ -38,15 +45,24 @@ add-s c = search needs
 
 returns-2 : tie.Need-returns-2
 returns-2 c =
-    let s = (c .before .before .before .before .before .before .before .before .before .before .args) .state in
-    end-ok (s .violation) (s .refusal) (runningOf s) _ _ ((c .before .before .before .before .before .before .before .if1) .taken)
-    (canonical-ok (s .«num_locals») (stateOf s) _ _ (sym ((c .before .before .before .before .before .crosses) .ensures) ∙ (c .before .before .before .before .if2) .left) ((c .before .before .own-names) .ensures)
-    ((c .renamed) .ensures ∙ ap (λ (ms : List Change). renamed (nameAfter ms) (graphOf (s .«borrow_graph»))) ((c .before .before .before .id-map) .ensures)))
+    let a = (c .before .before .before .before .before .before .before .before .before .before .before .before .before .before .args) in
+    let s = a .state in
+    let before = words (a .locals .now) (a .names .now) (a .edges .now) s in
+    record {
+      fits = λ f. record { locals = (c .before .before .before .before .own-names) .ensures (f .locals) .1; tells = (c .renamed) .ensures (f .tells) .1 };
+      does = λ f. end-ok (s .violation) (s .refusal) (runningOf before) _ _ ((c .before .before .before .before .before .before .before .before .before .before .before .if1) .taken)
+          (canonical-ok (s .«num_locals») (stateOf before) _ _ (sym ((c .before .before .before .before .before .before .before .before .before .crosses) .ensures (f .locals)) ∙ (c .before .before .before .before .before .before .before .before .if2) .left) ((c .before .before .before .before .own-names) .ensures (f .locals) .0)
+          ((c .renamed) .ensures (f .tells) .0 ∙ ap (λ (ms : List Change). renamed (nameAfter ms) (graphIn (a .names .now) (a .edges .now) (s .«borrow_graph»))) ((c .before .before .before .before .before .before .id-map) .ensures (f .locals))));
+    }
 
 returns-3 : tie.Need-returns-3
 returns-3 c =
-    let s = (c .before .before .before .args) .state in
-    stays (s .violation) (s .refusal) (runningOf s) (runningOf s) canonicalEnd ((c .if1) .left)
+    let a = (c .before .before .before .args) in
+    let s = a .state in
+    record {
+      fits = λ f. f;
+      does = λ f. stays (s .violation) (s .refusal) (runningOf (words (a .locals .now) (a .names .now) (a .edges .now) s)) canonicalEnd ((c .if1) .left);
+    }
 
 pub construct-canonical-state-spec : {M : Type 1} → statement M
 construct-canonical-state-spec =
@@ -54,7 +70,7 @@ construct-canonical-state-spec =
     (tie.spec
     crosses-requires
     returns
-    cast-t13
+    cast-t16
     id-map-requires
     own-names-requires
     renamed-requires

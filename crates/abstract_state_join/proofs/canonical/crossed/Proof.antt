@@ -2,6 +2,7 @@ use mathlib.Core.Path.{sym, ap, _∙_}
 use mathlib.Core.Bool.{true, false}
 use Rattle.abstract_state.specs.Models.{operandOf, localsIn, localOf}
 use Rattle.abstract_state_join.specs.CanonicalLaws.{crossed-held, crossed-none}
+use native.Mathlib.Omega.{arith}
 use borrow.Author.Needs.{needs}
 use Rattle.abstract_state_join.proofs.canonical.crossed.Statement.{statement}
 use Rattle.abstract_state_join.proofs.canonical.crossed.Tie as tie
@@ -22,16 +23,16 @@ is-named-requires : tie.Need-is-named-requires
 is-named-requires c κs = search needs
 
 returns : tie.Need-returns
-returns c = (c .is-named) .ensures ∙ crossed-held (localsIn ((c .before .before .before .before .before .before .before .args) .locals) ((c .before .before .before .before .before .before .before .args) .n)) ((c .before .before .before .before .before .before .before .args) .i) (localOf ((c .before .before .before .before .before .before .before .args) .x)) _ true (sym (ap operandOf ((c .before .before .before .before .v) .given .1)) ∙ (c .before .before .before .before .before .before .value-of) .ensures) ((c .before .if1) .taken)
+returns c = λ h. (c .is-named) .ensures h ∙ crossed-held (localsIn ((c .before .before .before .before .before .before .before .args) .locals .now) ((c .before .before .before .before .before .before .before .args) .n)) ((c .before .before .before .before .before .before .before .args) .i) (localOf ((c .before .before .before .before .before .before .before .args) .x)) _ true (sym (ap operandOf ((c .before .before .before .before .v) .given .1)) ∙ (c .before .before .before .before .before .before .value-of) .ensures) ((c .before .if1) .taken)
 
 enum-told : tie.Need-enum-told
 enum-told c = search needs
 
 returns-2 : tie.Need-returns-2
-returns-2 c = crossed-held (localsIn ((c .before .before .before .before .before .before .args) .locals) ((c .before .before .before .before .before .before .args) .n)) ((c .before .before .before .before .before .before .args) .i) (localOf ((c .before .before .before .before .before .before .args) .x)) _ false (sym (ap operandOf ((c .before .before .before .v) .given .1)) ∙ (c .before .before .before .before .before .value-of) .ensures) ((c .if1) .left)
+returns-2 c = λ h. crossed-held (localsIn ((c .before .before .before .before .before .before .args) .locals .now) ((c .before .before .before .before .before .before .args) .n)) ((c .before .before .before .before .before .before .args) .i) (localOf ((c .before .before .before .before .before .before .args) .x)) _ false (sym (ap operandOf ((c .before .before .before .v) .given .1)) ∙ (c .before .before .before .before .before .value-of) .ensures) ((c .if1) .left)
 
 returns-3 : tie.Need-returns-3
-returns-3 c = crossed-none (localsIn ((c .before .before .before .args) .locals) ((c .before .before .before .args) .n)) ((c .before .before .before .args) .i) (localOf ((c .before .before .before .args) .x)) (sym (ap operandOf ((c .enum-told) .given .1)) ∙ (c .before .before .value-of) .ensures)
+returns-3 c = λ h. crossed-none (localsIn ((c .before .before .before .args) .locals .now) ((c .before .before .before .args) .n)) ((c .before .before .before .args) .i) (localOf ((c .before .before .before .args) .x)) (sym (ap operandOf ((c .enum-told) .given .1)) ∙ (c .before .before .value-of) .ensures)
 
 pub crossed-spec : {M : Type 1} → statement M
 crossed-spec =

@@ -2,12 +2,12 @@ use mathlib.Core.Path.{_≡_, refl, sym, ap, _∙_}
 use mathlib.Core.List.{List, _++_, map, append-nil}
 use Prim.Native.Nat.{_+_, _-_, _≤_}
 use lib.ListN.{length, take, drop, getD, length-set}
-use Rattle.meaning.specs.Laws.Array.{length-of-map, push-map}
+use Rattle.meaning.specs.Laws.Array.{push-map}
 use Rattle.meaning.specs.BorrowGraph.{Change}
+use Rattle.meaning.specs.Area.{localIn}
 use Rattle.borrow_graph.specs.Models.{changeOf, mapOf}
-use Rattle.abstract_state.specs.Models.{localOf, localsIn, operandOf}
-use Rattle.abstract_state_join.specs.Models.{renames}
-use Rattle.abstract_state.specs.ModelLaws.{no-local}
+use Rattle.abstract_state.specs.Models.{localsIn, operandOf}
+use Rattle.abstract_state_join.specs.Models.{heldBy, renames}
 use Rattle.abstract_state_join.specs.LocalLaws.{local-next, locals-end}
 use Rattle.abstract_state_join.specs.CanonicalLaws.{renames-held, renames-none, renames-end}
 use native.Mathlib.Omega.{arith}
@@ -16,22 +16,25 @@ use Rattle.abstract_state_join.proofs.canonical.id_map.Statement.{state
 use Rattle.abstract_state_join.proofs.canonical.id_map.Tie as tie
 
 abbrev Inv-loop : tie.InvT-loop
-Inv-loop n locals list₀ len₀ k i₀ list len i = (len ≤ i + 1) × (i ≤ k) × (length list ≡ 48) × (map changeOf (take len list) ++ renames i (drop i (localsIn locals n)) ≡ map changeOf (take 1 list₀) ++ renames 0 (localsIn locals n))
+Inv-loop locals n list₀ len₀ k i₀ list len i = (len ≤ i + 1) × (i ≤ k) × (length list ≡ 48) × (length locals ≡ 16 → map changeOf (take len list) ++ renames i (drop i (localsIn locals n)) ≡ map changeOf (take 1 list₀) ++ renames 0 (localsIn locals n))
 
 abbrev μ-loop : tie.MeasureT-loop
-μ-loop n locals list₀ len₀ k i₀ list len i = k - i
+μ-loop locals n list₀ len₀ k i₀ list len i = k - i
 
 count-requires : tie.Need-count-requires Inv-loop μ-loop
 count-requires c κs = search needs
 
 loop-holds : tie.Need-loop-holds Inv-loop μ-loop
-loop-holds c = (omega arith, omega arith, refl, refl)
+loop-holds c = (omega arith, omega arith, refl, λ h. refl)
 
-mul-value-of : tie.Need-mul-value-of Inv-loop μ-loop
-mul-value-of c = omega arith
+mul-local-of : tie.Need-mul-local-of Inv-loop μ-loop
+mul-local-of c = omega arith
 
-array-copy-out-value-of : tie.Need-array-copy-out-value-of Inv-loop μ-loop
-array-copy-out-value-of c = omega arith
+element-copy-out-local-of : tie.Need-element-copy-out-local-of Inv-loop μ-loop
+element-copy-out-local-of c = omega arith
+
+local-of-requires : tie.Need-local-of-requires Inv-loop μ-loop
+local-of-requires c κs = search needs
 
 value-of-requires : tie.Need-value-of-requires Inv-loop μ-loop
 value-of-requires c κs = search needs
@@ -59,16 +62,15 @@ loop-less c = omega arith
 
 loop-again : tie.Need-loop-again Inv-loop μ-loop
 loop-again c =
-    let a = (c .before .before .before .before .before .before .before .before .args) in
-    let l = (c .before .before .before .before .before .before .loop) in
-    let h : length (a .t1) ≡ 16 = search length-of-map in
-    let xs = drop (l .i + 1) (localsIn (a .t1) (a .n)) in (
+    let a = (c .before .before .before .before .before .before .before .before .before .args) in
+    let l = (c .before .before .before .before .before .before .before .loop) in
+    let xs = drop (l .i + 1) (localsIn (a .locals .now) (a .n)) in (
       omega arith,
       omega arith,
       simp length-set (l .inv .2),
-      push-map changeOf (l .list) (l .len) (l .len + 1) _ (renames (l .i + 1) xs) refl (omega arith)
-          ∙ ap (λ (ms : List Change). map changeOf (take (l .len) (l .list)) ++ ms) (sym (ap (renames (l .i)) (local-next (a .t1) (a .n) ((c .before .before .before .before .before .before .before .count) .result) h ((c .before .before .before .before .before .before .before .count) .ensures) (l .i) (omega arith)) ∙ renames-held (l .i) (localOf (getD (a .t1) (l .i) no-local)) _ xs (sym (ap operandOf ((c .before .v) .given .1)) ∙ (c .before .before .before .value-of) .ensures)))
-          ∙ l .inv .3,
+      λ h. push-map changeOf (l .list) (l .len) (l .len + 1) _ (renames (l .i + 1) xs) refl (omega arith)
+          ∙ ap (λ (ms : List Change). map changeOf (take (l .len) (l .list)) ++ ms) (sym (ap (renames (l .i)) (local-next (a .locals .now) (a .n) ((c .before .before .before .before .before .before .before .before .count) .result) h ((c .before .before .before .before .before .before .before .before .count) .ensures) (l .i) (omega arith)) ∙ renames-held (l .i) (localIn (getD (a .locals .now) (l .i) 0)) _ xs (sym (ap operandOf ((c .before .v) .given .1)) ∙ (c .before .before .before .value-of) .ensures ∙ ap heldBy ((c .before .before .before .before .local-of) .ensures))))
+          ∙ l .inv .3 h,
     )
 
 enum-told : tie.Need-enum-told Inv-loop μ-loop
@@ -82,15 +84,14 @@ loop-less-2 c = omega arith
 
 loop-again-2 : tie.Need-loop-again-2 Inv-loop μ-loop
 loop-again-2 c =
-    let a = (c .before .before .before .before .before .before .before .args) in
-    let l = (c .before .before .before .before .before .loop) in
-    let h : length (a .t1) ≡ 16 = search length-of-map in
-    let xs = drop (l .i + 1) (localsIn (a .t1) (a .n)) in (
+    let a = (c .before .before .before .before .before .before .before .before .args) in
+    let l = (c .before .before .before .before .before .before .loop) in
+    let xs = drop (l .i + 1) (localsIn (a .locals .now) (a .n)) in (
       omega arith,
       omega arith,
       l .inv .2,
-      ap (λ (ms : List Change). map changeOf (take (l .len) (l .list)) ++ ms) (sym (ap (renames (l .i)) (local-next (a .t1) (a .n) ((c .before .before .before .before .before .before .count) .result) h ((c .before .before .before .before .before .before .count) .ensures) (l .i) (omega arith)) ∙ renames-none (l .i) (localOf (getD (a .t1) (l .i) no-local)) xs (sym (ap operandOf ((c .enum-told) .given .1)) ∙ (c .before .before .value-of) .ensures)))
-          ∙ l .inv .3,
+      λ h. ap (λ (ms : List Change). map changeOf (take (l .len) (l .list)) ++ ms) (sym (ap (renames (l .i)) (local-next (a .locals .now) (a .n) ((c .before .before .before .before .before .before .before .count) .result) h ((c .before .before .before .before .before .before .before .count) .ensures) (l .i) (omega arith)) ∙ renames-none (l .i) (localIn (getD (a .locals .now) (l .i) 0)) xs (sym (ap operandOf ((c .enum-told) .given .1)) ∙ (c .before .before .value-of) .ensures ∙ ap heldBy ((c .before .before .before .local-of) .ensures))))
+          ∙ l .inv .3 h,
     )
 
 cast-t24 : tie.Need-cast-t24 Inv-loop μ-loop
@@ -101,8 +102,7 @@ unfolding mapOf
 returns c =
     let a = (c .before .before .before .args) in
     let l = (c .before .loop) in
-    let h : length (a .t1) ≡ 16 = search length-of-map in
-    sym (append-nil _) ∙ ap (λ (ms : List Change). map changeOf (take (l .len) (l .list)) ++ ms) (sym (ap (renames (l .i)) (locals-end (a .t1) (a .n) ((c .before .before .count) .result) h ((c .before .before .count) .ensures) (l .i) (omega arith)) ∙ renames-end (l .i))) ∙ l .inv .3
+    λ h. sym (append-nil _) ∙ ap (λ (ms : List Change). map changeOf (take (l .len) (l .list)) ++ ms) (sym (ap (renames (l .i)) (locals-end (a .locals .now) (a .n) ((c .before .before .count) .result) h ((c .before .before .count) .ensures) (l .i) (omega arith)) ∙ renames-end (l .i))) ∙ l .inv .3 h
 
 pub id-map-spec : {M : Type 1} → statement M
 id-map-spec =
@@ -112,8 +112,9 @@ id-map-spec =
     μ-loop
     count-requires
     loop-holds
-    mul-value-of
-    array-copy-out-value-of
+    mul-local-of
+    element-copy-out-local-of
+    local-of-requires
     value-of-requires
     enum-known-v
     cast-t18

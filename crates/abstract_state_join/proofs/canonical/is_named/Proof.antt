@@ -4,12 +4,12 @@ use mathlib.Core.List.{List}
 use Prim.Native.Nat.{_+_, _-_}
 use lib.ListN.{length, drop, getD}
 use borrow.Author.Tests.{eq-eqb, ne-eqb}
-use Rattle.meaning.specs.Laws.Array.{length-of-map}
 use Rattle.meaning.specs.Lists.{any}
+use Rattle.meaning.specs.Area.{localIn}
 use Rattle.meaning.specs.AbstractState.{eqLocal}
 use Rattle.meaning.specs.AbstractState as S
-use Rattle.abstract_state.specs.Models.{localsIn, localOf, operandOf}
-use Rattle.abstract_state.specs.ModelLaws.{no-local}
+use Rattle.abstract_state.specs.Models.{localsIn, operandOf}
+use Rattle.abstract_state_join.specs.Models.{heldBy}
 use Rattle.abstract_state_join.specs.LocalLaws.{local-next, locals-end}
 use Rattle.abstract_state_join.specs.CanonicalLaws.{named-held, named-none}
 use native.Mathlib.Omega.{arith}
@@ -18,30 +18,32 @@ use Rattle.abstract_state_join.proofs.canonical.is_named.Statement.{sta
 use Rattle.abstract_state_join.proofs.canonical.is_named.Tie as tie
 
 abbrev Inv-loop : tie.InvT-loop
-Inv-loop n id locals k i₀ i = any (λ y. eqLocal y (S.Local.ref (id .0))) (drop i (localsIn locals n)) ≡ any (λ y. eqLocal y (S.Local.ref (id .0))) (localsIn locals n)
+Inv-loop locals n id k i₀ i = length locals ≡ 16 → any (λ y. eqLocal y (S.Local.ref (id .0))) (drop i (localsIn locals n)) ≡ any (λ y. eqLocal y (S.Local.ref (id .0))) (localsIn locals n)
 
 abbrev μ-loop : tie.MeasureT-loop
-μ-loop n id locals k i₀ i = k - i
+μ-loop locals n id k i₀ i = k - i
 
-turn : (c : tie.In-loop Inv-loop μ-loop) (b : Bool) → eqLocal (localOf (getD ((c .before .before .before .args) .t1) ((c .before .loop) .i) no-local)) (S.Local.ref ((c .before .before .before .args) .id .0)) ≡ b → b || any (λ y. eqLocal y (S.Local.ref ((c .before .before .before .args) .id .0))) (drop ((c .before .loop) .i + 1) (localsIn ((c .before .before .before .args) .t1) ((c .before .before .before .args) .n))) ≡ any (λ y. eqLocal y (S.Local.ref ((c .before .before .before .args) .id .0))) (localsIn ((c .before .before .before .args) .t1) ((c .before .before .before .args) .n))
-turn c b e =
+turn : (c : tie.In-loop Inv-loop μ-loop) → length ((c .before .before .before .args) .locals .now) ≡ 16 → (b : Bool) → eqLocal (localIn (getD ((c .before .before .before .args) .locals .now) ((c .before .loop) .i) 0)) (S.Local.ref ((c .before .before .before .args) .id .0)) ≡ b → b || any (λ y. eqLocal y (S.Local.ref ((c .before .before .before .args) .id .0))) (drop ((c .before .loop) .i + 1) (localsIn ((c .before .before .before .args) .locals .now) ((c .before .before .before .args) .n))) ≡ any (λ y. eqLocal y (S.Local.ref ((c .before .before .before .args) .id .0))) (localsIn ((c .before .before .before .args) .locals .now) ((c .before .before .before .args) .n))
+turn c h b e =
     let a = (c .before .before .before .args) in
     let l = (c .before .loop) in
-    let h : length (a .t1) ≡ 16 = search length-of-map in
-    ap (λ (x : Bool). x || any (λ y. eqLocal y (S.Local.ref (a .id .0))) (drop (l .i + 1) (localsIn (a .t1) (a .n)))) (sym e)
-    ∙ ap (λ (xs : List S.Local). any (λ y. eqLocal y (S.Local.ref (a .id .0))) xs) (sym (local-next (a .t1) (a .n) ((c .before .before .count) .result) h ((c .before .before .count) .ensures) (l .i) (omega arith))) ∙ l .inv
+    ap (λ (x : Bool). x || any (λ y. eqLocal y (S.Local.ref (a .id .0))) (drop (l .i + 1) (localsIn (a .locals .now) (a .n)))) (sym e)
+    ∙ ap (λ (xs : List S.Local). any (λ y. eqLocal y (S.Local.ref (a .id .0))) xs) (sym (local-next (a .locals .now) (a .n) ((c .before .before .count) .result) h ((c .before .before .count) .ensures) (l .i) (omega arith))) ∙ l .inv h
 
 count-requires : tie.Need-count-requires Inv-loop μ-loop
 count-requires c κs = search needs
 
 loop-holds : tie.Need-loop-holds Inv-loop μ-loop
-loop-holds c = refl
+loop-holds c = λ h. refl
 
-mul-value-of : tie.Need-mul-value-of Inv-loop μ-loop
-mul-value-of c = omega arith
+mul-local-of : tie.Need-mul-local-of Inv-loop μ-loop
+mul-local-of c = omega arith
 
-array-copy-out-value-of : tie.Need-array-copy-out-value-of Inv-loop μ-loop
-array-copy-out-value-of c = omega arith
+element-copy-out-local-of : tie.Need-element-copy-out-local-of Inv-loop μ-loop
+element-copy-out-local-of c = omega arith
+
+local-of-requires : tie.Need-local-of-requires Inv-loop μ-loop
+local-of-requires c κs = search needs
 
 value-of-requires : tie.Need-value-of-requires Inv-loop μ-loop
 value-of-requires c κs = search needs
@@ -50,7 +52,7 @@ enum-known-v : tie.Need-enum-known-v Inv-loop μ-loop
 enum-known-v c = search needs
 
 returns : tie.Need-returns Inv-loop μ-loop
-returns c = turn ((c .before .before .before .before .before .before .before .before)) true (named-held (localOf (getD ((c .before .before .before .before .before .before .before .before .before .before .before .args) .t1) ((c .before .before .before .before .before .before .before .before .before .loop) .i) no-local)) _ ((c .before .before .before .before .before .before .before .before .before .before .before .args) .id .0) true (sym (ap operandOf ((c .before .before .before .before .v) .given .1)) ∙ (c .before .before .before .before .before .before .value-of) .ensures) (eq-eqb _ _ ((c .if1) .taken)))
+returns c = λ h. turn ((c .before .before .before .before .before .before .before .before .before)) h true (named-held (localIn (getD ((c .before .before .before .before .before .before .before .before .before .before .before .before .args) .locals .now) ((c .before .before .before .before .before .before .before .before .before .before .loop) .i) 0)) _ ((c .before .before .before .before .before .before .before .before .before .before .before .before .args) .id .0) true (sym (ap operandOf ((c .before .before .before .before .v) .given .1)) ∙ (c .before .before .before .before .before .before .value-of) .ensures ∙ ap heldBy ((c .before .before .before .before .before .before .before .local-of) .ensures)) (eq-eqb _ _ ((c .if1) .taken)))
 
 add-i : tie.Need-add-i Inv-loop μ-loop
 add-i c = omega arith
@@ -59,7 +61,7 @@ loop-less : tie.Need-loop-less Inv-loop μ-loop
 loop-less c = omega arith
 
 loop-again : tie.Need-loop-again Inv-loop μ-loop
-loop-again c = turn ((c .before .before .before .before .before .before .before .before)) false (named-held (localOf (getD ((c .before .before .before .before .before .before .before .before .before .before .before .args) .t1) ((c .before .before .before .before .before .before .before .before .before .loop) .i) no-local)) _ ((c .before .before .before .before .before .before .before .before .before .before .before .args) .id .0) false (sym (ap operandOf ((c .before .before .before .before .v) .given .1)) ∙ (c .before .before .before .before .before .before .value-of) .ensures) (ne-eqb _ _ ((c .if1) .left)))
+loop-again c = λ h. turn ((c .before .before .before .before .before .before .before .before .before)) h false (named-held (localIn (getD ((c .before .before .before .before .before .before .before .before .before .before .before .before .args) .locals .now) ((c .before .before .before .before .before .before .before .before .before .before .loop) .i) 0)) _ ((c .before .before .before .before .before .before .before .before .before .before .before .before .args) .id .0) false (sym (ap operandOf ((c .before .before .before .before .v) .given .1)) ∙ (c .before .before .before .before .before .before .value-of) .ensures ∙ ap heldBy ((c .before .before .before .before .before .before .before .local-of) .ensures)) (ne-eqb _ _ ((c .if1) .left)))
 
 enum-told : tie.Need-enum-told Inv-loop μ-loop
 enum-told c = search needs
@@ -71,14 +73,13 @@ loop-less-2 : tie.Need-loop-less-2 Inv-loop μ-loop
 loop-less-2 c = omega arith
 
 loop-again-2 : tie.Need-loop-again-2 Inv-loop μ-loop
-loop-again-2 c = turn ((c .before .before .before .before)) false (named-none (localOf (getD ((c .before .before .before .before .before .before .before .args) .t1) ((c .before .before .before .before .before .loop) .i) no-local)) ((c .before .before .before .before .before .before .before .args) .id .0) (sym (ap operandOf ((c .enum-told) .given .1)) ∙ (c .before .before .value-of) .ensures))
+loop-again-2 c = λ h. turn ((c .before .before .before .before .before)) h false (named-none (localIn (getD ((c .before .before .before .before .before .before .before .before .args) .locals .now) ((c .before .before .before .before .before .before .loop) .i) 0)) ((c .before .before .before .before .before .before .before .before .args) .id .0) (sym (ap operandOf ((c .enum-told) .given .1)) ∙ (c .before .before .value-of) .ensures ∙ ap heldBy ((c .before .before .before .local-of) .ensures)))
 
 returns-2 : tie.Need-returns-2 Inv-loop μ-loop
 returns-2 c =
     let a = (c .before .before .before .args) in
     let l = (c .before .loop) in
-    let h : length (a .t1) ≡ 16 = search length-of-map in
-    ap (λ (xs : List S.Local). any (λ y. eqLocal y (S.Local.ref (a .id .0))) xs) (sym (locals-end (a .t1) (a .n) ((c .before .before .count) .result) h ((c .before .before .count) .ensures) (l .i) (omega arith))) ∙ l .inv
+    λ h. ap (λ (xs : List S.Local). any (λ y. eqLocal y (S.Local.ref (a .id .0))) xs) (sym (locals-end (a .locals .now) (a .n) ((c .before .before .count) .result) h ((c .before .before .count) .ensures) (l .i) (omega arith))) ∙ l .inv h
 
 pub is-named-spec : {M : Type 1} → statement M
 is-named-spec =
@@ -88,8 +89,9 @@ is-named-spec =
     μ-loop
     count-requires
     loop-holds
-    mul-value-of
-    array-copy-out-value-of
+    mul-local-of
+    element-copy-out-local-of
+    local-of-requires
     value-of-requires
     enum-known-v
     returns

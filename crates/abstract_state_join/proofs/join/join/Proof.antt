@@ -1,31 +1,44 @@
-use mathlib.Core.Path.{_≡_, sym, ap, _∙_, subst}
+use Rattle.references.specs.Models.{told}
+use mathlib.Core.Path.{_≡_, refl, sym, ap, _∙_}
 use Prim.Native.Nat.{ℕ}
-use Rattle.meaning.specs.Answers.{ok}
+use Rattle.meaning.specs.Answers.{ok, refuse, leaves}
 use Rattle.meaning.specs.EntryPoints.{Running}
-use Rattle.meaning.specs.AbstractState.{join, eqLocals}
-use Rattle.borrow_graph.specs.ModelLaws.{told-yes, told-no}
-use Rattle.abstract_state.specs.Models.{localsIn, stateOf}
-use Rattle.abstract_state_join.specs.Models.{Joins, changedBy}
+use Rattle.meaning.specs.AbstractState as S
+use Rattle.meaning.specs.AbstractState.{State, eqLocals}
+use Rattle.references.specs.ModelLaws.{told-yes, told-no}
+use Rattle.abstract_state.specs.Models.{localsIn, words, stateOf}
+use Rattle.abstract_state_join.specs.Models.{changedBy}
 use Rattle.abstract_state_join.specs.JoinLaws.{changed-locals, changed-graph}
+use native.Mathlib.Omega.{arith}
 use borrow.Author.Needs.{needs}
 use Rattle.abstract_state_join.proofs.join.join.Statement.{statement}
 use Rattle.abstract_state_join.proofs.join.join.Tie as tie
 
-joined : (c : tie.Else1) → join (stateOf ((c .before .before .before .before .args) .s)) (stateOf ((c .before .before .before .before .args) .o)) ≡ ok (stateOf ((c .before .before .before .join-) .result .state))
-joined c = sym ((c .before .before .before .join-) .ensures .answer) ∙ told-yes ((c .before .before .before .join-) .result .refusal) _ ((c .if1) .left)
-
-same : (c : tie.After-same-locals) → (c .same-locals) .result ≡ eqLocals (stateOf ((c .before .before .before .before .before .before .before .args) .s) .locals) (stateOf ((c .before .before .before .before .before .before .join-) .result .state) .locals)
-same c =
-    let s = (c .before .before .before .before .before .before .before .args) .s in
-    let t = (c .before .before .before .before .before .before .join-) .result .state in
-    (c .same-locals) .ensures ∙ ap (λ (n : ℕ). eqLocals (localsIn (s .locals) (s .«num_locals»)) (localsIn (t .locals) n)) (sym (ap (λ (r : Running). r .root) ((c .before .before .before .before .before .before .join-) .ensures .rest)))
+joined : (c : tie.Else1) (r : State) → told ((c .before .before .join-) .result .refusal) r ≡ S.join (stateOf (words ((c .before .before .before .before .before .before .before .before .before .before .before .args) .locals .now) ((c .before .before .before .before .before .before .before .before .before .before .before .args) .names .now) ((c .before .before .before .before .before .before .before .before .before .before .before .args) .edges .now) ((c .before .before .before .before .before .before .before .before .before .before .before .args) .s))) (stateOf (words ((c .before .before .before .before .before .before .before .before .before .before .before .args) .their-locals .now) ((c .before .before .before .before .before .before .before .before .before .before .before .args) .their-names .now) ((c .before .before .before .before .before .before .before .before .before .before .before .args) .their-edges .now) ((c .before .before .before .before .before .before .before .before .before .before .before .args) .o))) → S.join (stateOf (words ((c .before .before .before .before .before .before .before .before .before .before .before .args) .locals .now) ((c .before .before .before .before .before .before .before .before .before .before .before .args) .names .now) ((c .before .before .before .before .before .before .before .before .before .before .before .args) .edges .now) ((c .before .before .before .before .before .before .before .before .before .before .before .args) .s))) (stateOf (words ((c .before .before .before .before .before .before .before .before .before .before .before .args) .their-locals .now) ((c .before .before .before .before .before .before .before .before .before .before .before .args) .their-names .now) ((c .before .before .before .before .before .before .before .before .before .before .before .args) .their-edges .now) ((c .before .before .before .before .before .before .before .before .before .before .before .args) .o))) ≡ ok r
+joined c r e = sym e ∙ told-yes ((c .before .before .join-) .result .refusal) r ((c .if1) .left)
 
 join--requires : tie.Need-join--requires
 join--requires c κs = search needs
 
 returns : tie.Need-returns
-returns c =
-    ((c .before .before .before .join-) .ensures, ap (changedBy (stateOf ((c .before .before .before .before .args) .s))) (sym (told-no ((c .before .before .before .join-) .result .refusal) (stateOf ((c .before .before .before .join-) .result .state)) ((c .if1) .taken)) ∙ (c .before .before .before .join-) .ensures .answer))
+returns c = λ fa fb.
+    let a = (c .before .before .before .before .before .before .before .before .before .before .before .args) in
+    let n = (c .before .before .join-) .result .refusal in
+    let m = (c .before .before .join-) .ensures fa fb in
+    let s = stateOf (words (a .locals .now) (a .names .now) (a .edges .now) (a .s)) in
+    let o = stateOf (words (a .their-locals .now) (a .their-names .now) (a .their-edges .now) (a .o)) in
+    let e : S.join s o ≡ refuse n = sym (m .0 .answer) ∙ told-no n _ ((c .if1) .taken) in (
+      record {
+        answer = told-no n s ((c .if1) .taken) ∙ sym e;
+        left = sym (ap (leaves s) e);
+        fits = fa;
+        rest = refl;
+        stop = (refl, refl);
+      },
+      sym (ap (changedBy s) e),
+      m .1,
+      m .2,
+    )
 
 same-locals-requires : tie.Need-same-locals-requires
 same-locals-requires c κs = search needs
@@ -34,21 +47,46 @@ leq-requires : tie.Need-leq-requires
 leq-requires c κs = search needs
 
 returns-2 : tie.Need-returns-2
-returns-2 c =
-    let s = (c .before .before .before .before .before .before .before .before .before .before .before .before .before .args) .s in
-    let o = (c .before .before .before .before .before .before .before .before .before .before .before .before .before .args) .o in
-    let t = (c .before .before .before .before .before .before .before .before .before .before .before .before .join-) .result .state in (
-      subst (λ (n : ℕ). Joins s o n t) ((c .before .before .before .before .before .before .before .before .before .if1) .left) ((c .before .before .before .before .before .before .before .before .before .before .before .before .join-) .ensures),
-      changed-graph (stateOf s) (stateOf o) (stateOf t) (joined ((c .before .before .before .before .before .before .before .before .before))) (sym (same ((c .before .before .before .before .before .before))) ∙ (c .before .before .before .before .before .if2) .taken) ((c .before .before .leq) .result .refusal) ((c .before .before .leq) .result .yes) ((c .before .before .leq) .ensures) ∙ ap (changedBy (stateOf s)) (sym (joined ((c .before .before .before .before .before .before .before .before .before)))),
+returns-2 c = λ fa fb.
+    let a = (c .before .before .before .before .before .before .before .before .before .before .before .before .before .before .before .before .before .before .before .before .before .before .before .before .before .args) in
+    let m = (c .before .before .before .before .before .before .before .before .before .before .before .before .before .before .before .before .join-) .ensures fa fb in
+    let s = stateOf (words (a .locals .now) (a .names .now) (a .edges .now) (a .s)) in
+    let o = stateOf (words (a .their-locals .now) (a .their-names .now) (a .their-edges .now) (a .o)) in
+    let e = joined ((c .before .before .before .before .before .before .before .before .before .before .before .before .before .before)) _ (m .0 .answer) in
+    let f = m .0 .fits ((c .before .before .before .before .before .before .before .before .before .before .before .before .before .before .if1) .left) in (
+      record {
+        answer = sym e;
+        left = sym (ap (leaves s) e);
+        fits = f;
+        rest = m .0 .rest;
+        stop = m .0 .stop;
+      },
+      changed-graph s o _ e
+          (ap (λ (n : ℕ). eqLocals (localsIn (a .locals .now) (a .s .«num_locals»)) (localsIn ((c .before .before .before .before .before .before .before .before .before .before .before .before .before .before .before .before .join-) .last .0) n)) (ap (λ (r : Running). r .root) (m .0 .rest)) ∙ sym ((c .before .before .before .before .before .before .before .before .before .before .same-locals) .ensures (fa .locals) (f .locals)) ∙ (c .before .before .before .before .before .before .before .before .before .if2) .taken)
+          ((c .before .before .leq) .result .refusal) ((c .before .before .leq) .result .yes) ((c .before .before .leq) .ensures (fa .tells) (f .tells)) ∙ sym (ap (changedBy s) e),
+      m .1,
+      m .2,
     )
 
 returns-3 : tie.Need-returns-3
-returns-3 c =
-    let s = (c .before .before .before .before .before .before .before .before .args) .s in
-    let o = (c .before .before .before .before .before .before .before .before .args) .o in
-    let t = (c .before .before .before .before .before .before .before .join-) .result .state in (
-      subst (λ (n : ℕ). Joins s o n t) ((c .before .before .before .before .if1) .left) ((c .before .before .before .before .before .before .before .join-) .ensures),
-      changed-locals (stateOf s) (stateOf o) (stateOf t) (joined ((c .before .before .before .before))) (sym (same ((c .before))) ∙ (c .if2) .left) ∙ ap (changedBy (stateOf s)) (sym (joined ((c .before .before .before .before)))),
+returns-3 c = λ fa fb.
+    let a = (c .before .before .before .before .before .before .before .before .before .before .before .before .before .before .before .before .args) in
+    let m = (c .before .before .before .before .before .before .before .join-) .ensures fa fb in
+    let s = stateOf (words (a .locals .now) (a .names .now) (a .edges .now) (a .s)) in
+    let o = stateOf (words (a .their-locals .now) (a .their-names .now) (a .their-edges .now) (a .o)) in
+    let e = joined ((c .before .before .before .before .before)) _ (m .0 .answer) in
+    let f = m .0 .fits ((c .before .before .before .before .before .if1) .left) in (
+      record {
+        answer = sym e;
+        left = sym (ap (leaves s) e);
+        fits = f;
+        rest = m .0 .rest;
+        stop = m .0 .stop;
+      },
+      changed-locals s o _ e
+          (ap (λ (n : ℕ). eqLocals (localsIn (a .locals .now) (a .s .«num_locals»)) (localsIn ((c .before .before .before .before .before .before .before .join-) .last .0) n)) (ap (λ (r : Running). r .root) (m .0 .rest)) ∙ sym ((c .before .same-locals) .ensures (fa .locals) (f .locals)) ∙ (c .if2) .left) ∙ sym (ap (changedBy s) e),
+      m .1,
+      m .2,
     )
 
 pub join-spec : {M : Type 1} → statement M

@@ -2,10 +2,9 @@ use mathlib.Core.Path.{_≡_, refl, sym, ap, _∙_}
 use mathlib.Core.Bool.{Bool, _&&_}
 use Prim.Native.Nat.{_+_, _-_}
 use lib.ListN.{length, drop, getD}
-use Rattle.meaning.specs.Laws.Array.{length-of-map}
+use Rattle.meaning.specs.Area.{localIn}
 use Rattle.meaning.specs.AbstractState.{eqLocal, eqLocals}
-use Rattle.abstract_state.specs.Models.{localOf, localsIn}
-use Rattle.abstract_state.specs.ModelLaws.{no-local}
+use Rattle.abstract_state.specs.Models.{localsIn}
 use Rattle.abstract_state_join.specs.LocalLaws.{local-next, locals-end}
 use Rattle.abstract_state_join.specs.JoinLaws.{eqLocals-step, eqLocals-end}
 use native.Mathlib.Omega.{arith}
@@ -14,40 +13,44 @@ use Rattle.abstract_state_join.proofs.join.same_locals.Statement.{state
 use Rattle.abstract_state_join.proofs.join.same_locals.Tie as tie
 
 abbrev Inv-loop : tie.InvT-loop
-Inv-loop n a b k i₀ i = eqLocals (drop i (localsIn a n)) (drop i (localsIn b n)) ≡ eqLocals (localsIn a n) (localsIn b n)
+Inv-loop a b n k i₀ i = length a ≡ 16 → length b ≡ 16 → eqLocals (drop i (localsIn a n)) (drop i (localsIn b n)) ≡ eqLocals (localsIn a n) (localsIn b n)
 
 abbrev μ-loop : tie.MeasureT-loop
-μ-loop n a b k i₀ i = k - i
+μ-loop a b n k i₀ i = k - i
 
-turn : (c : tie.In-loop Inv-loop μ-loop) (b : Bool) → b ≡ eqLocal (localOf (getD ((c .before .before .before .args) .t1) ((c .before .loop) .i) no-local)) (localOf (getD ((c .before .before .before .args) .t2) ((c .before .loop) .i) no-local)) →
-    b && eqLocals (drop ((c .before .loop) .i + 1) (localsIn ((c .before .before .before .args) .t1) ((c .before .before .before .args) .n))) (drop ((c .before .loop) .i + 1) (localsIn ((c .before .before .before .args) .t2) ((c .before .before .before .args) .n))) ≡ eqLocals (localsIn ((c .before .before .before .args) .t1) ((c .before .before .before .args) .n)) (localsIn ((c .before .before .before .args) .t2) ((c .before .before .before .args) .n))
-turn c b e =
+turn : (c : tie.In-loop Inv-loop μ-loop) → length ((c .before .before .before .args) .a .now) ≡ 16 → length ((c .before .before .before .args) .b .now) ≡ 16 → (b : Bool) → b ≡ eqLocal (localIn (getD ((c .before .before .before .args) .a .now) ((c .before .loop) .i) 0)) (localIn (getD ((c .before .before .before .args) .b .now) ((c .before .loop) .i) 0)) →
+    b && eqLocals (drop ((c .before .loop) .i + 1) (localsIn ((c .before .before .before .args) .a .now) ((c .before .before .before .args) .n))) (drop ((c .before .loop) .i + 1) (localsIn ((c .before .before .before .args) .b .now) ((c .before .before .before .args) .n))) ≡ eqLocals (localsIn ((c .before .before .before .args) .a .now) ((c .before .before .before .args) .n)) (localsIn ((c .before .before .before .args) .b .now) ((c .before .before .before .args) .n))
+turn c ha hb b e =
     let a = (c .before .before .before .args) in
     let l = (c .before .loop) in
-    let ha : length (a .t1) ≡ 16 = search length-of-map in
-    let hb : length (a .t2) ≡ 16 = search length-of-map in
-    let xs = drop (l .i + 1) (localsIn (a .t1) (a .n)) in
-    let ys = drop (l .i + 1) (localsIn (a .t2) (a .n)) in
+    let xs = drop (l .i + 1) (localsIn (a .a .now) (a .n)) in
+    let ys = drop (l .i + 1) (localsIn (a .b .now) (a .n)) in
     ap (λ (x : Bool). x && eqLocals xs ys) e
-    ∙ sym ((λ j. eqLocals (local-next (a .t1) (a .n) ((c .before .before .count) .result) ha ((c .before .before .count) .ensures) (l .i) (omega arith) j) (local-next (a .t2) (a .n) ((c .before .before .count) .result) hb ((c .before .before .count) .ensures) (l .i) (omega arith) j)) ∙ eqLocals-step (localOf (getD (a .t1) (l .i) no-local)) (localOf (getD (a .t2) (l .i) no-local)) xs ys) ∙ l .inv
+    ∙ sym ((λ j. eqLocals (local-next (a .a .now) (a .n) ((c .before .before .count) .result) ha ((c .before .before .count) .ensures) (l .i) (omega arith) j) (local-next (a .b .now) (a .n) ((c .before .before .count) .result) hb ((c .before .before .count) .ensures) (l .i) (omega arith) j)) ∙ eqLocals-step (localIn (getD (a .a .now) (l .i) 0)) (localIn (getD (a .b .now) (l .i) 0)) xs ys) ∙ l .inv ha hb
 
 count-requires : tie.Need-count-requires Inv-loop μ-loop
 count-requires c κs = search needs
 
 loop-holds : tie.Need-loop-holds Inv-loop μ-loop
-loop-holds c = refl
+loop-holds c = λ ha hb. refl
 
-mul-same-local : tie.Need-mul-same-local Inv-loop μ-loop
-mul-same-local c = omega arith
+mul-local-of : tie.Need-mul-local-of Inv-loop μ-loop
+mul-local-of c = omega arith
 
-array-copy-out-same-local : tie.Need-array-copy-out-same-local Inv-loop μ-loop
-array-copy-out-same-local c = omega arith
+element-copy-out-local-of : tie.Need-element-copy-out-local-of Inv-loop μ-loop
+element-copy-out-local-of c = omega arith
 
-mul-same-local-2 : tie.Need-mul-same-local-2 Inv-loop μ-loop
-mul-same-local-2 c = omega arith
+local-of-requires : tie.Need-local-of-requires Inv-loop μ-loop
+local-of-requires c κs = search needs
 
-array-copy-out-same-local-2 : tie.Need-array-copy-out-same-local-2 Inv-loop μ-loop
-array-copy-out-same-local-2 c = omega arith
+mul-local-of-2 : tie.Need-mul-local-of-2 Inv-loop μ-loop
+mul-local-of-2 c = omega arith
+
+element-copy-out-local-of-2 : tie.Need-element-copy-out-local-of-2 Inv-loop μ-loop
+element-copy-out-local-of-2 c = omega arith
+
+local-of-requires-2 : tie.Need-local-of-requires-2 Inv-loop μ-loop
+local-of-requires-2 c κs = search needs
 
 same-local-requires : tie.Need-same-local-requires Inv-loop μ-loop
 same-local-requires c κs = search needs
@@ -59,18 +62,16 @@ loop-less : tie.Need-loop-less Inv-loop μ-loop
 loop-less c = omega arith
 
 loop-again : tie.Need-loop-again Inv-loop μ-loop
-loop-again c = turn ((c .before .before .before .before)) _ (sym ((c .if1) .taken) ∙ (c .before .same-local) .ensures)
+loop-again c = λ ha hb. turn ((c .before .before .before .before .before .before)) ha hb _ (sym ((c .if1) .taken) ∙ (c .before .same-local) .ensures ∙ (λ j. eqLocal ((c .before .before .before .before .local-of) .ensures j) ((c .before .before .local-of2) .ensures j)))
 
 returns : tie.Need-returns Inv-loop μ-loop
-returns c = turn ((c .before .before .before .before)) _ (sym ((c .if1) .left) ∙ (c .before .same-local) .ensures)
+returns c = λ ha hb. turn ((c .before .before .before .before .before .before)) ha hb _ (sym ((c .if1) .left) ∙ (c .before .same-local) .ensures ∙ (λ j. eqLocal ((c .before .before .before .before .local-of) .ensures j) ((c .before .before .local-of2) .ensures j)))
 
 returns-2 : tie.Need-returns-2 Inv-loop μ-loop
 returns-2 c =
     let a = (c .before .before .before .args) in
     let l = (c .before .loop) in
-    let ha : length (a .t1) ≡ 16 = search length-of-map in
-    let hb : length (a .t2) ≡ 16 = search length-of-map in
-    sym ((λ j. eqLocals (locals-end (a .t1) (a .n) ((c .before .before .count) .result) ha ((c .before .before .count) .ensures) (l .i) (omega arith) j) (locals-end (a .t2) (a .n) ((c .before .before .count) .result) hb ((c .before .before .count) .ensures) (l .i) (omega arith) j)) ∙ eqLocals-end) ∙ l .inv
+    λ ha hb. sym ((λ j. eqLocals (locals-end (a .a .now) (a .n) ((c .before .before .count) .result) ha ((c .before .before .count) .ensures) (l .i) (omega arith) j) (locals-end (a .b .now) (a .n) ((c .before .before .count) .result) hb ((c .before .before .count) .ensures) (l .i) (omega arith) j)) ∙ eqLocals-end) ∙ l .inv ha hb
 
 pub same-locals-spec : {M : Type 1} → statement M
 same-locals-spec =
@@ -80,10 +81,12 @@ same-locals-spec =
     μ-loop
     count-requires
     loop-holds
-    mul-same-local
-    array-copy-out-same-local
-    mul-same-local-2
-    array-copy-out-same-local-2
+    mul-local-of
+    element-copy-out-local-of
+    local-of-requires
+    mul-local-of-2
+    element-copy-out-local-of-2
+    local-of-requires-2
     same-local-requires
     add-i
     loop-less

@@ -1,63 +1,53 @@
-use mathlib.Core.Path.{_≡_, refl, sym, ap, _∙_, subst}
-use mathlib.Core.Bool.{Bool, true, _&&_}
-use mathlib.Core.List.{List, _∷_, map}
-use Prim.Native.Nat.{ℕ, suc, _+_, _-_, _<_, _≤_}
-use lib.ListN.{length, drop, getD, length-drop}
-use Rattle.meaning.specs.Answers.{Ans, ok, andThen, leaves}
-use Rattle.meaning.specs.Lists.{all}
-use Rattle.meaning.specs.Laws.Base.{and-l, and-r}
-use Rattle.meaning.specs.References.{Edge}
-use Rattle.meaning.specs.BorrowGraph.{Name, GEdge, Graph, wellFormed, pairOk, between, addEdge, addAll, limit, shift}
-use Rattle.meaning.specs.Laws.Put.{Moved, shifted-kept, shifted-rest, shifted-length}
-use Rattle.paths.specs.Models.{pathOf}
-use Rattle.references.specs.Models.{edgeOf}
-use Rattle.paths.specs.ModelLaws.{path-short}
-use Rattle.borrow_graph.specs.Models.{gedgeOf, refsOf, edgesOf, heldOf, graphOf}
-use Rattle.borrow_graph.specs.ModelLaws.{no-gedge, edges-step, edges-end}
+use mathlib.Core.Path.{subst, _≡_, refl, sym, ap, _∙_}
+use mathlib.Core.List.{[], List}
+use lib.ListN.{getD, length, drop}
+use Rattle.meaning.specs.BorrowGraph.{GEdge, Name, wellFormed, pairOk, moves}
+use Rattle.meaning.specs.Laws.Pass.{wf-neat}
+use Rattle.references.specs.Models.{rowOf, edgesIn, pathAt}
+use Rattle.references.specs.ModelLaws.{edges-over}
+use Rattle.borrow_graph_edit.specs.Edits.{Added, graphWith}
+use Rattle.borrow_graph_edit.specs.BorrowLaws.{going-turn, going-end, Going}
+use Rattle.borrow_graph_edit.specs.RowLaws.{keep-yes, keep-no, row-short}
+use mathlib.Core.Bool.{true}
+use Prim.Native.Nat.{_+_, _-_, _≤_}
+use Rattle.meaning.specs.Lists.{all, keep}
 use native.Mathlib.Omega.{arith}
 use borrow.Author.Needs.{needs}
 use Rattle.borrow_graph_edit.proofs.borrow.add_moved.Statement.{statement}
 use Rattle.borrow_graph_edit.proofs.borrow.add_moved.Tie as tie
 
 abbrev Inv-loop : tie.InvT-loop
-Inv-loop path child moved n cur₀ i₀ cur i =
-    (wellFormed (graphOf cur) ≡ true) × (refsOf (cur .refs) ≡ refsOf (cur₀ .refs)) × (length (heldOf cur) ≤ length (heldOf cur₀) + i)
-    × (all (λ y. pairOk (refsOf (cur₀ .refs)) (child .0) (y .child)) (drop i (edgesOf moved)) ≡ true)
-    × (addAll (map (shift (child .0) (pathOf path)) (drop i (edgesOf moved))) (graphOf cur) ≡ addAll (map (shift (child .0) (pathOf path)) (edgesOf moved)) (graphOf cur₀))
+Inv-loop edges₀ k old m parent path child n₀ i₀ edges n i =
+    (n ≤ 96) × (i ≤ m) × (length edges₀ ≡ 96 → length old ≡ 96 → (ns : List Name) → wellFormed (graphWith ns (edgesIn edges₀ k)) ≡ true
+    → k + length (keep (moves (parent .0) (pathAt path)) (edgesIn old m)) ≤ 96 → all (λ y. pairOk ns (child .0) (y .child)) (keep (moves (parent .0) (pathAt path)) (edgesIn old m)) ≡ true
+    → Going ns (edgesIn edges₀ k) (child .0) (pathAt path) (keep (moves (parent .0) (pathAt path)) (edgesIn old m)) edges n (keep (moves (parent .0) (pathAt path)) (drop i (edgesIn old m))))
 
 abbrev μ-loop : tie.MeasureT-loop
-μ-loop path child moved n cur₀ i₀ cur i = n - i
-
-abbrev here : (c : tie.In-loop Inv-loop μ-loop) → GEdge
-here c = gedgeOf (getD ((c .before .before .before .args) .t2 .list) ((c .before .loop) .i) no-gedge)
-
-next : (c : tie.In-loop Inv-loop μ-loop) → drop ((c .before .loop) .i) (edgesOf ((c .before .before .before .args) .t2)) ≡ here c ∷ drop ((c .before .loop) .i + 1) (edgesOf ((c .before .before .before .args) .t2))
-next c = edges-step ((c .before .before .before .args) .t2) ((c .before .loop) .i) (omega arith)
-
--- the ends are two names of the graph so far
-ends : (c : tie.In-loop Inv-loop μ-loop) → pairOk (refsOf ((c .before .loop) .cur .refs)) ((c .before .before .before .args) .child .0) (here c .child) ≡ true
-ends c =
-    let q : GEdge → Bool = λ y. pairOk (refsOf ((c .before .before .before .args) .graph .refs)) ((c .before .before .before .args) .child .0) (y .child) in
-    subst (λ (ns : List Name). pairOk ns ((c .before .before .before .args) .child .0) (here c .child) ≡ true) (sym ((c .before .loop) .inv .1))
-    (and-l (q (here c)) (all q (drop ((c .before .loop) .i + 1) (edgesOf ((c .before .before .before .args) .t2)))) (ap (all q) (sym (next c)) ∙ (c .before .loop) .inv .3))
-
-len-requires : tie.Need-len-requires Inv-loop μ-loop
-len-requires c κs = search needs
+μ-loop edges₀ k old m parent path child n₀ i₀ edges n i = m - i
 
 loop-holds : tie.Need-loop-holds Inv-loop μ-loop
-loop-holds c = ((c .before .pre) .0, refl, omega arith, (c .before .pre) .1 .1, refl)
+loop-holds c = ((c .pre) .0, omega arith, λ e o ns w r p. record { full = e; formed = w; room = r; pairs = p; rest = refl })
 
-mul-y : tie.Need-mul-y Inv-loop μ-loop
-mul-y c = omega arith
+mul-is-moved : tie.Need-mul-is-moved Inv-loop μ-loop
+mul-is-moved c = omega arith
 
-element-copy-out-y : tie.Need-element-copy-out-y Inv-loop μ-loop
-element-copy-out-y c = omega arith
+index-1-is-moved : tie.Need-index-1-is-moved Inv-loop μ-loop
+index-1-is-moved c = omega arith
+
+is-moved-requires : tie.Need-is-moved-requires Inv-loop μ-loop
+is-moved-requires c κs = search needs
+
+mul-factor : tie.Need-mul-factor Inv-loop μ-loop
+mul-factor c = omega arith
+
+index-1-factor : tie.Need-index-1-factor Inv-loop μ-loop
+index-1-factor c = omega arith
 
 factor-requires : tie.Need-factor-requires Inv-loop μ-loop
 factor-requires c κs = search needs
 
 add-edge-requires : tie.Need-add-edge-requires Inv-loop μ-loop
-add-edge-requires c κs = (c .before .before .before .before .loop) .inv .0
+add-edge-requires c κs = search needs
 
 add-i : tie.Need-add-i Inv-loop μ-loop
 add-i c = omega arith
@@ -67,32 +57,56 @@ loop-less c = omega arith
 
 loop-again : tie.Need-loop-again Inv-loop μ-loop
 loop-again c =
-    let i = (c .before .before .before .before .before) in
-    let l = (c .before .before .before .before .before .before .loop) in
-    let a = (c .before .before .before .before .before .before .before .before .args) in
-    let d = a .child .0 in
-    let p = pathOf (a .path) in
-    let y = here i in
-    let ys = map (shift d p) (drop (l .i + 1) (edgesOf (a .t2))) in
-    let r = addAll (map (shift d p) (edgesOf (a .t2))) (graphOf (a .graph)) in
-    let room : length (heldOf (l .cur)) < 96 = omega (arith, l .inv .2, (c .before .before .before .before .before .before .before .before .pre) .1 .0, (c .before .before .before .before .before .before .before .len) .ensures .0, (c .before .before .before .before .before .loop-test) .taken) in
-    let z : length ((c .before .before .factor) .result .labels) ≡ 8 = search (needs, (c .before .before .factor) .ok) in
-    let sh : length (drop (length p) (y .edge .path)) ≤ 8 = subst (λ (k : List ℕ). length k ≤ 8) ((c .before .before .factor) .ensures) (path-short ((c .before .before .factor) .result) z) in
-    let q : GEdge → Bool = λ u. pairOk (refsOf (a .graph .refs)) d (u .child) in
-    let leaving : graphOf ((c .before .add-edge) .result .graph) ≡ leaves (graphOf (l .cur)) (andThen (addEdge (graphOf (l .cur)) (shift d p y)) limit) =
-    (c .before .add-edge) .ensures .1 ∙ (λ j. leaves (graphOf (l .cur)) (andThen (addEdge (graphOf (l .cur)) (between d (record { strong = y .edge .strong; path = (c .before .before .factor) .ensures j }) (y .child))) limit)) in
-    let kept = shifted-kept (graphOf (l .cur)) d p y ys r (l .inv .0) room (graphOf ((c .before .add-edge) .result .graph)) sh (ends i) leaving in
-    let rest = shifted-rest (graphOf (l .cur)) d p y ys r (l .inv .0) room (graphOf ((c .before .add-edge) .result .graph)) sh (ends i) leaving (ap (λ (xs : List GEdge). addAll (map (shift d p) xs) (graphOf (l .cur))) (sym (next i)) ∙ l .inv .4) in
-    let more = shifted-length (graphOf (l .cur)) d p y ys r (l .inv .0) room (graphOf ((c .before .add-edge) .result .graph)) sh (ends i) leaving in
-    (kept .formed, kept .names ∙ l .inv .1, omega (arith, more, l .inv .2), and-r (q y) (all q (drop (l .i + 1) (edgesOf (a .t2)))) (ap (all q) (sym (next i)) ∙ l .inv .3), rest)
+    let l = (c .before .before .before .before .before .before .before .before .loop) in
+    let a = (c .before .before .before .before .before .before .before .before .before .args) in
+    let q = moves (a .parent .0) (pathAt (a .path)) in
+    let es = edgesIn (a .old .now) (a .m) in
+    let y = rowOf (getD (a .old .now) (l .i) []) in (
+      (c .add-edge) .ensures .0,
+      omega (arith, (c .before .before .before .before .before .before .before .loop-test) .taken),
+      λ e o ns w r p.
+          let v = l .inv .2 e o ns w r p in
+          let s = keep-yes q (a .old .now) (a .m) (omega (arith, o, (c .before .before .before .before .before .before .before .before .before .pre))) (l .i) ((c .before .before .before .before .before .before .before .loop-test) .taken) [] (sym ((c .before .before .before .before .before .is-moved) .ensures) ∙ (c .before .before .before .before .if1) .taken) in
+          going-turn ns (edgesIn (a .edges .now) (a .k)) (a .child .0) (pathAt (a .path)) (keep q es) (l .edges) (l .n) y (keep q (drop (l .i + 1) es))
+          (subst (λ (ys : List GEdge). Going ns (edgesIn (a .edges .now) (a .k)) (a .child .0) (pathAt (a .path)) (keep q es) (l .edges) (l .n) ys) s v)
+          (row-short (getD (a .old .now) (l .i) [])) ((c .add-edge) .last .0) ((c .add-edge) .result) ((c .add-edge) .ensures .0)
+          (subst (λ (x : GEdge). Added x (l .edges) (l .n) ((c .add-edge) .last .0) ((c .add-edge) .result)) ((c .before .before .factor) .ensures) ((c .add-edge) .ensures .1 (v .full) (wf-neat (graphWith ns (edgesIn (l .edges) (l .n))) (v .formed)))),
+    )
+
+add-i-2 : tie.Need-add-i-2 Inv-loop μ-loop
+add-i-2 c = omega arith
+
+loop-less-2 : tie.Need-loop-less-2 Inv-loop μ-loop
+loop-less-2 c = omega arith
+
+loop-again-2 : tie.Need-loop-again-2 Inv-loop μ-loop
+loop-again-2 c =
+    let l = (c .before .before .before .before .loop) in
+    let a = (c .before .before .before .before .before .args) in
+    let q = moves (a .parent .0) (pathAt (a .path)) in
+    let es = edgesIn (a .old .now) (a .m) in (
+      l .inv .0,
+      omega (arith, (c .before .before .before .loop-test) .taken),
+      λ e o ns w r p.
+          subst (λ (ys : List GEdge). Going ns (edgesIn (a .edges .now) (a .k)) (a .child .0) (pathAt (a .path)) (keep q es) (l .edges) (l .n) ys)
+          (keep-no q (a .old .now) (a .m) (omega (arith, o, (c .before .before .before .before .before .pre))) (l .i) ((c .before .before .before .loop-test) .taken) [] (sym ((c .before .is-moved) .ensures) ∙ (c .if1) .left)) (l .inv .2 e o ns w r p),
+    )
 
 returns : tie.Need-returns Inv-loop μ-loop
-unfolding addAll
 returns c =
     let l = (c .before .loop) in
-    let a = (c .before .before .before .args) in
-    let e = edges-end (a .t2) (l .i) (omega (arith, (c .before .before .len) .ensures .0, (c .loop-test) .left)) in
-    record { done = sym (l .inv .4) ∙ ap (λ (xs : List GEdge). addAll (map (shift (a .child .0) (pathOf (a .path))) xs) (graphOf (l .cur))) e; formed = l .inv .0; names = l .inv .1 }
+    let a = (c .before .before .args) in
+    let q = moves (a .parent .0) (pathAt (a .path)) in
+    let es = edgesIn (a .old .now) (a .m) in (
+      l .inv .0,
+      λ e o ns w r p.
+          let v = l .inv .2 e o ns w r p in (
+            v .full,
+            going-end ns (edgesIn (a .edges .now) (a .k)) (a .child .0) (pathAt (a .path)) (keep q es) (l .edges) (l .n)
+                (subst (λ (ys : List GEdge). Going ns (edgesIn (a .edges .now) (a .k)) (a .child .0) (pathAt (a .path)) (keep q es) (l .edges) (l .n) ys)
+                (ap (λ (ys : List GEdge). keep q ys) (edges-over (a .old .now) (a .m) (l .i) (omega (arith, (c .loop-test) .left)) (omega (arith, o, (c .before .before .pre))))) v),
+          ),
+    )
 
 pub add-moved-spec : {M : Type 1} → statement M
 add-moved-spec =
@@ -100,13 +114,18 @@ add-moved-spec =
     (tie.spec
     Inv-loop
     μ-loop
-    len-requires
     loop-holds
-    mul-y
-    element-copy-out-y
+    mul-is-moved
+    index-1-is-moved
+    is-moved-requires
+    mul-factor
+    index-1-factor
     factor-requires
     add-edge-requires
     add-i
     loop-less
     loop-again
+    add-i-2
+    loop-less-2
+    loop-again-2
     returns)

@@ -1,41 +1,51 @@
-use mathlib.Core.Path.{_≡_, refl}
-use mathlib.Core.Bool.{not, _&&_}
-use Prim.Native.Nat.{_+_, _-_}
-use borrow.Author.Tests.{eq-eqb, ne-eqb}
+use mathlib.Core.Bool.{_&&_, not}
+use mathlib.Core.List.{[]}
+use Rattle.borrow_graph_edit.specs.RowLaws.{none-found, none-on, none-all}
+use mathlib.Core.Path.{_≡_, refl, sym, _∙_}
+use Prim.Native.Nat.{_-_, _≤_}
 use lib.Dec.{eqb}
-use lib.ListN.{drop, getD}
-use Rattle.meaning.specs.Lists.{all}
-use Rattle.borrow_graph.specs.Models.{gedgeOf, edgesOf}
-use Rattle.borrow_graph.specs.ModelLaws.{no-gedge, edges-step, edges-end}
+use lib.ListN.{length, drop}
+use Rattle.meaning.specs.Lists.{all, keep}
+use Rattle.meaning.specs.BorrowGraph.{moves}
+use Rattle.references.specs.Models.{edgesIn, pathAt}
 use native.Mathlib.Omega.{arith}
 use borrow.Author.Needs.{needs}
 use Rattle.borrow_graph_edit.proofs.borrow.none_ends_at.Statement.{statement}
 use Rattle.borrow_graph_edit.proofs.borrow.none_ends_at.Tie as tie
 
 abbrev Inv-loop : tie.InvT-loop
-Inv-loop id self n i₀ i = all (λ x. not (eqb (id .0) (x .child))) (drop i (edgesOf self)) ≡ all (λ x. not (eqb (id .0) (x .child))) (edgesOf self)
+Inv-loop edges m parent path child i₀ i =
+    (i ≤ m) × (length edges ≡ 96 → all (λ x. not (eqb (child .0) (x .child))) (keep (moves (parent .0) (pathAt path)) (drop i (edgesIn edges m))) ≡ all (λ x. not (eqb (child .0) (x .child))) (keep (moves (parent .0) (pathAt path)) (edgesIn edges m)))
 
 abbrev μ-loop : tie.MeasureT-loop
-μ-loop id self n i₀ i = n - i
-
-turn : (c : tie.In-loop Inv-loop μ-loop) →
-    (not (eqb ((c .before .before .before .args) .id .0) (getD ((c .before .before .before .args) .t1 .list) ((c .before .loop) .i) no-gedge .child .0)) && all (λ x. not (eqb ((c .before .before .before .args) .id .0) (x .child))) (drop ((c .before .loop) .i + 1) (edgesOf ((c .before .before .before .args) .t1)))) ≡ all (λ x. not (eqb ((c .before .before .before .args) .id .0) (x .child))) (edgesOf ((c .before .before .before .args) .t1))
-turn c = rw (edges-step ((c .before .before .before .args) .t1) ((c .before .loop) .i) (omega arith)) at ((c .before .loop) .inv)
-
-len-requires : tie.Need-len-requires Inv-loop μ-loop
-len-requires c κs = search needs
+μ-loop edges m parent path child i₀ i = m - i
 
 loop-holds : tie.Need-loop-holds Inv-loop μ-loop
-loop-holds c = refl
+loop-holds c = (omega arith, λ e. refl)
 
-mul-x : tie.Need-mul-x Inv-loop μ-loop
-mul-x c = omega arith
+mul-is-moved : tie.Need-mul-is-moved Inv-loop μ-loop
+mul-is-moved c = omega arith
 
-element-copy-out-x : tie.Need-element-copy-out-x Inv-loop μ-loop
-element-copy-out-x c = omega arith
+index-1-is-moved : tie.Need-index-1-is-moved Inv-loop μ-loop
+index-1-is-moved c = omega arith
+
+is-moved-requires : tie.Need-is-moved-requires Inv-loop μ-loop
+is-moved-requires c κs = search needs
+
+mul-child : tie.Need-mul-child Inv-loop μ-loop
+mul-child c = omega arith
+
+index-1-child : tie.Need-index-1-child Inv-loop μ-loop
+index-1-child c = omega arith
+
+child-requires : tie.Need-child-requires Inv-loop μ-loop
+child-requires c κs = search needs
 
 returns : tie.Need-returns Inv-loop μ-loop
-returns c = rw (eq-eqb _ _ ((c .if1) .taken)) at (turn (c .before .before .before .before))
+returns c =
+    let l = (c .before .before .before .before .before .before .before .before .loop) in
+    λ e. none-found (moves ((c .before .before .before .before .before .before .before .before .before .args) .parent .0) (pathAt ((c .before .before .before .before .before .before .before .before .before .args) .path))) (λ x. eqb ((c .before .before .before .before .before .before .before .before .before .args) .child .0) (x .child)) ((c .before .before .before .before .before .before .before .before .before .args) .edges .now) ((c .before .before .before .before .before .before .before .before .before .args) .m) (omega (arith, e, (c .before .before .before .before .before .before .before .before .before .pre))) (l .i) _ (l .inv .1 e) ((c .before .before .before .before .before .before .before .loop-test) .taken) []
+    ((λ i. sym ((c .before .before .before .before .before .is-moved) .ensures) i && eqb ((c .before .before .before .before .before .before .before .before .before .args) .child .0) (sym ((c .before .before .before .child) .ensures) i)) ∙ (c .if1) .taken)
 
 add-i : tie.Need-add-i Inv-loop μ-loop
 add-i c = omega arith
@@ -44,10 +54,17 @@ loop-less : tie.Need-loop-less Inv-loop μ-loop
 loop-less c = omega arith
 
 loop-again : tie.Need-loop-again Inv-loop μ-loop
-loop-again c = rw (ne-eqb _ _ ((c .if1) .left)) at (turn (c .before .before .before .before))
+loop-again c =
+    let l = (c .before .before .before .before .before .before .before .before .loop) in (
+      omega (arith, (c .before .before .before .before .before .before .before .loop-test) .taken),
+      λ e. none-on (moves ((c .before .before .before .before .before .before .before .before .before .args) .parent .0) (pathAt ((c .before .before .before .before .before .before .before .before .before .args) .path))) (λ x. eqb ((c .before .before .before .before .before .before .before .before .before .args) .child .0) (x .child)) ((c .before .before .before .before .before .before .before .before .before .args) .edges .now) ((c .before .before .before .before .before .before .before .before .before .args) .m) (omega (arith, e, (c .before .before .before .before .before .before .before .before .before .pre))) (l .i) _ (l .inv .1 e) ((c .before .before .before .before .before .before .before .loop-test) .taken) []
+          ((λ i. sym ((c .before .before .before .before .before .is-moved) .ensures) i && eqb ((c .before .before .before .before .before .before .before .before .before .args) .child .0) (sym ((c .before .before .before .child) .ensures) i)) ∙ (c .if1) .left),
+    )
 
 returns-2 : tie.Need-returns-2 Inv-loop μ-loop
-returns-2 c = rw (edges-end ((c .before .before .before .args) .t1) ((c .before .loop) .i) (omega arith)) at ((c .before .loop) .inv)
+returns-2 c =
+    let l = (c .before .loop) in
+    λ e. none-all (moves ((c .before .before .args) .parent .0) (pathAt ((c .before .before .args) .path))) (λ x. eqb ((c .before .before .args) .child .0) (x .child)) ((c .before .before .args) .edges .now) ((c .before .before .args) .m) (omega (arith, e, (c .before .before .pre))) (l .i) _ (l .inv .1 e) (omega (arith, (c .loop-test) .left))
 
 pub none-ends-at-spec : {M : Type 1} → statement M
 none-ends-at-spec =
@@ -55,10 +72,13 @@ none-ends-at-spec =
     (tie.spec
     Inv-loop
     μ-loop
-    len-requires
     loop-holds
-    mul-x
-    element-copy-out-x
+    mul-is-moved
+    index-1-is-moved
+    is-moved-requires
+    mul-child
+    index-1-child
+    child-requires
     returns
     add-i
     loop-less

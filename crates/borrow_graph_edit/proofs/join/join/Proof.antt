@@ -1,42 +1,71 @@
-use mathlib.Core.Path.{sym, ap, _∙_}
+use mathlib.Core.Path.{_≡_, refl, sym, ap, _∙_}
+use mathlib.Core.Bool.{Bool, true, false, _&&_}
 use mathlib.Core.List.{List}
+use lib.Dec.{leb}
 use Rattle.meaning.specs.Answers.{Ans, ok, andThen}
-use Rattle.meaning.specs.Laws.Base.{answered, declined}
-use Rattle.meaning.specs.BorrowGraph.{GEdge, Graph}
+use Rattle.meaning.specs.Laws.Base.{answered, declined, and-l, and-r, and-i, leb-le, le-leb}
+use Rattle.meaning.specs.BorrowGraph.{GEdge, Graph, joinGraphs, wellFormed, sameNames}
 use Rattle.meaning.specs.Laws.Pass.{join-9, join-when, join-neat}
-use Rattle.borrow_graph.specs.Models.{edgesOf, graphOf}
-use Rattle.borrow_graph_edit.specs.Models.{replacedOf}
-use Rattle.borrow_graph.specs.ModelLaws.{told-yes, told-no, told-declined}
+use Rattle.meaning.specs.Laws.Call.{joinGraphs-law}
+use Rattle.references.specs.Models.{edgesIn}
+use Rattle.references.specs.ModelLaws.{told-yes, told-no, told-declined}
+use Rattle.borrow_graph.specs.Models.{graphIn, Tells}
+use Rattle.borrow_graph_edit.specs.Models.{replacedIn}
+use native.Mathlib.Omega.{arith}
 use borrow.Author.Needs.{needs}
 use Rattle.borrow_graph_edit.proofs.join.join.Statement.{statement}
 use Rattle.borrow_graph_edit.proofs.join.join.Tie as tie
+
+fits : (c : tie.Then1) → leb ((c .before .before .before .before .args) .graph .edges) 96 && leb ((c .before .before .before .before .args) .other .edges) 96 ≡ true
+fits c = and-l (leb ((c .before .before .before .before .args) .graph .edges) 96 && leb ((c .before .before .before .before .args) .other .edges) 96) ((c .before .joinable) .result) ((c .if1) .taken)
 
 joinable-requires : tie.Need-joinable-requires
 joinable-requires c κs = search needs
 
 join-all-requires : tie.Need-join-all-requires
-join-all-requires c κs = join-neat (graphOf ((c .before .before .before .before .before .args) .graph)) (graphOf ((c .before .before .before .before .before .args) .other)) (sym ((c .before .before .before .before .joinable) .ensures) ∙ (c .before .before .before .if1) .taken)
+join-all-requires c κs = (leb-le (and-l (leb ((c .before .before .before .before .before .before .before .args) .graph .edges) 96) (leb ((c .before .before .before .before .before .before .before .args) .other .edges) 96) (fits ((c .before .before .before)))), leb-le (and-r (leb ((c .before .before .before .before .before .before .before .args) .graph .edges) 96) (leb ((c .before .before .before .before .before .before .before .args) .other .edges) 96) (fits ((c .before .before .before)))))
 
 returns : tie.Need-returns
-returns c =
+returns c = λ t u.
     let a = (c .before .before .before .before .before .before .before .before .before .before .args) in
-    let g = graphOf (a .graph) in
-    let r = (c .before .before .before .before .join-all) .result in
-    answered g (record { names = g .names; edges = edgesOf (r .edges) }) _
-    (join-when g (graphOf (a .other)) (sym ((c .before .before .before .before .before .before .before .before .before .joinable) .ensures) ∙ (c .before .before .before .before .before .before .before .before .if1) .taken) (replacedOf r) ((c .before .before .before .before .join-all) .ensures)
-    ∙ ap (λ (b : Ans (List GEdge)). andThen {B = Graph} b (λ fs. ok (record { names = g .names; edges = fs }))) (told-yes (r .refusal) (edgesOf (r .edges)) ((c .before .before .if2) .taken)))
+    let g = graphIn (a .names .now) (a .edges .now) (a .graph) in
+    let h = graphIn (a .their-names .now) (a .their-edges .now) (a .other) in
+    let r = (c .before .before .join-all) .result in
+    let e : (wellFormed g && wellFormed h) && sameNames g h ≡ true = sym ((c .before .before .before .before .before .before .before .joinable) .ensures (a .edges .now) (a .their-edges .now) t u) ∙ and-r (leb (a .graph .edges) 96 && leb (a .other .edges) 96) ((c .before .before .before .before .before .before .before .joinable) .result) ((c .before .before .before .before .before .before .if1) .taken) in
+    let n = join-neat g h e in
+    let z = (c .before .before .join-all) .ensures .1 refl (t .rows) (u .rows) (n .0) (n .1) in
+    let k : Graph = record { names = g .names; edges = edgesIn ((c .before .before .join-all) .last .0) (r .edges) } in
+    let j : joinGraphs g h ≡ ok k = join-when g h e (replacedIn ((c .before .before .join-all) .last .0) r) (z .1)
+    ∙ ap (λ (b : Ans (List GEdge)). andThen {B = Graph} b (λ fs. ok (record { names = g .names; edges = fs }))) (told-yes (r .refusal) (edgesIn ((c .before .before .join-all) .last .0) (r .edges)) ((c .if2) .taken)) in
+    let w = answered g k (joinGraphs g h) j in
+    record {
+      answer = w .0;
+      left = w .1;
+      tells = record { words = t .words; rows = z .0; refs = t .refs; edges = (c .before .before .join-all) .ensures .0; formed = sym (joinGraphs-law g h k j .formed) };
+    }
 
 returns-2 : tie.Need-returns-2
-returns-2 c =
-    let a = (c .before .before .before .before .before .before .before .before .args) in
-    let g = graphOf (a .graph) in
+returns-2 c = λ t u.
+    let a = (c .before .before .before .before .before .before .before .before .before .before .args) in
+    let g = graphIn (a .names .now) (a .edges .now) (a .graph) in
+    let h = graphIn (a .their-names .now) (a .their-edges .now) (a .other) in
     let r = (c .before .before .join-all) .result in
-    told-declined (r .refusal) g _ ((c .if2) .left)
-    (join-when g (graphOf (a .other)) (sym ((c .before .before .before .before .before .before .before .joinable) .ensures) ∙ (c .before .before .before .before .before .before .if1) .taken) (replacedOf r) ((c .before .before .join-all) .ensures)
-    ∙ ap (λ (b : Ans (List GEdge)). andThen {B = Graph} b (λ fs. ok (record { names = g .names; edges = fs }))) (told-no (r .refusal) (edgesOf (r .edges)) ((c .if2) .left)))
+    let e : (wellFormed g && wellFormed h) && sameNames g h ≡ true = sym ((c .before .before .before .before .before .before .before .joinable) .ensures (a .edges .now) (a .their-edges .now) t u) ∙ and-r (leb (a .graph .edges) 96 && leb (a .other .edges) 96) ((c .before .before .before .before .before .before .before .joinable) .result) ((c .before .before .before .before .before .before .if1) .taken) in
+    let n = join-neat g h e in
+    let z = (c .before .before .join-all) .ensures .1 refl (t .rows) (u .rows) (n .0) (n .1) in
+    let w = told-declined (r .refusal) g (joinGraphs g h) ((c .if2) .left) (join-when g h e (replacedIn ((c .before .before .join-all) .last .0) r) (z .1)
+    ∙ ap (λ (b : Ans (List GEdge)). andThen {B = Graph} b (λ fs. ok (record { names = g .names; edges = fs }))) (told-no (r .refusal) (edgesIn ((c .before .before .join-all) .last .0) (r .edges)) ((c .if2) .left))) in
+    record { answer = w .0; left = w .1; tells = t }
 
 returns-3 : tie.Need-returns-3
-returns-3 c = declined (graphOf ((c .before .before .args) .graph)) 9 _ (join-9 (graphOf ((c .before .before .args) .graph)) (graphOf ((c .before .before .args) .other)) (sym ((c .before .joinable) .ensures) ∙ (c .if1) .left))
+returns-3 c = λ t u.
+    let a = (c .before .before .before .before .args) in
+    let g = graphIn (a .names .now) (a .edges .now) (a .graph) in
+    let h = graphIn (a .their-names .now) (a .their-edges .now) (a .other) in
+    let few : leb (a .graph .edges) 96 && leb (a .other .edges) 96 ≡ true = and-i (le-leb (t .edges)) (le-leb (u .edges)) in
+    let same : (c .before .joinable) .result ≡ false = ap (λ (b : Bool). b && (c .before .joinable) .result) (sym few) ∙ (c .if1) .left in
+    let w = declined g 9 (joinGraphs g h) (join-9 g h (sym ((c .before .joinable) .ensures (a .edges .now) (a .their-edges .now) t u) ∙ same)) in
+    record { answer = w .0; left = w .1; tells = t }
 
 pub join-spec : {M : Type 1} → statement M
 join-spec = tie.close (tie.spec joinable-requires join-all-requires returns returns-2 returns-3)

@@ -1,66 +1,24 @@
-use mathlib.Core.Path.{_≡_, refl, sym, ap, _∙_}
-use mathlib.Core.List.{List, _∷_, _++_, map, append-nil}
-use Prim.Native.Nat.{ℕ, _+_, _-_, _<_, _≤_}
-use lib.ListN.{length, take, drop, getD, length-set, length-take, length-map, length-append, length-drop}
-use Rattle.meaning.specs.References.{Edge}
-use lib.ListN.{drop-of-length-le}
-use lib.Seq.{drop-at}
+use mathlib.Core.Path.{_≡_, refl, sym, ap, _∙_, subst}
+use mathlib.Core.List.{List, [], _∷_, _++_, append-nil}
+use Prim.Native.Nat.{ℕ, _+_, _-_, _≤_, _<_, min}
+use lib.ListN.{length, take, drop, getD, length-set, drop-of-length-le}
 use Rattle.meaning.specs.BorrowGraph.{GEdge, tagged}
-use Rattle.meaning.specs.Laws.Array.{push-map, middle-step, last-step, length-of-map, map-step, drop-step}
-use Rattle.references.specs.Models.{edgeOf, edgesOf as edgesOfSet}
-use Rattle.references.specs.ModelLaws.{no-edge, set-step}
-use Rattle.borrow_graph.specs.Models.{gedgeOf, edgesOf}
-use Rattle.borrow_graph.specs.ModelLaws.{no-gedge, edges-step, edges-end, edges-front, edges-made}
+use Rattle.references.specs.Models.{rowOf, edgesIn, setEdges}
+use Rattle.references.specs.ModelLaws.{edges-next, edges-count, edges-front, edges-push, set-count, set-step}
+use Rattle.borrow_graph_edit.specs.Walks.{exchanged, exchanged-front, exchanged-set, exchanged-behind, exchanged-length}
 use native.Mathlib.Omega.{arith}
 use borrow.Author.Needs.{needs}
 use Rattle.borrow_graph_edit.proofs.pairs.replace.Statement.{statement}
 use Rattle.borrow_graph_edit.proofs.pairs.replace.Tie as tie
 
 abbrev Inv-loop : tie.InvT-loop
-Inv-loop low old parent child self set n k end out₀ j₀ out j =
-    (low ≤ j) × (j ≤ end) × (length out ≡ 96)
-    × (map gedgeOf (take j out) ++ drop j (take low (edgesOf self) ++ (tagged (parent .0) (child .0) (set .overflown) (edgesOfSet set) ++ drop (low + old) (edgesOf self))) ≡ take low (edgesOf self) ++ (tagged (parent .0) (child .0) (set .overflown) (edgesOfSet set) ++ drop (low + old) (edgesOf self)))
+Inv-loop edges₀ m low old parent child set s was k end j₀ edges j = (low ≤ j) × (j ≤ end) × (length edges₀ ≡ 96 → length set ≡ 10 → (length edges ≡ 96) × (fits : low + old ≤ length (edgesIn edges₀ m)) × (edgesIn edges j ++ drop j (exchanged (edgesIn edges₀ m) (parent .0) (child .0) low old (s .overflown) (setEdges set (s .len)) fits) ≡ exchanged (edgesIn edges₀ m) (parent .0) (child .0) low old (s .overflown) (setEdges set (s .len)) fits))
 
 abbrev μ-loop : tie.MeasureT-loop
-μ-loop low old parent child self set n k end out₀ j₀ out j = end - j
-
--- the set's edge, then the edges behind the old ones
-in-set : (c : tie.Then1 Inv-loop μ-loop) →
-    let a = (c .before .before .before .before .before .before .args) in
-    let j = (c .before .before .loop) .j in
-    let whole = take (a .low) (edgesOf (a .t1)) ++ (tagged (a .parent .0) (a .child .0) (a .t6 .overflown) (edgesOfSet (a .t6)) ++ drop (a .low + a .old) (edgesOf (a .t1))) in
-    drop j whole ≡ record { parent = a .parent .0; child = a .child .0; blurred = a .t6 .overflown; edge = edgeOf (getD (a .t6 .edges) (j - a .low) no-edge) } ∷ drop (j + 1) whole
-in-set c =
-    let a = (c .before .before .before .before .before .before .args) in
-    let l = (c .before .before .loop) in
-    let n : length (take (a .low) (edgesOf (a .t1))) ≡ a .low = simp length-take (omega (arith, (c .before .before .before .before .before .before .pre))) in
-    let h : l .j - a .low < length (edgesOfSet (a .t6)) = omega (arith, (c .before .before .before .before .len2) .ensures .0, l .inv .0) in
-    let tag : Edge → GEdge = λ e. record { parent = a .parent .0; child = a .child .0; blurred = a .t6 .overflown; edge = e } in
-    middle-step (take (a .low) (edgesOf (a .t1))) (map tag (edgesOfSet (a .t6))) (drop (a .low + a .old) (edgesOf (a .t1))) (l .j) (l .j - a .low) _ (omega (arith, n, l .inv .0)) (map-step tag (edgesOfSet (a .t6)) (l .j - a .low) _ (set-step (a .t6) (l .j - a .low) h))
-
-behind : (c : tie.Else1 Inv-loop μ-loop) →
-    let a = (c .before .before .before .before .before .before .args) in
-    let j = (c .before .before .loop) .j in
-    let whole = take (a .low) (edgesOf (a .t1)) ++ (tagged (a .parent .0) (a .child .0) (a .t6 .overflown) (edgesOfSet (a .t6)) ++ drop (a .low + a .old) (edgesOf (a .t1))) in
-    drop j whole ≡ gedgeOf (getD (a .t1 .list) (j - (c .before .before .before .before .len2) .result + a .old) no-gedge) ∷ drop (j + 1) whole
-behind c =
-    let a = (c .before .before .before .before .before .before .args) in
-    let l = (c .before .before .loop) in
-    let k = (c .before .before .before .before .len2) .result in
-    let n : length (take (a .low) (edgesOf (a .t1))) ≡ a .low = simp length-take (omega (arith, (c .before .before .before .before .before .before .pre))) in
-    let m : length (tagged (a .parent .0) (a .child .0) (a .t6 .overflown) (edgesOfSet (a .t6))) ≡ k = length-map (edgesOfSet (a .t6)) _ ∙ sym ((c .before .before .before .before .len2) .ensures .0) in
-    let i : ℕ = l .j - k - a .low in
-    let here : (a .low + a .old) + i ≡ l .j - k + a .old = omega (arith, (c .if1) .left) in
-    let after : l .j - k + a .old + 1 ≡ (a .low + a .old) + i + 1 = omega (arith, (c .if1) .left) in
-    let h : l .j - k + a .old < length (edgesOf (a .t1)) = omega (arith, (c .before .before .before .before .before .len) .ensures .0, (c .before .loop-test) .taken, (c .if1) .left, (c .before .before .before .before .before .before .pre)) in
-    last-step (take (a .low) (edgesOf (a .t1))) (tagged (a .parent .0) (a .child .0) (a .t6 .overflown) (edgesOfSet (a .t6))) (drop (a .low + a .old) (edgesOf (a .t1))) (l .j) i _ (omega (arith, n, m, (c .if1) .left))
-    (drop-step (edgesOf (a .t1)) (a .low + a .old) i _ (ap (λ (z : ℕ). drop z (edgesOf (a .t1))) here ∙ edges-step (a .t1) (l .j - k + a .old) h ∙ ap (λ (z : ℕ). gedgeOf (getD (a .t1 .list) (l .j - k + a .old) no-gedge) ∷ drop z (edgesOf (a .t1))) after))
+μ-loop edges₀ m low old parent child set s was k end j₀ edges j = end - j
 
 len-requires : tie.Need-len-requires Inv-loop μ-loop
 len-requires c κs = search needs
-
-len-requires-2 : tie.Need-len-requires-2 Inv-loop μ-loop
-len-requires-2 c κs = search needs
 
 sub-end : tie.Need-sub-end Inv-loop μ-loop
 sub-end c = omega arith
@@ -70,28 +28,40 @@ add-end c = omega arith
 
 loop-holds : tie.Need-loop-holds Inv-loop μ-loop
 loop-holds c =
-    let a = (c .before .before .before .args) in
-    let full : length (a .t1 .list) ≡ 96 = search length-of-map in
-    let n : length (take (a .low) (edgesOf (a .t1))) ≡ a .low = simp length-take (omega (arith, (c .before .before .before .pre))) in
-    (omega arith, omega (arith, (c .before .before .before .pre), (c .before .before .len) .ensures .0), full, rw (edges-front (a .t1) (a .low) (omega (arith, (c .before .before .before .pre)))) (ap (λ (xs : List GEdge). take (a .low) (edgesOf (a .t1)) ++ xs) (drop-at (take (a .low) (edgesOf (a .t1))) _ (a .low) n)))
+    let a = (c .before .before .args) in
+    let es = edgesIn (a .edges .now) (a .m) in (
+      omega arith,
+      omega (arith, (c .before .before .pre), (c .len) .ensures),
+      λ e d.
+          let n = edges-count (a .edges .now) (a .m) (omega (arith, e, (c .before .before .pre))) in
+          let fits : a .low + a .old ≤ length es = omega (arith, n, (c .before .before .pre)) in (
+            e,
+            fits,
+            ap (λ (xs : List GEdge). edgesIn (a .edges .now) (a .low) ++ xs) (exchanged-front es (a .parent .0) (a .child .0) (a .low) (a .old) (a .s .overflown) (setEdges (a .set .now) (a .s .len)) fits)
+                ∙ ap (λ (ys : List GEdge). ys ++ (tagged (a .parent .0) (a .child .0) (a .s .overflown) (setEdges (a .set .now) (a .s .len)) ++ drop (a .low + a .old) es)) (edges-front (a .edges .now) (a .m) (a .low) (omega (arith, n, (c .before .before .pre)))),
+          ),
+    )
 
 add-if1 : tie.Need-add-if1 Inv-loop μ-loop
 add-if1 c = omega arith
 
-sub-e : tie.Need-sub-e Inv-loop μ-loop
-sub-e c = omega arith
+sub-tagged : tie.Need-sub-tagged Inv-loop μ-loop
+sub-tagged c = omega (arith, (c .before .before .loop) .inv .0)
 
-mul-e : tie.Need-mul-e Inv-loop μ-loop
-mul-e c = omega arith
+mul-tagged : tie.Need-mul-tagged Inv-loop μ-loop
+mul-tagged c = omega (arith, (c .before .before .loop) .inv .0, (c .before .before .before .len) .ensures)
 
-element-copy-out-e : tie.Need-element-copy-out-e Inv-loop μ-loop
-element-copy-out-e c = omega arith
+index-1-tagged : tie.Need-index-1-tagged Inv-loop μ-loop
+index-1-tagged c = omega (arith, (c .before .before .loop) .inv .0, (c .before .before .before .len) .ensures)
 
-mul-out : tie.Need-mul-out Inv-loop μ-loop
-mul-out c = omega arith
+tagged-requires : tie.Need-tagged-requires Inv-loop μ-loop
+tagged-requires c κs = search needs
 
-array-set-from-out : tie.Need-array-set-from-out Inv-loop μ-loop
-array-set-from-out c = omega arith
+mul-x : tie.Need-mul-x Inv-loop μ-loop
+mul-x c = omega arith
+
+element-set-from-x : tie.Need-element-set-from-x Inv-loop μ-loop
+element-set-from-x c = omega arith
 
 add-j : tie.Need-add-j Inv-loop μ-loop
 add-j c = omega arith
@@ -101,27 +71,42 @@ loop-less c = omega arith
 
 loop-again : tie.Need-loop-again Inv-loop μ-loop
 loop-again c =
-    let l = (c .before .before .before .loop) in
-    let h : l .j < length (l .out) = omega (arith, l .inv .2, l .inv .1, (c .before .before .loop-test) .taken, (c .before .before .before .before .before .before .before .pre), (c .before .before .before .before .before .before .len) .ensures .0, (c .before .before .before .before .before .len2) .ensures .0) in
-    (omega (arith, l .inv .0), omega (arith, (c .before .before .loop-test) .taken), simp length-set (l .inv .2), push-map gedgeOf (l .out) (l .j) (l .j + 1) _ _ refl h ∙ ap (λ (xs : List GEdge). map gedgeOf (take (l .j) (l .out)) ++ xs) (sym (in-set (c .before))) ∙ l .inv .3)
+    let l = (c .before .before .before .before .loop) in
+    let a = (c .before .before .before .before .before .before .before .args) in
+    let es = edgesIn (a .edges .now) (a .m) in
+    let ds = setEdges (a .set .now) (a .s .len) in (
+      omega (arith, l .inv .0),
+      omega arith,
+      λ e d.
+          let h = l .inv .2 e d in
+          let n = set-count (a .set .now) (a .s .len) d in (
+            simp length-set (h .0),
+            h .1,
+            edges-push (l .edges) _ (l .j) (l .j + 1) _ refl (omega (arith, h .0, l .inv .1, (c .before .before .before .before .before .before .before .pre), (c .before .before .before .before .before .len) .ensures))
+                ∙ ap (λ (x : GEdge). edgesIn (l .edges) (l .j) ++ (x ∷ drop (l .j + 1) (exchanged es (a .parent .0) (a .child .0) (a .low) (a .old) (a .s .overflown) ds (h .1)))) ((c .tagged) .ensures)
+                ∙ ap (λ (xs : List GEdge). edgesIn (l .edges) (l .j) ++ xs) (sym (exchanged-set es (a .parent .0) (a .child .0) (a .low) (a .old) (a .s .overflown) ds (h .1) (l .j) _ (l .inv .0)
+                (set-step (a .set .now) (a .s .len) [] (l .j - a .low) (omega (arith, n, (c .before .before .if1) .taken, l .inv .0, (c .before .before .before .before .before .len) .ensures)))))
+                ∙ h .2,
+          ),
+    )
 
 sub-x : tie.Need-sub-x Inv-loop μ-loop
-sub-x c = omega arith
+sub-x c = omega (arith, (c .before .before .before .len) .ensures, (c .if1) .left, (c .before .before .loop) .inv .0)
 
 add-x : tie.Need-add-x Inv-loop μ-loop
-add-x c = omega arith
+add-x c = omega (arith, (c .before .before .before .len) .ensures, (c .before .before .before .before .before .pre))
 
-mul-x : tie.Need-mul-x Inv-loop μ-loop
-mul-x c = omega arith
+mul-x-2 : tie.Need-mul-x-2 Inv-loop μ-loop
+mul-x-2 c = omega (arith, (c .before .before .before .len) .ensures, (c .if1) .left, (c .before .before .loop) .inv .1, (c .before .before .before .before .before .pre))
 
-element-copy-out-x : tie.Need-element-copy-out-x Inv-loop μ-loop
-element-copy-out-x c = omega arith
+array-copy-out-x : tie.Need-array-copy-out-x Inv-loop μ-loop
+array-copy-out-x c = omega (arith, (c .before .before .before .len) .ensures, (c .if1) .left, (c .before .before .loop) .inv .1, (c .before .before .before .before .before .pre))
 
-mul-out-2 : tie.Need-mul-out-2 Inv-loop μ-loop
-mul-out-2 c = omega arith
+mul-x-3 : tie.Need-mul-x-3 Inv-loop μ-loop
+mul-x-3 c = omega arith
 
-array-set-from-out-2 : tie.Need-array-set-from-out-2 Inv-loop μ-loop
-array-set-from-out-2 c = omega arith
+element-set-from-x-2 : tie.Need-element-set-from-x-2 Inv-loop μ-loop
+element-set-from-x-2 c = omega arith
 
 add-j-2 : tie.Need-add-j-2 Inv-loop μ-loop
 add-j-2 c = omega arith
@@ -132,25 +117,45 @@ loop-less-2 c = omega arith
 loop-again-2 : tie.Need-loop-again-2 Inv-loop μ-loop
 loop-again-2 c =
     let l = (c .before .before .before .loop) in
-    let h : l .j < length (l .out) = omega (arith, l .inv .2, l .inv .1, (c .before .before .loop-test) .taken, (c .before .before .before .before .before .before .before .pre), (c .before .before .before .before .before .before .len) .ensures .0, (c .before .before .before .before .before .len2) .ensures .0) in
-    (omega (arith, l .inv .0), omega (arith, (c .before .before .loop-test) .taken), simp length-set (l .inv .2), push-map gedgeOf (l .out) (l .j) (l .j + 1) _ _ refl h ∙ ap (λ (xs : List GEdge). map gedgeOf (take (l .j) (l .out)) ++ xs) (sym (behind (c .before))) ∙ l .inv .3)
-
-cast-t39 : tie.Need-cast-t39 Inv-loop μ-loop
-cast-t39 c = omega arith
+    let a = (c .before .before .before .before .before .before .args) in
+    let es = edgesIn (a .edges .now) (a .m) in
+    let ds = setEdges (a .set .now) (a .s .len) in
+    let k = (c .before .before .before .before .len) .result in (
+      omega (arith, l .inv .0),
+      omega arith,
+      λ e d.
+          let h = l .inv .2 e d in
+          let n = set-count (a .set .now) (a .s .len) d in
+          let i : ℕ = l .j - k - a .low in
+          let here : a .low + a .old + i ≡ l .j - k + a .old = omega (arith, (c .before .if1) .left) in (
+            simp length-set (h .0),
+            h .1,
+            edges-push (l .edges) _ (l .j) (l .j + 1) _ refl (omega (arith, h .0, l .inv .1, (c .before .before .before .before .before .before .pre), (c .before .before .before .before .len) .ensures))
+                ∙ ap (λ (xs : List GEdge). edgesIn (l .edges) (l .j) ++ xs) (sym (exchanged-behind es (a .parent .0) (a .child .0) (a .low) (a .old) (a .s .overflown) ds (h .1) (l .j) i _ (omega (arith, n, (c .before .before .before .before .len) .ensures, (c .before .if1) .left))
+                (ap (λ (z : ℕ). drop z es) here ∙ edges-next (a .edges .now) (a .m) [] (l .j - k + a .old) (omega (arith, (c .before .if1) .left, (c .before .before .before .before .len) .ensures, (c .before .before .before .before .before .before .pre))) (omega (arith, e, (c .before .before .before .before .before .before .pre)))
+                ∙ ap (λ (z : ℕ). rowOf (getD (a .edges .now) (l .j - k + a .old) []) ∷ drop (z + 1) es) (sym here))))
+                ∙ h .2,
+          ),
+    )
 
 returns : tie.Need-returns Inv-loop μ-loop
 returns c =
-    let a = (c .before .before .before .before .before .args) in
     let l = (c .before .loop) in
-    let k = (c .before .before .before .len2) .result in
-    let n : length (take (a .low) (edgesOf (a .t1))) ≡ a .low = simp length-take (omega (arith, (c .before .before .before .before .before .pre))) in
-    let m : length (tagged (a .parent .0) (a .child .0) (a .t6 .overflown) (edgesOfSet (a .t6))) ≡ length (edgesOfSet (a .t6)) = length-map (edgesOfSet (a .t6)) _ in
-    let d : length (drop (a .low + a .old) (edgesOf (a .t1))) ≡ length (edgesOf (a .t1)) - (a .low + a .old) = length-drop (a .low + a .old) (edgesOf (a .t1)) in
-    let whole = take (a .low) (edgesOf (a .t1)) ++ (tagged (a .parent .0) (a .child .0) (a .t6 .overflown) (edgesOfSet (a .t6)) ++ drop (a .low + a .old) (edgesOf (a .t1))) in
-    let e : l .j ≡ (c .before .before .before .before .len) .result - a .old + k = omega (arith, l .inv .1, (c .loop-test) .left) in
-    let w : length whole ≡ a .low + (length (edgesOfSet (a .t6)) + (length (edgesOf (a .t1)) - (a .low + a .old))) = simp length-append (λ i. n i + (m i + d i)) in
-    let z : length whole ≤ l .j = omega (arith, w, e, (c .before .before .before .before .len) .ensures .0, (c .before .before .before .len2) .ensures .0, (c .before .before .before .before .before .pre)) in
-    edges-made (l .out) ((c .before .before .before .before .len) .result - a .old + k) ∙ ap (λ (t : ℕ). map gedgeOf (take t (l .out))) (sym e) ∙ rw (drop-of-length-le whole z, append-nil) at (l .inv .3)
+    let a = (c .before .before .before .before .args) in
+    let es = edgesIn (a .edges .now) (a .m) in
+    let ds = setEdges (a .set .now) (a .s .len) in
+    let k = (c .before .before .len) .result in
+    let j : l .j ≡ a .m - a .old + k = omega (arith, l .inv .1, c .loop-test .left) in (
+      omega (arith, (c .before .before .len) .ensures),
+      λ e d.
+          let h = l .inv .2 e d in
+          let n = set-count (a .set .now) (a .s .len) d in
+          let w = exchanged-length es (a .parent .0) (a .child .0) (a .low) (a .old) (a .s .overflown) ds (h .1) in
+          let m = edges-count (a .edges .now) (a .m) (omega (arith, e, (c .before .before .before .before .pre))) in
+          let whole = exchanged es (a .parent .0) (a .child .0) (a .low) (a .old) (a .s .overflown) ds (h .1) in
+          let z : length whole ≤ l .j = omega (arith, w, n, m, j, (c .before .before .len) .ensures, (c .before .before .before .before .pre)) in
+          (h .0, ap (λ (t : ℕ). edgesIn (l .edges) t) (sym j) ∙ sym (append-nil (edgesIn (l .edges) (l .j))) ∙ ap (λ (xs : List GEdge). edgesIn (l .edges) (l .j) ++ xs) (sym (drop-of-length-le whole z)) ∙ h .2),
+    )
 
 pub replace-spec : {M : Type 1} → statement M
 replace-spec =
@@ -159,27 +164,26 @@ replace-spec =
     Inv-loop
     μ-loop
     len-requires
-    len-requires-2
     sub-end
     add-end
     loop-holds
     add-if1
-    sub-e
-    mul-e
-    element-copy-out-e
-    mul-out
-    array-set-from-out
+    sub-tagged
+    mul-tagged
+    index-1-tagged
+    tagged-requires
+    mul-x
+    element-set-from-x
     add-j
     loop-less
     loop-again
     sub-x
     add-x
-    mul-x
-    element-copy-out-x
-    mul-out-2
-    array-set-from-out-2
+    mul-x-2
+    array-copy-out-x
+    mul-x-3
+    element-set-from-x-2
     add-j-2
     loop-less-2
     loop-again-2
-    cast-t39
     returns)

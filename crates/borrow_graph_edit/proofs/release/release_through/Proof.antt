@@ -1,49 +1,52 @@
-use native.Mathlib.Omega.{arith}
-use mathlib.Core.Path.{_≡_, refl, sym, ap, _∙_}
-use mathlib.Core.Bool.{true}
+use mathlib.Core.Path.{_≡_, refl, sym, _∙_}
+use mathlib.Core.Bool.{true, _&&_}
 use mathlib.Core.List.{List}
-use Rattle.meaning.specs.Answers.{Ans, ok, andThen}
+use lib.ListN.{length}
 use Rattle.meaning.specs.Lists.{keep}
-use Rattle.meaning.specs.Laws.Base.{and-l, answered}
-use Rattle.meaning.specs.BorrowGraph.{GEdge, Graph, wellFormed, held, other}
+use Rattle.meaning.specs.Laws.Base.{and-l}
+use Rattle.meaning.specs.BorrowGraph.{Name, wellFormed, holds, other, release}
+use Rattle.meaning.specs.Refinement.Passes.{apart}
 use Rattle.meaning.specs.Laws.Pass.{release-when, without-neat, wf-neat}
-use Rattle.borrow_graph.specs.Models.{refsOf, edgesOf, graphOf}
-use Rattle.borrow_graph_edit.specs.Models.{replacedOf}
-use Rattle.borrow_graph.specs.ModelLaws.{told-yes, told-no, told-declined}
+use Rattle.references.specs.Models.{edgesIn, told}
+use Rattle.references.specs.ModelLaws.{told-no}
+use Rattle.borrow_graph_edit.specs.Edits.{graphWith, told-as}
 use borrow.Author.Needs.{needs}
 use Rattle.borrow_graph_edit.proofs.release.release_through.Statement.{statement}
 use Rattle.borrow_graph_edit.proofs.release.release_through.Tie as tie
 
-without-requires : tie.Need-without-requires
-without-requires c κs = search needs
+-- what the passes answer
+passed : (c : tie.After-splice-all) → let a = (c .before .before .before .before .args) in let es = edgesIn (a .edges .now) (a .m) in let r = (c .splice-all) .result in
+    length (a .edges .now) ≡ 96 → (ns : List Name) → wellFormed (graphWith ns es) && holds ns (a .id .0) ≡ true
+    → (told (r .refusal) (graphWith (keep (other (a .id .0)) ns) (edgesIn ((c .splice-all) .last .0) (r .edges))) ≡ release (graphWith ns es) (a .id .0)) × (length ((c .splice-all) .last .0) ≡ 96)
+passed c =
+    let a = (c .before .before .before .before .args) in
+    let es = edgesIn (a .edges .now) (a .m) in
+    let n = a .id .0 in
+    let r = (c .splice-all) .result in
+    let fs = edgesIn ((c .splice-all) .last .0) (r .edges) in
+    λ e ns t.
+    let g = graphWith ns es in
+    let ms = keep (other n) ns in
+    let w = and-l (wellFormed g) (holds ns n) t in
+    let s = (c .splice-all) .ensures .1 e e (without-neat g n w (keep (apart n) es) refl) (wf-neat g w) in
+    (told-as (graphWith ms) (r .refusal) fs (told (r .refusal) fs) refl ∙ sym (release-when g n t (keep (apart n) es) refl (told (r .refusal) fs) (s .1) ms refl), s .0)
 
 splice-all-requires : tie.Need-splice-all-requires
-splice-all-requires c κs =
-    let g = graphOf ((c .before .before .before .args) .graph) in
-    let w = and-l (wellFormed g) (held g ((c .before .before .before .args) .id .0)) (c .before .before .before .pre) in
-    (without-neat g ((c .before .before .before .args) .id .0) w (edgesOf ((c .without) .result)) ((c .without) .ensures), wf-neat g w)
-
-without-requires-2 : tie.Need-without-requires-2
-without-requires-2 c κs = search needs
+splice-all-requires c κs = search needs
 
 returns : tie.Need-returns
-returns c =
-    let a = (c .before .before .before .before .before .before .before .before .before .args) in
-    let g = graphOf (a .graph) in
-    let r = (c .before .before .before .before .before .splice-all) .result in
-    answered g (record { names = refsOf ((c .before .before .without2) .result); edges = edgesOf (r .edges) }) _
-    (release-when g (a .id .0) (c .before .before .before .before .before .before .before .before .before .pre) (edgesOf ((c .before .before .before .before .before .before .without) .result)) ((c .before .before .before .before .before .before .without) .ensures) (replacedOf r) ((c .before .before .before .before .before .splice-all) .ensures) (refsOf ((c .before .before .without2) .result)) ((c .before .before .without2) .ensures)
-    ∙ ap (λ (b : Ans (List GEdge)). andThen {B = Graph} b (λ fs. ok (record { names = refsOf ((c .before .before .without2) .result); edges = fs }))) (told-yes (r .refusal) (edgesOf (r .edges)) ((c .before .before .before .if1) .taken)))
+returns c = ((c .before .before .splice-all) .ensures .0, λ e ns t. let v = passed (c .before .before) e ns t in (v .0, λ y. absurd (y ((c .if1) .taken)), v .1))
 
 returns-2 : tie.Need-returns-2
 returns-2 c =
     let a = (c .before .before .before .before .before .before .args) in
-    let g = graphOf (a .graph) in
-    let r = (c .before .before .splice-all) .result in
-    told-declined (r .refusal) g _ ((c .if1) .left)
-    (release-when g (a .id .0) (c .before .before .before .before .before .before .pre) (edgesOf ((c .before .before .before .without) .result)) ((c .before .before .before .without) .ensures) (replacedOf r) ((c .before .before .splice-all) .ensures) (keep (other (a .id .0)) (g .names)) refl
-    ∙ ap (λ (b : Ans (List GEdge)). andThen {B = Graph} b (λ fs. ok (record { names = keep (other (a .id .0)) (g .names); edges = fs }))) (told-no (r .refusal) (edgesOf (r .edges)) ((c .if1) .left)))
+    let r = (c .before .before .splice-all) .result in (
+      (c .before .before .before .before .before .before .pre),
+      λ e ns t.
+          let ms = keep (other (a .id .0)) ns in
+          let v = passed (c .before .before) e ns t in
+          (told-no (r .refusal) (graphWith ms (edgesIn (a .edges .now) (a .m))) ((c .if1) .left) ∙ sym (told-no (r .refusal) (graphWith ms (edgesIn ((c .before .before .splice-all) .last .0) (r .edges))) ((c .if1) .left)) ∙ v .0, λ y. (refl, refl), e),
+    )
 
 pub release-through-spec : {M : Type 1} → statement M
-release-through-spec =
-    tie.close (tie.spec without-requires splice-all-requires without-requires-2 returns returns-2)
+release-through-spec = tie.close (tie.spec splice-all-requires returns returns-2)

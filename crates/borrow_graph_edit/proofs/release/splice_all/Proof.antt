@@ -1,56 +1,114 @@
-use mathlib.Core.Path.{_≡_, sym, ap, _∙_}
+use mathlib.Core.Path.{_≡_, sym, ap, _∙_, subst}
 use mathlib.Core.Bool.{true, false}
+use mathlib.Core.List.{List}
 use Prim.Native.Nat.{ℕ}
+use lib.ListN.{length}
 use Rattle.meaning.specs.Answers.{andThen}
+use Rattle.meaning.specs.Lists.{keep}
+use Rattle.meaning.specs.BorrowGraph.{GEdge}
 use Rattle.meaning.specs.Refinement.Pairs.{replaceLim, twoPass}
-use Rattle.meaning.specs.Refinement.Passes.{spliceSet, splicePairs}
+use Rattle.meaning.specs.Laws.Pair.{Neat}
+use Rattle.meaning.specs.Refinement.Passes.{apart, spliceSet, splicePairs}
 use Rattle.meaning.specs.Laws.Pass.{spliceSet-ok, pass-neat, pass-again}
-use Rattle.borrow_graph.specs.Models.{edgesOf, told}
-use Rattle.borrow_graph.specs.ModelLaws.{told-yes, told-on, told-off, told-first}
+use Rattle.references.specs.Models.{edgesIn, told}
+use Rattle.references.specs.ModelLaws.{told-yes, told-on, told-off, told-first}
+use Rattle.borrow_graph_edit.specs.Models.{replacedIn}
 use borrow.Author.Needs.{needs}
 use Rattle.borrow_graph_edit.proofs.release.splice_all.Statement.{statement}
 use Rattle.borrow_graph_edit.proofs.release.splice_all.Tie as tie
 
-again : (c : tie.Then1) →
-    let new = spliceSet (edgesOf ((c .before .before .before .args) .old)) ((c .before .before .before .args) .id .0) in
-    let rs = splicePairs (edgesOf ((c .before .before .before .args) .old)) ((c .before .before .before .args) .id .0) in
-    andThen (replaceLim true new rs (edgesOf ((c .before .before .before .args) .edges))) (λ fs. replaceLim false new rs fs) ≡ twoPass new rs (edgesOf ((c .before .before .before .args) .edges))
-again c =
-    let r = (c .before .before .splice-rows) .result in
-    pass-again (spliceSet (edgesOf ((c .before .before .before .args) .old)) ((c .before .before .before .args) .id .0)) (splicePairs (edgesOf ((c .before .before .before .args) .old)) ((c .before .before .before .args) .id .0)) (edgesOf ((c .before .before .before .args) .edges)) (sym ((c .before .before .splice-rows) .ensures) ∙ ap (λ (k : ℕ). told k (edgesOf (r .edges))) ((c .if1) .taken))
+-- the first pass, and the second
+first : (c : tie.After-splice-rows) → let a = (c .before .before .before .before .args) in let es = edgesIn (a .old .now) (a .m) in let n = a .id .0 in
+    length (a .edges .now) ≡ 96 → length (a .old .now) ≡ 96 → Neat (keep (apart n) es) → Neat es
+    → (length ((c .splice-rows) .last .0) ≡ 96) × (replacedIn ((c .splice-rows) .last .0) ((c .splice-rows) .result) ≡ replaceLim false (spliceSet es n) (splicePairs es n) (keep (apart n) es))
+first c =
+    let a = (c .before .before .before .before .args) in
+    let es = edgesIn (a .old .now) (a .m) in
+    let n = a .id .0 in
+    λ e o k s.
+    let w = (c .before .before .without) .ensures .1 e o in
+    let p = (c .splice-rows) .ensures .1 (w .0) o (subst (λ (l : List GEdge). Neat l) (sym (w .1)) k) s in
+    (p .0, p .1 ∙ ap (λ (l : List GEdge). replaceLim false (spliceSet es n) (splicePairs es n) l) (w .1))
+
+second : (c : tie.After-splice-rows2) → let a = (c .before .before .before .before .before .before .before .before .before .before .args) in let es = edgesIn (a .old .now) (a .m) in let n = a .id .0 in
+    length (a .edges .now) ≡ 96 → length (a .old .now) ≡ 96 → Neat (keep (apart n) es) → Neat es
+    → (length ((c .splice-rows2) .last .0) ≡ 96) × (replacedIn ((c .splice-rows2) .last .0) ((c .splice-rows2) .result) ≡ replaceLim true (spliceSet es n) (splicePairs es n) (keep (apart n) es))
+    × (andThen (replaceLim true (spliceSet es n) (splicePairs es n) (keep (apart n) es)) (λ fs. replaceLim false (spliceSet es n) (splicePairs es n) fs) ≡ twoPass (spliceSet es n) (splicePairs es n) (keep (apart n) es))
+second c =
+    let a = (c .before .before .before .before .before .before .before .before .before .before .args) in
+    let es = edgesIn (a .old .now) (a .m) in
+    let n = a .id .0 in
+    let r = (c .before .before .before .before .before .before .splice-rows) .result in
+    λ e o k s.
+    let f = first (c .before .before .before .before .before .before) e o k s in
+    let w = (c .before .before .without2) .ensures .1 (f .0) o in
+    let p = (c .splice-rows2) .ensures .1 (w .0) o (subst (λ (l : List GEdge). Neat l) (sym (w .1)) k) s in (
+      p .0,
+      p .1 ∙ ap (λ (l : List GEdge). replaceLim true (spliceSet es n) (splicePairs es n) l) (w .1),
+      pass-again (spliceSet es n) (splicePairs es n) (keep (apart n) es) (sym (f .1) ∙ ap (λ (i : ℕ). told i (edgesIn ((c .before .before .before .before .before .before .splice-rows) .last .0) (r .edges))) ((c .before .before .before .before .if1) .taken)),
+    )
+
+without-requires : tie.Need-without-requires
+without-requires c κs = search needs
 
 splice-rows-requires : tie.Need-splice-rows-requires
-splice-rows-requires c κs = search needs
+splice-rows-requires c κs = ((c .before .without) .ensures .0, (c .before .before .before .pre))
+
+without-requires-2 : tie.Need-without-requires-2
+without-requires-2 c κs = search needs
 
 splice-rows-requires-2 : tie.Need-splice-rows-requires-2
-splice-rows-requires-2 c κs = search needs
+splice-rows-requires-2 c κs = ((c .before .without2) .ensures .0, (c .before .before .before .before .before .before .before .before .before .pre))
 
 splice-rows-requires-3 : tie.Need-splice-rows-requires-3
-splice-rows-requires-3 c κs =
-    let a = (c .before .before .before .before .before .before .before .args) in
-    let r = (c .before .before .before .splice-rows2) .result in
-    (pass-neat true (spliceSet (edgesOf (a .old)) (a .id .0)) (spliceSet-ok (edgesOf (a .old)) (a .id .0) ((c .before .before .before .before .before .before .before .pre) .1)) (splicePairs (edgesOf (a .old)) (a .id .0)) (edgesOf (a .edges)) (edgesOf (r .edges)) ((c .before .before .before .before .before .before .before .pre) .0) (sym ((c .before .before .before .splice-rows2) .ensures) ∙ told-yes (r .refusal) (edgesOf (r .edges)) ((c .before .if2) .taken)), (c .before .before .before .before .before .before .before .pre) .1)
+splice-rows-requires-3 c κs = ((c .before .before .before .splice-rows2) .ensures .0, (c .before .before .before .before .before .before .before .before .before .before .before .before .before .pre))
 
 returns : tie.Need-returns
-returns c = (c .splice-rows3) .ensures ∙ told-on ((c .before .before .before .before .splice-rows2) .result .refusal) (edgesOf ((c .before .before .before .before .splice-rows2) .result .edges)) _ _ _ ((c .before .before .before .before .splice-rows2) .ensures) (again (c .before .before .before .before .before)) ((c .before .before .if2) .taken)
+returns c =
+    let a = (c .before .before .before .before .before .before .before .before .before .before .before .before .before .before .args) in
+    let es = edgesIn (a .old .now) (a .m) in
+    let n = a .id .0 in
+    let r = (c .before .before .before .before .splice-rows2) .result in
+    let fs = edgesIn ((c .before .before .before .before .splice-rows2) .last .0) (r .edges) in (
+      (c .splice-rows3) .ensures .0,
+      λ e o k s.
+          let v = second (c .before .before .before .before) e o k s in
+          let w = (c .splice-rows3) .ensures .1 (v .0) o (pass-neat true (spliceSet es n) (spliceSet-ok es n s) (splicePairs es n) (keep (apart n) es) fs k (sym (v .1) ∙ told-yes (r .refusal) fs ((c .before .before .if2) .taken))) s in
+          (w .0, w .1 ∙ told-on (r .refusal) fs _ _ _ (v .1) (v .2) ((c .before .before .if2) .taken)),
+    )
 
 returns-2 : tie.Need-returns-2
-returns-2 c = told-off ((c .before .before .splice-rows2) .result .refusal) (edgesOf ((c .before .before .splice-rows2) .result .edges)) _ _ _ ((c .before .before .splice-rows2) .ensures) (again (c .before .before .before)) ((c .if2) .left) (edgesOf ((c .before .before .splice-rows2) .result .edges))
+returns-2 c =
+    let r = (c .before .before .splice-rows2) .result in
+    let fs = edgesIn ((c .before .before .splice-rows2) .last .0) (r .edges) in (
+      (c .before .before .splice-rows2) .ensures .0,
+      λ e o k s.
+          let v = second (c .before .before) e o k s in
+          (v .0, told-off (r .refusal) fs _ _ _ (v .1) (v .2) ((c .if2) .left) fs),
+    )
 
 returns-3 : tie.Need-returns-3
 unfolding twoPass
 returns-3 c =
-    let a = (c .before .before .before .args) in
-    let r = (c .before .before .splice-rows) .result in
-    let new = spliceSet (edgesOf (a .old)) (a .id .0) in
-    let rs = splicePairs (edgesOf (a .old)) (a .id .0) in
-    told-first (r .refusal) (edgesOf (r .edges)) (replaceLim false new rs (edgesOf (a .edges))) (andThen (replaceLim true new rs (edgesOf (a .edges))) (λ fs. replaceLim false new rs fs)) ((c .if1) .left) ((c .before .before .splice-rows) .ensures)
+    let a = (c .before .before .before .before .before .before .args) in
+    let es = edgesIn (a .old .now) (a .m) in
+    let n = a .id .0 in
+    let new = spliceSet es n in
+    let rs = splicePairs es n in
+    let r = (c .before .before .splice-rows) .result in (
+      (c .before .before .splice-rows) .ensures .0,
+      λ e o k s.
+          let v = first (c .before .before) e o k s in
+          (v .0, told-first (r .refusal) (edgesIn ((c .before .before .splice-rows) .last .0) (r .edges)) (replaceLim false new rs (keep (apart n) es)) (andThen (replaceLim true new rs (keep (apart n) es)) (λ fs. replaceLim false new rs fs)) ((c .if1) .left) (v .1)),
+    )
 
 pub splice-all-spec : {M : Type 1} → statement M
 splice-all-spec =
     tie.close
     (tie.spec
+    without-requires
     splice-rows-requires
+    without-requires-2
     splice-rows-requires-2
     splice-rows-requires-3
     returns

@@ -1,48 +1,37 @@
-use mathlib.Core.Path.{_≡_, refl, sym, ap, _∙_}
-use mathlib.Core.List.{List, map}
-use Prim.Native.Nat.{_+_, _-_}
-use lib.ListN.{drop, getD}
-use Rattle.meaning.specs.Answers.{andThen}
+use mathlib.Core.Path.{_≡_, refl, ap, _∙_}
+use mathlib.Core.List.{List, []}
+use Prim.Native.Nat.{_-_, _≤_}
+use lib.ListN.{length, drop, getD}
 use Rattle.meaning.specs.References.{Edge}
-use Rattle.meaning.specs.BorrowGraph.{splice}
 use Rattle.meaning.specs.Laws.Graph.{insertAll}
-use Rattle.meaning.specs.Laws.Pair.{insertAll-append, insertAll-end}
 use Rattle.meaning.specs.Refinement.Passes.{splices}
-use Rattle.references.specs.Models.{edgeOf, edgesOf, setOf}
-use Rattle.references.specs.ModelLaws.{no-edge, set-step, set-end}
-use Rattle.borrow_graph.specs.ModelLaws.{told-on, told-off}
+use Rattle.references.specs.Models.{rowOf, setEdges, setIn}
+use Rattle.references.specs.ModelLaws.{set-step, set-end, set-count, told-on, told-off}
+use Rattle.borrow_graph_edit.specs.RowLaws.{set-cut, each-turn, insert-end}
 use native.Mathlib.Omega.{arith}
 use borrow.Author.Needs.{needs}
 use Rattle.borrow_graph_edit.proofs.release.splice_each.Statement.{statement}
 use Rattle.borrow_graph_edit.proofs.release.splice_each.Tie as tie
 
 abbrev Inv-loop : tie.InvT-loop
-Inv-loop children parents n s₀ i₀ s i = insertAll (splices (drop i (edgesOf parents)) (edgesOf children)) (setOf s) ≡ insertAll (splices (edgesOf parents) (edgesOf children)) (setOf s₀)
+Inv-loop set₀ parents children cs n t₀ i₀ set t i =
+    (i ≤ n) × (length set₀ ≡ 10 → length parents ≡ 10 → length children ≡ 10 → (length set ≡ 10)
+    × (insertAll (splices (drop i (setEdges parents n)) (setEdges children (cs .len))) (setIn set t) ≡ insertAll (splices (setEdges parents n) (setEdges children (cs .len))) (setIn set₀ t₀)))
 
 abbrev μ-loop : tie.MeasureT-loop
-μ-loop children parents n s₀ i₀ s i = n - i
-
-turn : (c : tie.In-loop Inv-loop μ-loop) →
-    let fs = edgesOf ((c .before .before .before .args) .children) in
-    let x = edgeOf (getD ((c .before .before .before .args) .t2 .edges) ((c .before .loop) .i) no-edge) in
-    andThen (insertAll (map (splice x) fs) (setOf ((c .before .loop) .s))) (λ t. insertAll (splices (drop ((c .before .loop) .i + 1) (edgesOf ((c .before .before .before .args) .t2))) fs) t) ≡ insertAll (splices (edgesOf ((c .before .before .before .args) .t2)) fs) (setOf ((c .before .before .before .args) .set))
-turn c =
-    let l = (c .before .loop) in
-    let fs = edgesOf ((c .before .before .before .args) .children) in
-    let x = edgeOf (getD ((c .before .before .before .args) .t2 .edges) (l .i) no-edge) in
-    sym (ap (λ (es : List Edge). insertAll (splices es fs) (setOf (l .s))) (set-step ((c .before .before .before .args) .t2) (l .i) (omega arith)) ∙ insertAll-append (map (splice x) fs) (splices (drop (l .i + 1) (edgesOf ((c .before .before .before .args) .t2))) fs) (setOf (l .s))) ∙ l .inv
+μ-loop set₀ parents children cs n t₀ i₀ set t i = n - i
 
 len-requires : tie.Need-len-requires Inv-loop μ-loop
 len-requires c κs = search needs
 
 loop-holds : tie.Need-loop-holds Inv-loop μ-loop
-loop-holds c = refl
+loop-holds c = (omega arith, λ e p k. (e, refl))
 
-mul-e : tie.Need-mul-e Inv-loop μ-loop
-mul-e c = omega arith
+mul-splice-one : tie.Need-mul-splice-one Inv-loop μ-loop
+mul-splice-one c = omega arith
 
-element-copy-out-e : tie.Need-element-copy-out-e Inv-loop μ-loop
-element-copy-out-e c = omega arith
+index-1-splice-one : tie.Need-index-1-splice-one Inv-loop μ-loop
+index-1-splice-one c = omega arith
 
 splice-one-requires : tie.Need-splice-one-requires Inv-loop μ-loop
 splice-one-requires c κs = search needs
@@ -54,15 +43,49 @@ loop-less : tie.Need-loop-less Inv-loop μ-loop
 loop-less c = omega arith
 
 loop-again : tie.Need-loop-again Inv-loop μ-loop
-loop-again c = told-on ((c .before .before .before .splice-one) .result .refusal) (setOf ((c .before .before .before .splice-one) .result .set)) _ _ _ ((c .before .before .before .splice-one) .ensures) (turn (c .before .before .before .before .before)) ((c .before .if1) .taken)
+loop-again c =
+    let l = (c .before .before .before .before .before .before .before .loop) in
+    let rows = (c .before .before .before .before .before .before .before .before .before .args) .parents .now in
+    let n = (c .before .before .before .before .before .before .before .before .len) .result in
+    let fs = setEdges ((c .before .before .before .before .before .before .before .before .before .args) .children .now) ((c .before .before .before .before .before .before .before .before .before .args) .cs .len) in (
+      omega (arith, (c .before .before .before .before .before .before .loop-test) .taken),
+      λ e p k.
+          let v = l .inv .1 e p k in
+          let w = (c .before .before .before .splice-one) .ensures (v .0) k in
+          let x = rowOf (getD rows (l .i) []) .edge in
+          let g = set-step rows n [] (l .i) (omega (arith, set-count rows n p, (c .before .before .before .before .before .before .loop-test) .taken, (c .before .before .before .before .before .before .before .before .len) .ensures)) in
+          (w .0, told-on ((c .before .before .before .splice-one) .result .refusal) (setIn ((c .before .before .before .splice-one) .last .0) ((c .before .before .before .splice-one) .result .set)) _ _ _ (w .1) (each-turn x _ _ x g (setIn (l .set) (l .t)) _ fs (v .1)) ((c .before .if1) .taken)),
+    )
 
 returns : tie.Need-returns Inv-loop μ-loop
-returns c = told-off ((c .before .before .splice-one) .result .refusal) (setOf ((c .before .before .splice-one) .result .set)) _ _ _ ((c .before .before .splice-one) .ensures) (turn (c .before .before .before .before)) ((c .if1) .left) (setOf ((c .before .before .splice-one) .result .set))
+returns c =
+    let l = (c .before .before .before .before .before .before .loop) in
+    let rows = (c .before .before .before .before .before .before .before .before .args) .parents .now in
+    let n = (c .before .before .before .before .before .before .before .len) .result in
+    let fs = setEdges ((c .before .before .before .before .before .before .before .before .args) .children .now) ((c .before .before .before .before .before .before .before .before .args) .cs .len) in
+    λ e p k.
+    let v = l .inv .1 e p k in
+    let w = (c .before .before .splice-one) .ensures (v .0) k in
+    let x = rowOf (getD rows (l .i) []) .edge in
+    let g = set-step rows n [] (l .i) (omega (arith, set-count rows n p, (c .before .before .before .before .before .loop-test) .taken, (c .before .before .before .before .before .before .before .len) .ensures)) in (
+      w .0,
+      told-off ((c .before .before .splice-one) .result .refusal) (setIn ((c .before .before .splice-one) .last .0) ((c .before .before .splice-one) .result .set)) _ _ _ (w .1) (each-turn x _ _ x g (setIn (l .set) (l .t)) _ fs (v .1)) ((c .if1) .left) (setIn ((c .before .before .splice-one) .last .0) ((c .before .before .splice-one) .result .set))
+          ∙ ap (λ (r : List Edge). insertAll (splices r fs) (setIn ((c .before .before .before .before .before .before .before .before .args) .set .now) ((c .before .before .before .before .before .before .before .before .args) .s))) (set-cut rows ((c .before .before .before .before .before .before .before .before .args) .ps .len) n p ((c .before .before .before .before .before .before .before .len) .ensures)),
+    )
 
 returns-2 : tie.Need-returns-2 Inv-loop μ-loop
 returns-2 c =
     let l = (c .before .loop) in
-    sym (insertAll-end (setOf (l .s))) ∙ sym (ap (λ (es : List Edge). insertAll (splices es (edgesOf ((c .before .before .before .args) .children))) (setOf (l .s))) (set-end ((c .before .before .before .args) .t2) (l .i) (omega arith))) ∙ l .inv
+    let rows = (c .before .before .before .args) .parents .now in
+    let n = (c .before .before .len) .result in
+    let fs = setEdges ((c .before .before .before .args) .children .now) ((c .before .before .before .args) .cs .len) in
+    λ e p k.
+    let v = l .inv .1 e p k in
+    let g = set-end rows n (l .i) (omega (arith, set-count rows n p, (c .loop-test) .left, (c .before .before .len) .ensures)) in (
+      v .0,
+      insert-end (splices (drop (l .i) (setEdges rows n)) fs) (setIn (l .set) (l .t)) _ (ap (λ (r : List Edge). splices r fs) g) (v .1)
+          ∙ ap (λ (r : List Edge). insertAll (splices r fs) (setIn ((c .before .before .before .args) .set .now) ((c .before .before .before .args) .s))) (set-cut rows ((c .before .before .before .args) .ps .len) n p ((c .before .before .len) .ensures)),
+    )
 
 pub splice-each-spec : {M : Type 1} → statement M
 splice-each-spec =
@@ -72,8 +95,8 @@ splice-each-spec =
     μ-loop
     len-requires
     loop-holds
-    mul-e
-    element-copy-out-e
+    mul-splice-one
+    index-1-splice-one
     splice-one-requires
     add-i
     loop-less

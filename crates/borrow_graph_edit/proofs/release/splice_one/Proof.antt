@@ -1,54 +1,38 @@
-use mathlib.Core.Path.{_≡_, refl, sym, ap, _∙_}
-use mathlib.Core.List.{List, map}
-use Prim.Native.Nat.{_+_, _-_}
-use lib.ListN.{drop, getD}
-use Rattle.meaning.specs.Answers.{Ans, andThen}
-use Rattle.meaning.specs.References.{Edge, insert, offer}
+use mathlib.Core.List.{List, [], map}
+use Prim.Native.Nat.{_-_, _≤_}
+use lib.ListN.{getD, length, drop}
+use Rattle.meaning.specs.Answers.{Ans}
+use Rattle.meaning.specs.References.{Edge, offer}
+use Rattle.meaning.specs.Laws.Pass.{offer-fitting}
+use Rattle.references.specs.ModelLaws.{set-step, set-end, set-count, told-on, told-off}
+use Rattle.borrow_graph_edit.specs.RowLaws.{set-cut, one-turn, insert-end}
+use mathlib.Core.Path.{_≡_, refl, ap, _∙_}
 use Rattle.meaning.specs.BorrowGraph.{splice}
 use Rattle.meaning.specs.Laws.Graph.{insertAll}
-use Rattle.meaning.specs.Laws.Pair.{insertAll-on, insertAll-end}
-use Rattle.meaning.specs.Laws.Pass.{offer-fitting}
-use Rattle.references.specs.Models.{edgeOf, edgesOf, setOf, insertedOf}
-use Rattle.references.specs.ModelLaws.{no-edge, set-step, set-end}
-use Rattle.borrow_graph.specs.ModelLaws.{told-on, told-off}
+use Rattle.references.specs.Models.{rowOf, setEdges, setIn}
 use native.Mathlib.Omega.{arith}
 use borrow.Author.Needs.{needs}
 use Rattle.borrow_graph_edit.proofs.release.splice_one.Statement.{statement}
 use Rattle.borrow_graph_edit.proofs.release.splice_one.Tie as tie
 
 abbrev Inv-loop : tie.InvT-loop
-Inv-loop parent children n s₀ i₀ s i = insertAll (map (splice (edgeOf parent)) (drop i (edgesOf children))) (setOf s) ≡ insertAll (map (splice (edgeOf parent)) (edgesOf children)) (setOf s₀)
+Inv-loop set₀ parent children n t₀ i₀ set t i =
+    (i ≤ n) × (length set₀ ≡ 10 → length children ≡ 10 → (length set ≡ 10) × (insertAll (map (splice (rowOf parent .edge)) (drop i (setEdges children n))) (setIn set t) ≡ insertAll (map (splice (rowOf parent .edge)) (setEdges children n)) (setIn set₀ t₀)))
 
 abbrev μ-loop : tie.MeasureT-loop
-μ-loop parent children n s₀ i₀ s i = n - i
-
-turn : (c : tie.In-loop Inv-loop μ-loop) →
-    let e = edgeOf ((c .before .before .before .args) .parent) in
-    let x = edgeOf (getD ((c .before .before .before .args) .t3 .edges) ((c .before .loop) .i) no-edge) in
-    andThen (insert (setOf ((c .before .loop) .s)) (splice e x)) (λ t. insertAll (map (splice e) (drop ((c .before .loop) .i + 1) (edgesOf ((c .before .before .before .args) .t3)))) t) ≡ insertAll (map (splice e) (edgesOf ((c .before .before .before .args) .t3))) (setOf ((c .before .before .before .args) .set))
-turn c =
-    let l = (c .before .loop) in
-    let e = edgeOf ((c .before .before .before .args) .parent) in
-    let x = edgeOf (getD ((c .before .before .before .args) .t3 .edges) (l .i) no-edge) in
-    let ys = map (splice e) (drop (l .i + 1) (edgesOf ((c .before .before .before .args) .t3))) in
-    sym (ap (λ (es : List Edge). insertAll (map (splice e) es) (setOf (l .s))) (set-step ((c .before .before .before .args) .t3) (l .i) (omega arith)) ∙ insertAll-on (splice e x) ys (setOf (l .s)) (insert (setOf (l .s)) (splice e x)) refl) ∙ l .inv
-
--- what the set answers
-put : (c : tie.After-insert Inv-loop μ-loop) → insertedOf ((c .insert) .result) ≡ insert (setOf ((c .before .before .before .before .loop) .s)) (splice (edgeOf ((c .before .before .before .before .before .before .args) .parent)) (edgeOf (getD ((c .before .before .before .before .before .before .args) .t3 .edges) ((c .before .before .before .before .loop) .i) no-edge)))
-put c =
-    (c .insert) .ensures .0 ∙ ap (λ (a : Ans Edge). offer (setOf ((c .before .before .before .before .loop) .s)) a) ((c .before .splice) .ensures) ∙ offer-fitting (setOf ((c .before .before .before .before .loop) .s)) (splice (edgeOf ((c .before .before .before .before .before .before .args) .parent)) (edgeOf (getD ((c .before .before .before .before .before .before .args) .t3 .edges) ((c .before .before .before .before .loop) .i) no-edge)))
+μ-loop set₀ parent children n t₀ i₀ set t i = n - i
 
 len-requires : tie.Need-len-requires Inv-loop μ-loop
 len-requires c κs = search needs
 
 loop-holds : tie.Need-loop-holds Inv-loop μ-loop
-loop-holds c = refl
+loop-holds c = (omega arith, λ e k. (e, refl))
 
-mul-f : tie.Need-mul-f Inv-loop μ-loop
-mul-f c = omega arith
+mul-splice : tie.Need-mul-splice Inv-loop μ-loop
+mul-splice c = omega arith
 
-element-copy-out-f : tie.Need-element-copy-out-f Inv-loop μ-loop
-element-copy-out-f c = omega arith
+index-1-splice : tie.Need-index-1-splice Inv-loop μ-loop
+index-1-splice c = omega arith
 
 splice-requires : tie.Need-splice-requires Inv-loop μ-loop
 splice-requires c κs = search needs
@@ -63,15 +47,55 @@ loop-less : tie.Need-loop-less Inv-loop μ-loop
 loop-less c = omega arith
 
 loop-again : tie.Need-loop-again Inv-loop μ-loop
-loop-again c = told-on ((c .before .before .before .insert) .result .refusal) (setOf ((c .before .before .before .insert) .result .set)) _ _ _ (put (c .before .before .before)) (turn (c .before .before .before .before .before .before)) ((c .before .if1) .taken)
+loop-again c =
+    let l = (c .before .before .before .before .before .before .before .before .loop) in
+    let d = rowOf ((c .before .before .before .before .before .before .before .before .before .before .args) .parent .now) .edge in
+    let rows = (c .before .before .before .before .before .before .before .before .before .before .args) .children .now in
+    let n = (c .before .before .before .before .before .before .before .before .before .len) .result in
+    let x = rowOf (getD rows (l .i) []) .edge in
+    let s = setIn (l .set) (l .t) in (
+      omega (arith, (c .before .before .before .before .before .before .before .loop-test) .taken),
+      λ e k.
+          let v = l .inv .1 e k in
+          let w = (c .before .before .before .insert) .ensures (v .0) in
+          let g = set-step rows n [] (l .i) (omega (arith, set-count rows n k, (c .before .before .before .before .before .before .before .loop-test) .taken, (c .before .before .before .before .before .before .before .before .before .len) .ensures)) in (
+            w .1,
+            told-on ((c .before .before .before .insert) .result .refusal) (setIn ((c .before .before .before .insert) .last .0) ((c .before .before .before .insert) .result .set)) _ _ _
+                (w .0 ∙ ap (λ (a : Ans Edge). offer s a) ((c .before .before .before .before .before .splice) .ensures .0) ∙ offer-fitting s (splice d x)) (one-turn d _ _ x g s _ (v .1)) ((c .before .if1) .taken),
+          ),
+    )
 
 returns : tie.Need-returns Inv-loop μ-loop
-returns c = told-off ((c .before .before .insert) .result .refusal) (setOf ((c .before .before .insert) .result .set)) _ _ _ (put (c .before .before)) (turn (c .before .before .before .before .before)) ((c .if1) .left) (setOf ((c .before .before .insert) .result .set))
+returns c =
+    let l = (c .before .before .before .before .before .before .before .loop) in
+    let d = rowOf ((c .before .before .before .before .before .before .before .before .before .args) .parent .now) .edge in
+    let rows = (c .before .before .before .before .before .before .before .before .before .args) .children .now in
+    let n = (c .before .before .before .before .before .before .before .before .len) .result in
+    let x = rowOf (getD rows (l .i) []) .edge in
+    let s = setIn (l .set) (l .t) in
+    λ e k.
+    let v = l .inv .1 e k in
+    let w = (c .before .before .insert) .ensures (v .0) in
+    let g = set-step rows n [] (l .i) (omega (arith, set-count rows n k, (c .before .before .before .before .before .before .loop-test) .taken, (c .before .before .before .before .before .before .before .before .len) .ensures)) in (
+      w .1,
+      told-off ((c .before .before .insert) .result .refusal) (setIn ((c .before .before .insert) .last .0) ((c .before .before .insert) .result .set)) _ _ _
+          (w .0 ∙ ap (λ (a : Ans Edge). offer s a) ((c .before .before .before .before .splice) .ensures .0) ∙ offer-fitting s (splice d x)) (one-turn d _ _ x g s _ (v .1)) ((c .if1) .left) (setIn ((c .before .before .insert) .last .0) ((c .before .before .insert) .result .set))
+          ∙ ap (λ (r : List Edge). insertAll (map (splice d) r) (setIn ((c .before .before .before .before .before .before .before .before .before .args) .set .now) ((c .before .before .before .before .before .before .before .before .before .args) .s))) (set-cut rows ((c .before .before .before .before .before .before .before .before .before .args) .cs .len) n k ((c .before .before .before .before .before .before .before .before .len) .ensures)),
+    )
 
 returns-2 : tie.Need-returns-2 Inv-loop μ-loop
 returns-2 c =
     let l = (c .before .loop) in
-    sym (insertAll-end (setOf (l .s))) ∙ sym (ap (λ (es : List Edge). insertAll (map (splice (edgeOf ((c .before .before .before .args) .parent))) es) (setOf (l .s))) (set-end ((c .before .before .before .args) .t3) (l .i) (omega arith))) ∙ l .inv
+    let d = rowOf ((c .before .before .before .args) .parent .now) .edge in
+    let rows = (c .before .before .before .args) .children .now in
+    let n = (c .before .before .len) .result in
+    λ e k.
+    let v = l .inv .1 e k in
+    let g = set-end rows n (l .i) (omega (arith, set-count rows n k, (c .loop-test) .left, (c .before .before .len) .ensures)) in (
+      v .0,
+      insert-end (map (splice d) (drop (l .i) (setEdges rows n))) (setIn (l .set) (l .t)) _ (ap (λ (r : List Edge). map (splice d) r) g) (v .1)
+          ∙ ap (λ (r : List Edge). insertAll (map (splice d) r) (setIn ((c .before .before .before .args) .set .now) ((c .before .before .before .args) .s))) (set-cut rows ((c .before .before .before .args) .cs .len) n k ((c .before .before .len) .ensures)),
+    )
 
 pub splice-one-spec : {M : Type 1} → statement M
 splice-one-spec =
@@ -81,8 +105,8 @@ splice-one-spec =
     μ-loop
     len-requires
     loop-holds
-    mul-f
-    element-copy-out-f
+    mul-splice
+    index-1-splice
     splice-requires
     insert-requires
     add-i

@@ -1,47 +1,45 @@
-use mathlib.Core.Path.{_≡_, refl}
-use mathlib.Core.Bool.{false≢true}
-use mathlib.Core.List.{_∷_}
-use Prim.Native.Nat.{_+_, _-_}
-use lib.ListN.{drop, getD}
+use mathlib.Core.Bool.{not, _&&_, false≢true}
+use mathlib.Core.Path.{subst, _≡_, refl, sym, _∙_}
+use Prim.Native.Nat.{ℕ, _+_, _-_, _≤_, _<_}
+use lib.Dec.{eqb}
 use borrow.Author.Tests.{eq-eqb, ne-eqb}
-use Rattle.meaning.specs.BorrowGraph.{GEdge}
-use Rattle.borrow_graph.specs.Models.{gedgeOf, heldOf}
-use Rattle.borrow_graph.specs.ModelLaws.{no-gedge, held-step, held-end}
-use Rattle.borrow_graph_edit.specs.Ways.{entering, leaving, Seen, seen-hit, seen-miss, seen-lost, seen-all}
+use Rattle.references.specs.ModelLaws.{edges-next, edges-over}
+use Rattle.borrow_graph_edit.specs.Ways.{seen-hit, seen-miss, seen-lost, seen-all, entering, leaving, Seen}
+use mathlib.Core.List.{[]}
+use lib.ListN.{length, drop, getD}
+use Rattle.references.specs.Models.{rowOf, edgesIn}
 use native.Mathlib.Omega.{arith}
 use borrow.Author.Needs.{needs}
 use Rattle.borrow_graph_edit.proofs.release.touching_edges.Statement.{statement}
 use Rattle.borrow_graph_edit.proofs.release.touching_edges.Tie as tie
 
 abbrev Inv-loop : tie.InvT-loop
-Inv-loop id graph n to₀ from₀ i₀ to from i =
-    Seen (entering (id .0)) (to .empty) (to .single) (gedgeOf (to .edge)) (drop i (heldOf graph)) (heldOf graph)
-    × Seen (leaving (id .0)) (from .empty) (from .single) (gedgeOf (from .edge)) (drop i (heldOf graph)) (heldOf graph)
+Inv-loop edges m id to₀ from₀ i₀ to from i =
+    (i ≤ m) × (to .at < 96) × (from .at < 96) × (length edges ≡ 96 → Seen (entering (id .0)) (to .empty) (to .single) (rowOf (getD edges (to .at) [])) (drop i (edgesIn edges m)) (edgesIn edges m) × Seen (leaving (id .0)) (from .empty) (from .single) (rowOf (getD edges (from .at) [])) (drop i (edgesIn edges m)) (edgesIn edges m))
 
 abbrev μ-loop : tie.MeasureT-loop
-μ-loop id graph n to₀ from₀ i₀ to from i = n - i
-
--- the edge at i
-abbrev here : (c : tie.In-loop Inv-loop μ-loop) → GEdge
-here c = gedgeOf (getD ((c .before .before .before .before .args) .t1 .edges) ((c .before .loop) .i) no-gedge)
-
-next : (c : tie.In-loop Inv-loop μ-loop) → drop ((c .before .loop) .i) (heldOf ((c .before .before .before .before .args) .t1)) ≡ here c ∷ drop ((c .before .loop) .i + 1) (heldOf ((c .before .before .before .before .args) .t1))
-next c = held-step ((c .before .before .before .before .args) .t1) ((c .before .loop) .i) (omega (arith, (c .before .before .before .len) .ensures .0, (c .loop-test) .taken))
-
-len-requires : tie.Need-len-requires Inv-loop μ-loop
-len-requires c κs = search needs
-
-weakest-requires : tie.Need-weakest-requires Inv-loop μ-loop
-weakest-requires c κs = search needs
+μ-loop edges m id to₀ from₀ i₀ to from i = m - i
 
 loop-holds : tie.Need-loop-holds Inv-loop μ-loop
-loop-holds c = ((λ k. refl, λ k. absurd (false≢true k)), (λ k. refl, λ k. absurd (false≢true k)))
+loop-holds c = (omega arith, omega arith, omega arith, λ e. ((λ k. refl, λ k. absurd (false≢true k)), (λ k. refl, λ k. absurd (false≢true k))))
 
-mul-x : tie.Need-mul-x Inv-loop μ-loop
-mul-x c = omega arith
+mul-parent : tie.Need-mul-parent Inv-loop μ-loop
+mul-parent c = omega arith
 
-element-copy-out-x : tie.Need-element-copy-out-x Inv-loop μ-loop
-element-copy-out-x c = omega arith
+index-1-parent : tie.Need-index-1-parent Inv-loop μ-loop
+index-1-parent c = omega arith
+
+parent-requires : tie.Need-parent-requires Inv-loop μ-loop
+parent-requires c κs = search needs
+
+mul-child : tie.Need-mul-child Inv-loop μ-loop
+mul-child c = omega arith
+
+index-1-child : tie.Need-index-1-child Inv-loop μ-loop
+index-1-child c = omega arith
+
+child-requires : tie.Need-child-requires Inv-loop μ-loop
+child-requires c κs = search needs
 
 add-i : tie.Need-add-i Inv-loop μ-loop
 add-i c = omega arith
@@ -51,10 +49,22 @@ loop-less c = omega arith
 
 loop-again : tie.Need-loop-again Inv-loop μ-loop
 loop-again c =
-    let l = (c .before .before .before .before .before .before .before .before .before .loop) in
-    let n = (c .before .before .before .before .before .before .before .before .before .before .before .before .args) .id .0 in (
-      seen-hit (entering n) (l .to .empty) (l .to .single) (gedgeOf (l .to .edge)) (heldOf ((c .before .before .before .before .before .before .before .before .before .before .before .before .args) .t1)) (here (c .before .before .before .before .before .before .before .before)) _ _ (next (c .before .before .before .before .before .before .before .before)) (l .inv .0) (eq-eqb _ _ ((c .before .before .if1) .taken)),
-      seen-lost (leaving n) (l .from .empty) (l .from .single) (gedgeOf (l .from .edge)) (heldOf ((c .before .before .before .before .before .before .before .before .before .before .before .before .args) .t1)) (here (c .before .before .before .before .before .before .before .before)) _ _ (next (c .before .before .before .before .before .before .before .before)) (l .inv .1),
+    let l = (c .before .before .before .before .before .before .before .before .before .before .before .before .loop) in
+    let n = (c .before .before .before .before .before .before .before .before .before .before .before .before .before .args) .id .0 in
+    let rows = (c .before .before .before .before .before .before .before .before .before .before .before .before .before .args) .edges .now in
+    let m = (c .before .before .before .before .before .before .before .before .before .before .before .before .before .args) .m in
+    let x = rowOf (getD rows (l .i) []) in
+    let a = rowOf (getD rows (l .from .at) []) in (
+      omega (arith, (c .before .before .before .before .before .before .before .before .before .before .before .loop-test) .taken),
+      omega (arith, (c .before .before .before .before .before .before .before .before .before .before .before .loop-test) .taken, (c .before .before .before .before .before .before .before .before .before .before .before .before .before .pre)),
+      l .inv .2,
+      λ e.
+          let s = edges-next rows m [] (l .i) ((c .before .before .before .before .before .before .before .before .before .before .before .loop-test) .taken) (omega (arith, e, (c .before .before .before .before .before .before .before .before .before .before .before .before .before .pre))) in
+          let v = l .inv .3 e in (
+            seen-hit (entering n) (l .to .empty) (l .to .single) (rowOf (getD rows (l .to .at) [])) (edgesIn rows m) x _ _ s (v .0) (eq-eqb _ _ ((c .before .before .if1) .taken ∙ (c .before .before .before .before .before .before .before .child) .ensures)),
+            subst (λ (k : ℕ). Seen (leaving n) (l .from .empty && not (eqb n k)) (l .from .single && not (eqb n k)) a (drop (l .i + 1) (edgesIn rows m)) (edgesIn rows m)) (sym ((c .before .before .before .before .before .before .before .before .before .parent) .ensures))
+                (seen-lost (leaving n) (l .from .empty) (l .from .single) a (edgesIn rows m) x _ _ s (v .1)),
+          ),
     )
 
 add-i-2 : tie.Need-add-i-2 Inv-loop μ-loop
@@ -65,10 +75,20 @@ loop-less-2 c = omega arith
 
 loop-again-2 : tie.Need-loop-again-2 Inv-loop μ-loop
 loop-again-2 c =
-    let l = (c .before .before .before .before .before .before .before .before .loop) in
-    let n = (c .before .before .before .before .before .before .before .before .before .before .before .args) .id .0 in (
-      seen-miss (entering n) (l .to .empty) (l .to .single) (gedgeOf (l .to .edge)) (heldOf ((c .before .before .before .before .before .before .before .before .before .before .before .args) .t1)) (here (c .before .before .before .before .before .before .before)) _ _ (next (c .before .before .before .before .before .before .before)) (l .inv .0) (ne-eqb _ _ ((c .before .if1) .left)),
-      seen-hit (leaving n) (l .from .empty) (l .from .single) (gedgeOf (l .from .edge)) (heldOf ((c .before .before .before .before .before .before .before .before .before .before .before .args) .t1)) (here (c .before .before .before .before .before .before .before)) _ _ (next (c .before .before .before .before .before .before .before)) (l .inv .1) ((c .if2) .taken),
+    let l = (c .before .before .before .before .before .before .before .before .before .before .before .loop) in
+    let n = (c .before .before .before .before .before .before .before .before .before .before .before .before .args) .id .0 in
+    let rows = (c .before .before .before .before .before .before .before .before .before .before .before .before .args) .edges .now in
+    let m = (c .before .before .before .before .before .before .before .before .before .before .before .before .args) .m in
+    let x = rowOf (getD rows (l .i) []) in (
+      omega (arith, (c .before .before .before .before .before .before .before .before .before .before .loop-test) .taken),
+      l .inv .1,
+      omega (arith, (c .before .before .before .before .before .before .before .before .before .before .loop-test) .taken, (c .before .before .before .before .before .before .before .before .before .before .before .before .pre)),
+      λ e.
+          let s = edges-next rows m [] (l .i) ((c .before .before .before .before .before .before .before .before .before .before .loop-test) .taken) (omega (arith, e, (c .before .before .before .before .before .before .before .before .before .before .before .before .pre))) in
+          let v = l .inv .3 e in (
+            seen-miss (entering n) (l .to .empty) (l .to .single) (rowOf (getD rows (l .to .at) [])) (edgesIn rows m) x _ _ s (v .0) (ne-eqb _ _ (λ z. (c .before .if1) .left (z ∙ sym ((c .before .before .before .before .before .before .child) .ensures)))),
+            seen-hit (leaving n) (l .from .empty) (l .from .single) (rowOf (getD rows (l .from .at) [])) (edgesIn rows m) x _ _ s (v .1) ((λ i. eqb n (sym ((c .before .before .before .before .before .before .before .before .parent) .ensures) i)) ∙ (c .if2) .taken),
+          ),
     )
 
 add-i-3 : tie.Need-add-i-3 Inv-loop μ-loop
@@ -79,18 +99,35 @@ loop-less-3 c = omega arith
 
 loop-again-3 : tie.Need-loop-again-3 Inv-loop μ-loop
 loop-again-3 c =
-    let l = (c .before .before .before .before .before .before .before .before .loop) in
-    let n = (c .before .before .before .before .before .before .before .before .before .before .before .args) .id .0 in (
-      seen-miss (entering n) (l .to .empty) (l .to .single) (gedgeOf (l .to .edge)) (heldOf ((c .before .before .before .before .before .before .before .before .before .before .before .args) .t1)) (here (c .before .before .before .before .before .before .before)) _ _ (next (c .before .before .before .before .before .before .before)) (l .inv .0) (ne-eqb _ _ ((c .before .if1) .left)),
-      seen-miss (leaving n) (l .from .empty) (l .from .single) (gedgeOf (l .from .edge)) (heldOf ((c .before .before .before .before .before .before .before .before .before .before .before .args) .t1)) (here (c .before .before .before .before .before .before .before)) _ _ (next (c .before .before .before .before .before .before .before)) (l .inv .1) ((c .if2) .left),
+    let l = (c .before .before .before .before .before .before .before .before .before .before .before .loop) in
+    let n = (c .before .before .before .before .before .before .before .before .before .before .before .before .args) .id .0 in
+    let rows = (c .before .before .before .before .before .before .before .before .before .before .before .before .args) .edges .now in
+    let m = (c .before .before .before .before .before .before .before .before .before .before .before .before .args) .m in
+    let x = rowOf (getD rows (l .i) []) in (
+      omega (arith, (c .before .before .before .before .before .before .before .before .before .before .loop-test) .taken),
+      l .inv .1,
+      l .inv .2,
+      λ e.
+          let s = edges-next rows m [] (l .i) ((c .before .before .before .before .before .before .before .before .before .before .loop-test) .taken) (omega (arith, e, (c .before .before .before .before .before .before .before .before .before .before .before .before .pre))) in
+          let v = l .inv .3 e in (
+            seen-miss (entering n) (l .to .empty) (l .to .single) (rowOf (getD rows (l .to .at) [])) (edgesIn rows m) x _ _ s (v .0) (ne-eqb _ _ (λ z. (c .before .if1) .left (z ∙ sym ((c .before .before .before .before .before .before .child) .ensures)))),
+            seen-miss (leaving n) (l .from .empty) (l .from .single) (rowOf (getD rows (l .from .at) [])) (edgesIn rows m) x _ _ s (v .1) ((λ i. eqb n (sym ((c .before .before .before .before .before .before .before .before .parent) .ensures) i)) ∙ (c .if2) .left),
+          ),
     )
 
 returns : tie.Need-returns Inv-loop μ-loop
 returns c =
     let l = (c .before .loop) in
-    let n = (c .before .before .before .before .args) .id .0 in
-    let e = held-end ((c .before .before .before .before .args) .t1) (l .i) (omega (arith, (c .before .before .before .len) .ensures .0, (c .loop-test) .left)) in
-    (seen-all (entering n) (l .to .empty) (l .to .single) (gedgeOf (l .to .edge)) (heldOf ((c .before .before .before .before .args) .t1)) _ e (l .inv .0), seen-all (leaving n) (l .from .empty) (l .from .single) (gedgeOf (l .from .edge)) (heldOf ((c .before .before .before .before .args) .t1)) _ e (l .inv .1))
+    let n = (c .before .before .args) .id .0 in
+    let rows = (c .before .before .args) .edges .now in
+    let m = (c .before .before .args) .m in (
+      l .inv .1,
+      l .inv .2,
+      λ e.
+          let z = edges-over rows m (l .i) (omega (arith, (c .loop-test) .left)) (omega (arith, e, (c .before .before .pre))) in
+          let v = l .inv .3 e in
+          (seen-all (entering n) (l .to .empty) (l .to .single) (rowOf (getD rows (l .to .at) [])) (edgesIn rows m) _ z (v .0), seen-all (leaving n) (l .from .empty) (l .from .single) (rowOf (getD rows (l .from .at) [])) (edgesIn rows m) _ z (v .1)),
+    )
 
 pub touching-edges-spec : {M : Type 1} → statement M
 touching-edges-spec =
@@ -98,11 +135,13 @@ touching-edges-spec =
     (tie.spec
     Inv-loop
     μ-loop
-    len-requires
-    weakest-requires
     loop-holds
-    mul-x
-    element-copy-out-x
+    mul-parent
+    index-1-parent
+    parent-requires
+    mul-child
+    index-1-child
+    child-requires
     add-i
     loop-less
     loop-again

@@ -1,53 +1,35 @@
-use mathlib.Core.Path.{_≡_, refl, _∙_}
-use mathlib.Core.Bool.{not, _&&_, cond}
-use mathlib.Core.List.{_∷_, _++_, map, append-nil}
-use Prim.Native.Nat.{_+_, _-_, _<_, _≤_}
-use lib.Dec.{eqb}
-use lib.ListN.{length, take, drop, getD, length-set}
+use mathlib.Core.Bool.{not}
+use mathlib.Core.List.{[], _++_}
+use Rattle.borrow_graph_edit.specs.RowLaws.{keep-none, keep-off, keep-on, keep-all}
+use mathlib.Core.Path.{_≡_, sym, ap, _∙_}
+use Prim.Native.Nat.{_-_, _≤_}
+use lib.ListN.{length, drop, length-set}
 use Rattle.meaning.specs.Lists.{keep}
 use Rattle.meaning.specs.Refinement.Passes.{apart}
-use Rattle.meaning.specs.Laws.Array.{push-map, length-of-map}
-use Rattle.borrow_graph.specs.Models.{gedgeOf, edgesOf}
-use Rattle.borrow_graph.specs.ModelLaws.{no-gedge, edges-step, edges-end, edges-made}
+use Rattle.references.specs.Models.{edgesIn}
 use native.Mathlib.Omega.{arith}
 use borrow.Author.Needs.{needs}
 use Rattle.borrow_graph_edit.proofs.release.without.Statement.{statement}
 use Rattle.borrow_graph_edit.proofs.release.without.Tie as tie
 
 abbrev Inv-loop : tie.InvT-loop
-Inv-loop id self n out₀ j₀ i₀ out j i = (i ≤ n) × (j ≤ i) × (length out ≡ 96) × (map gedgeOf (take j out) ++ keep (apart (id .0)) (drop i (edgesOf self)) ≡ keep (apart (id .0)) (edgesOf self))
+Inv-loop edges₀ old m id j₀ i₀ edges j i =
+    (j ≤ i) × (i ≤ m) × (m ≤ 96) × (length edges₀ ≡ 96 → length old ≡ 96 → (length edges ≡ 96) × (edgesIn edges j ++ keep (apart (id .0)) (drop i (edgesIn old m)) ≡ keep (apart (id .0)) (edgesIn old m)))
 
 abbrev μ-loop : tie.MeasureT-loop
-μ-loop id self n out₀ j₀ i₀ out j i = n - i
-
-turn : (c : tie.In-loop Inv-loop μ-loop) →
-    let x = gedgeOf (getD ((c .before .before .before .before .args) .t1 .list) ((c .before .loop) .i) no-gedge) in
-    let rest = keep (apart ((c .before .before .before .before .args) .id .0)) (drop ((c .before .loop) .i + 1) (edgesOf ((c .before .before .before .before .args) .t1))) in
-    map gedgeOf (take ((c .before .loop) .j) ((c .before .loop) .out)) ++ cond (not (eqb ((c .before .before .before .before .args) .id .0) (x .parent)) && not (eqb ((c .before .before .before .before .args) .id .0) (x .child))) (x ∷ rest) rest ≡ keep (apart ((c .before .before .before .before .args) .id .0)) (edgesOf ((c .before .before .before .before .args) .t1))
-turn c = rw (edges-step ((c .before .before .before .before .args) .t1) ((c .before .loop) .i) (omega arith)) at ((c .before .loop) .inv .3)
-
-len-requires : tie.Need-len-requires Inv-loop μ-loop
-len-requires c κs = search needs
+μ-loop edges₀ old m id j₀ i₀ edges j i = m - i
 
 loop-holds : tie.Need-loop-holds Inv-loop μ-loop
-loop-holds c =
-    let h : length ((c .before .before .args) .t1 .list) ≡ 96 = search length-of-map in
-    (omega arith, omega arith, h, refl)
+loop-holds c = (omega arith, omega arith, (c .pre), λ e o. (e, keep-none ((c .args) .edges .now) _))
 
-mul-x : tie.Need-mul-x Inv-loop μ-loop
-mul-x c = omega arith
+mul-touches : tie.Need-mul-touches Inv-loop μ-loop
+mul-touches c = omega arith
 
-element-copy-out-x : tie.Need-element-copy-out-x Inv-loop μ-loop
-element-copy-out-x c = omega arith
+index-1-touches : tie.Need-index-1-touches Inv-loop μ-loop
+index-1-touches c = omega arith
 
-mul-out : tie.Need-mul-out Inv-loop μ-loop
-mul-out c = omega arith
-
-array-set-from-out : tie.Need-array-set-from-out Inv-loop μ-loop
-array-set-from-out c = omega arith
-
-add-j : tie.Need-add-j Inv-loop μ-loop
-add-j c = omega arith
+touches-requires : tie.Need-touches-requires Inv-loop μ-loop
+touches-requires c κs = search needs
 
 add-i : tie.Need-add-i Inv-loop μ-loop
 add-i c = omega arith
@@ -57,9 +39,30 @@ loop-less c = omega arith
 
 loop-again : tie.Need-loop-again Inv-loop μ-loop
 loop-again c =
-    let l = (c .before .before .before .before .before .before .before .loop) in
-    let h : l .j < length (l .out) = omega arith in
-    (omega arith, omega arith, simp length-set (l .inv .2), push-map gedgeOf (l .out) (l .j) (l .j + 1) _ _ refl h ∙ rw ((c .if1) .taken) at (turn (c .before .before .before .before .before .before)))
+    let l = (c .before .before .before .before .loop) in (
+      omega (arith, l .inv .0),
+      omega (arith, (c .before .before .before .loop-test) .taken),
+      l .inv .2,
+      λ e o. let v = l .inv .3 e o in (
+        v .0,
+        keep-off (apart ((c .before .before .before .before .before .args) .id .0)) ((c .before .before .before .before .before .args) .old .now) ((c .before .before .before .before .before .args) .m) (omega (arith, o, l .inv .2)) (l .edges) (l .j) (l .i) _ (v .1) ((c .before .before .before .loop-test) .taken) [] (sym ((c .before .touches) .ensures) ∙ ap not ((c .if1) .taken)),
+      ),
+    )
+
+mul-x : tie.Need-mul-x Inv-loop μ-loop
+mul-x c = omega arith
+
+element-copy-out-x : tie.Need-element-copy-out-x Inv-loop μ-loop
+element-copy-out-x c = omega arith
+
+mul-x-2 : tie.Need-mul-x-2 Inv-loop μ-loop
+mul-x-2 c = omega arith
+
+element-set-from-x : tie.Need-element-set-from-x Inv-loop μ-loop
+element-set-from-x c = omega arith
+
+add-j : tie.Need-add-j Inv-loop μ-loop
+add-j c = omega arith
 
 add-i-2 : tie.Need-add-i-2 Inv-loop μ-loop
 add-i-2 c = omega arith
@@ -69,16 +72,25 @@ loop-less-2 c = omega arith
 
 loop-again-2 : tie.Need-loop-again-2 Inv-loop μ-loop
 loop-again-2 c =
-    let l = (c .before .before .before .before .before .before .before .loop) in
-    (omega arith, omega arith, l .inv .2, rw ((c .if1) .left) at (turn (c .before .before .before .before .before .before)))
-
-cast-t23 : tie.Need-cast-t23 Inv-loop μ-loop
-cast-t23 c = omega arith
+    let l = (c .before .before .before .before .before .loop) in (
+      omega (arith, l .inv .0),
+      omega (arith, (c .before .before .before .before .loop-test) .taken),
+      l .inv .2,
+      λ e o. let v = l .inv .3 e o in (
+        simp length-set (v .0),
+        keep-on (apart ((c .before .before .before .before .before .before .args) .id .0)) ((c .before .before .before .before .before .before .args) .old .now) ((c .before .before .before .before .before .before .args) .m) (omega (arith, o, l .inv .2)) (l .edges) (l .j) (l .i) _ (v .1) ((c .before .before .before .before .loop-test) .taken) [] (sym ((c .before .before .touches) .ensures) ∙ ap not ((c .before .if1) .left)) (omega (arith, v .0, l .inv .0, l .inv .2, (c .before .before .before .before .loop-test) .taken)),
+      ),
+    )
 
 returns : tie.Need-returns Inv-loop μ-loop
 returns c =
-    let l = (c .before .loop) in
-    edges-made (l .out) (l .j) ∙ rw (edges-end ((c .before .before .before .before .args) .t1) (l .i) (omega arith), append-nil) at (l .inv .3)
+    let l = (c .before .loop) in (
+      omega (arith, l .inv),
+      λ e o. let v = l .inv .3 e o in (
+        v .0,
+        keep-all (apart ((c .before .before .args) .id .0)) ((c .before .before .args) .old .now) ((c .before .before .args) .m) (omega (arith, o, l .inv .2)) (l .edges) (l .j) (l .i) _ (v .1) (omega (arith, (c .loop-test) .left)),
+      ),
+    )
 
 pub without-spec : {M : Type 1} → statement M
 without-spec =
@@ -86,18 +98,19 @@ without-spec =
     (tie.spec
     Inv-loop
     μ-loop
-    len-requires
     loop-holds
-    mul-x
-    element-copy-out-x
-    mul-out
-    array-set-from-out
-    add-j
+    mul-touches
+    index-1-touches
+    touches-requires
     add-i
     loop-less
     loop-again
+    mul-x
+    element-copy-out-x
+    mul-x-2
+    element-set-from-x
+    add-j
     add-i-2
     loop-less-2
     loop-again-2
-    cast-t23
     returns)

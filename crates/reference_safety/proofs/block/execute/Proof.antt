@@ -1,9 +1,4 @@
 -- `reference_safety::block::execute` meets its contract. Assumes nothing.
-use Rattle.abstract_state.specs.Models.{outcomeOf, runningOf, answerOf}
-use Rattle.operand_stack.specs.Models.{stackOf}
-use Rattle.reference_safety.specs.Models.{machineOf}
-use Rattle.meaning.specs.Steps.{push}
-use Rattle.abstract_state.specs.OutcomeLaws.{link}
 use Rattle.reference_safety.specs.BlockLaws.{stepped}
 use borrow.Author.Needs.{needs}
 use Rattle.reference_safety.proofs.block.execute.Statement.{statement}
@@ -21,17 +16,11 @@ enum-known-i c = search needs
 copy-loc-requires : tie.Need-copy-loc-requires
 copy-loc-requires c κs = search needs
 
-pushed-requires : tie.Need-pushed-requires
-pushed-requires c κs = search needs
-
 enum-known-i-2 : tie.Need-enum-known-i-2
 enum-known-i-2 c = search needs
 
 move-loc-requires : tie.Need-move-loc-requires
 move-loc-requires c κs = search needs
-
-pushed-requires-2 : tie.Need-pushed-requires-2
-pushed-requires-2 c κs = search needs
 
 enum-known-i-3 : tie.Need-enum-known-i-3
 enum-known-i-3 c = search needs
@@ -68,9 +57,6 @@ enum-known-i-4 c = search needs
 
 borrow-loc-requires : tie.Need-borrow-loc-requires
 borrow-loc-requires c κs = search needs
-
-pushed-requires-3 : tie.Need-pushed-requires-3
-pushed-requires-3 c κs = search needs
 
 enum-known-i-5 : tie.Need-enum-known-i-5
 enum-known-i-5 c = search needs
@@ -127,58 +113,58 @@ borrow-element-requires : tie.Need-borrow-element-requires
 borrow-element-requires c κs = search needs
 
 returns : tie.Need-returns
-returns c = stepped ((c .before .before .before .before .before .args) .m .state .violation) ((c .before .before .before .before .before .args) .m .state .refusal) (runningOf ((c .before .before .before .before .before .args) .m .state)) (stackOf ((c .before .before .before .before .before .args) .m .stack)) ((c .before .before .before .before .before .args) .returns) ((c .before .before .before .before .before .args) .d) ((c .before .enum-told) .given .1) (machineOf ((c .pop-top) .result)) ((c .pop-top) .ensures)
+returns c = stepped ((c .before .before .before .before .before .before .args) .returns) ((c .before .before .before .before .before .before .args) .d) ((c .before .before .before .before .enum-told) .given .1) ((c .pop-top) .ensures ((c .before .before .before .before .before .before .args) .locals .now))
 
 returns-2 : tie.Need-returns-2
-returns-2 c = stepped ((c .before .before .before .before .before .before .before .args) .m .state .violation) ((c .before .before .before .before .before .before .before .args) .m .state .refusal) (runningOf ((c .before .before .before .before .before .before .before .args) .m .state)) (stackOf ((c .before .before .before .before .before .before .before .args) .m .stack)) ((c .before .before .before .before .before .before .before .args) .returns) ((c .before .before .before .before .before .before .before .args) .d) ((c .before .before .before .i) .given .1) (machineOf ((c .pushed) .result)) (link (outcomeOf ((c .before .before .before .before .before .before .before .args) .m .state)) (answerOf ((c .before .copy-loc) .result)) (machineOf ((c .pushed) .result)) _ (λ x. push (stackOf ((c .before .before .before .before .before .before .before .args) .m .stack)) (x .operand) (x .state)) ((c .before .copy-loc) .ensures) ((c .pushed) .ensures))
+returns-2 c = stepped ((c .before .before .before .before .before .before .before .before .args) .returns) ((c .before .before .before .before .before .before .before .before .args) .d) ((c .before .before .before .before .before .before .i) .given .1) ((c .copy-loc) .ensures)
 
 returns-3 : tie.Need-returns-3
-returns-3 c = stepped ((c .before .before .before .before .before .before .before .args) .m .state .violation) ((c .before .before .before .before .before .before .before .args) .m .state .refusal) (runningOf ((c .before .before .before .before .before .before .before .args) .m .state)) (stackOf ((c .before .before .before .before .before .before .before .args) .m .stack)) ((c .before .before .before .before .before .before .before .args) .returns) ((c .before .before .before .before .before .before .before .args) .d) ((c .before .before .before .i2) .given .1) (machineOf ((c .pushed2) .result)) (link (outcomeOf ((c .before .before .before .before .before .before .before .args) .m .state)) (answerOf ((c .before .move-loc) .result)) (machineOf ((c .pushed2) .result)) _ (λ x. push (stackOf ((c .before .before .before .before .before .before .before .args) .m .stack)) (x .operand) (x .state)) ((c .before .move-loc) .ensures) ((c .pushed2) .ensures))
+returns-3 c = stepped ((c .before .before .before .before .before .before .before .before .args) .returns) ((c .before .before .before .before .before .before .before .before .args) .d) ((c .before .before .before .before .before .before .i2) .given .1) ((c .move-loc) .ensures)
 
 returns-4 : tie.Need-returns-4
-returns-4 c = stepped ((c .before .before .before .before .before .before .args) .m .state .violation) ((c .before .before .before .before .before .before .args) .m .state .refusal) (runningOf ((c .before .before .before .before .before .before .args) .m .state)) (stackOf ((c .before .before .before .before .before .before .args) .m .stack)) ((c .before .before .before .before .before .before .args) .returns) ((c .before .before .before .before .before .before .args) .d) ((c .before .before .i3) .given .1) (machineOf ((c .st-loc) .result)) ((c .st-loc) .ensures)
+returns-4 c = stepped ((c .before .before .before .before .before .before .before .before .args) .returns) ((c .before .before .before .before .before .before .before .before .args) .d) ((c .before .before .before .before .before .before .i3) .given .1) ((c .st-loc) .ensures)
 
 returns-5 : tie.Need-returns-5
-returns-5 c = stepped ((c .before .before .before .before .before .args) .m .state .violation) ((c .before .before .before .before .before .args) .m .state .refusal) (runningOf ((c .before .before .before .before .before .args) .m .state)) (stackOf ((c .before .before .before .before .before .args) .m .stack)) ((c .before .before .before .before .before .args) .returns) ((c .before .before .before .before .before .args) .d) ((c .before .enum-told2) .given .1) (machineOf ((c .freeze-ref) .result)) ((c .freeze-ref) .ensures)
+returns-5 c = stepped ((c .before .before .before .before .before .before .args) .returns) ((c .before .before .before .before .before .before .args) .d) ((c .before .before .before .before .enum-told2) .given .1) ((c .freeze-ref) .ensures ((c .before .before .before .before .before .before .args) .locals .now))
 
 returns-6 : tie.Need-returns-6
-returns-6 c = stepped ((c .before .before .before .before .before .args) .m .state .violation) ((c .before .before .before .before .before .args) .m .state .refusal) (runningOf ((c .before .before .before .before .before .args) .m .state)) (stackOf ((c .before .before .before .before .before .args) .m .stack)) ((c .before .before .before .before .before .args) .returns) ((c .before .before .before .before .before .args) .d) ((c .before .enum-told3) .given .1) (machineOf ((c .compare) .result)) ((c .compare) .ensures)
+returns-6 c = stepped ((c .before .before .before .before .before .before .args) .returns) ((c .before .before .before .before .before .before .args) .d) ((c .before .before .before .before .enum-told3) .given .1) ((c .compare) .ensures ((c .before .before .before .before .before .before .args) .locals .now))
 
 returns-7 : tie.Need-returns-7
-returns-7 c = stepped ((c .before .before .before .before .before .args) .m .state .violation) ((c .before .before .before .before .before .args) .m .state .refusal) (runningOf ((c .before .before .before .before .before .args) .m .state)) (stackOf ((c .before .before .before .before .before .args) .m .stack)) ((c .before .before .before .before .before .args) .returns) ((c .before .before .before .before .before .args) .d) ((c .before .enum-told4) .given .1) (machineOf ((c .read-ref) .result)) ((c .read-ref) .ensures)
+returns-7 c = stepped ((c .before .before .before .before .before .before .args) .returns) ((c .before .before .before .before .before .before .args) .d) ((c .before .before .before .before .enum-told4) .given .1) ((c .read-ref) .ensures ((c .before .before .before .before .before .before .args) .locals .now))
 
 returns-8 : tie.Need-returns-8
-returns-8 c = stepped ((c .before .before .before .before .before .args) .m .state .violation) ((c .before .before .before .before .before .args) .m .state .refusal) (runningOf ((c .before .before .before .before .before .args) .m .state)) (stackOf ((c .before .before .before .before .before .args) .m .stack)) ((c .before .before .before .before .before .args) .returns) ((c .before .before .before .before .before .args) .d) ((c .before .enum-told5) .given .1) (machineOf ((c .write-ref) .result)) ((c .write-ref) .ensures)
+returns-8 c = stepped ((c .before .before .before .before .before .before .args) .returns) ((c .before .before .before .before .before .before .args) .d) ((c .before .before .before .before .enum-told5) .given .1) ((c .write-ref) .ensures ((c .before .before .before .before .before .before .args) .locals .now))
 
 returns-9 : tie.Need-returns-9
-returns-9 c = stepped ((c .before .before .before .before .before .before .before .args) .m .state .violation) ((c .before .before .before .before .before .before .before .args) .m .state .refusal) (runningOf ((c .before .before .before .before .before .before .before .args) .m .state)) (stackOf ((c .before .before .before .before .before .before .before .args) .m .stack)) ((c .before .before .before .before .before .before .before .args) .returns) ((c .before .before .before .before .before .before .before .args) .d) ((c .before .before .before .i4) .given .1) (machineOf ((c .pushed3) .result)) (link (outcomeOf ((c .before .before .before .before .before .before .before .args) .m .state)) (answerOf ((c .before .borrow-loc) .result)) (machineOf ((c .pushed3) .result)) _ (λ x. push (stackOf ((c .before .before .before .before .before .before .before .args) .m .stack)) (x .operand) (x .state)) ((c .before .borrow-loc) .ensures) ((c .pushed3) .ensures))
+returns-9 c = stepped ((c .before .before .before .before .before .before .before .args) .returns) ((c .before .before .before .before .before .before .before .args) .d) ((c .before .before .before .before .before .i4) .given .1) ((c .borrow-loc) .ensures ((c .before .before .before .before .before .before .before .args) .locals .now))
 
 returns-10 : tie.Need-returns-10
-returns-10 c = stepped ((c .before .before .before .before .before .before .args) .m .state .violation) ((c .before .before .before .before .before .before .args) .m .state .refusal) (runningOf ((c .before .before .before .before .before .before .args) .m .state)) (stackOf ((c .before .before .before .before .before .before .args) .m .stack)) ((c .before .before .before .before .before .before .args) .returns) ((c .before .before .before .before .before .before .args) .d) ((c .before .before .i5) .given .1) (machineOf ((c .borrow-field) .result)) ((c .borrow-field) .ensures)
+returns-10 c = stepped ((c .before .before .before .before .before .before .before .args) .returns) ((c .before .before .before .before .before .before .before .args) .d) ((c .before .before .before .before .before .i5) .given .1) ((c .borrow-field) .ensures ((c .before .before .before .before .before .before .before .args) .locals .now))
 
 returns-11 : tie.Need-returns-11
-returns-11 c = stepped ((c .before .before .before .before .before .before .args) .m .state .violation) ((c .before .before .before .before .before .before .args) .m .state .refusal) (runningOf ((c .before .before .before .before .before .before .args) .m .state)) (stackOf ((c .before .before .before .before .before .before .args) .m .stack)) ((c .before .before .before .before .before .before .args) .returns) ((c .before .before .before .before .before .before .args) .d) ((c .before .before .i6) .given .1) (machineOf ((c .borrow-global) .result)) ((c .borrow-global) .ensures)
+returns-11 c = stepped ((c .before .before .before .before .before .before .before .args) .returns) ((c .before .before .before .before .before .before .before .args) .d) ((c .before .before .before .before .before .i6) .given .1) ((c .borrow-global) .ensures ((c .before .before .before .before .before .before .before .args) .locals .now))
 
 returns-12 : tie.Need-returns-12
-returns-12 c = stepped ((c .before .before .before .before .before .before .args) .m .state .violation) ((c .before .before .before .before .before .before .args) .m .state .refusal) (runningOf ((c .before .before .before .before .before .before .args) .m .state)) (stackOf ((c .before .before .before .before .before .before .args) .m .stack)) ((c .before .before .before .before .before .before .args) .returns) ((c .before .before .before .before .before .before .args) .d) ((c .before .before .i7) .given .1) (machineOf ((c .move-from) .result)) ((c .move-from) .ensures)
+returns-12 c = stepped ((c .before .before .before .before .before .before .before .args) .returns) ((c .before .before .before .before .before .before .before .args) .d) ((c .before .before .before .before .before .i7) .given .1) ((c .move-from) .ensures ((c .before .before .before .before .before .before .before .args) .locals .now))
 
 returns-13 : tie.Need-returns-13
-returns-13 c = stepped ((c .before .before .before .before .before .before .before .before .args) .m .state .violation) ((c .before .before .before .before .before .before .before .before .args) .m .state .refusal) (runningOf ((c .before .before .before .before .before .before .before .before .args) .m .state)) (stackOf ((c .before .before .before .before .before .before .before .before .args) .m .stack)) ((c .before .before .before .before .before .before .before .before .args) .returns) ((c .before .before .before .before .before .before .before .before .args) .d) ((c .before .before .before .before .i8) .given .1) (machineOf ((c .call) .result)) ((c .call) .ensures)
+returns-13 c = stepped ((c .before .before .before .before .before .before .before .before .before .args) .returns) ((c .before .before .before .before .before .before .before .before .before .args) .d) ((c .before .before .before .before .before .before .before .i8) .given .1) ((c .call) .ensures ((c .before .before .before .before .before .before .before .before .before .args) .locals .now))
 
 returns-14 : tie.Need-returns-14
-returns-14 c = stepped ((c .before .before .before .before .before .args) .m .state .violation) ((c .before .before .before .before .before .args) .m .state .refusal) (runningOf ((c .before .before .before .before .before .args) .m .state)) (stackOf ((c .before .before .before .before .before .args) .m .stack)) ((c .before .before .before .before .before .args) .returns) ((c .before .before .before .before .before .args) .d) ((c .before .enum-told6) .given .1) (machineOf ((c .ret) .result)) ((c .ret) .ensures)
+returns-14 c = stepped ((c .before .before .before .before .before .before .before .args) .returns) ((c .before .before .before .before .before .before .before .args) .d) ((c .before .before .before .before .before .enum-told6) .given .1) ((c .ret) .ensures)
 
 returns-15 : tie.Need-returns-15
-returns-15 c = stepped ((c .before .before .before .before .before .before .args) .m .state .violation) ((c .before .before .before .before .before .before .args) .m .state .refusal) (runningOf ((c .before .before .before .before .before .before .args) .m .state)) (stackOf ((c .before .before .before .before .before .before .args) .m .stack)) ((c .before .before .before .before .before .before .args) .returns) ((c .before .before .before .before .before .before .args) .d) ((c .before .before .i9) .given .1) (machineOf ((c .values) .result)) ((c .values) .ensures)
+returns-15 c = stepped ((c .before .before .before .before .before .before .args) .returns) ((c .before .before .before .before .before .before .args) .d) ((c .before .before .before .before .i9) .given .1) ((c .values) .ensures ((c .before .before .before .before .before .before .args) .locals .now) ((c .before .before .before .before .before .before .args) .edges .now))
 
 returns-16 : tie.Need-returns-16
-returns-16 c = stepped ((c .before .before .before .before .before .args) .m .state .violation) ((c .before .before .before .before .before .args) .m .state .refusal) (runningOf ((c .before .before .before .before .before .args) .m .state)) (stackOf ((c .before .before .before .before .before .args) .m .stack)) ((c .before .before .before .before .before .args) .returns) ((c .before .before .before .before .before .args) .d) ((c .before .enum-told7) .given .1) (machineOf ((c .move-to) .result)) ((c .move-to) .ensures)
+returns-16 c = stepped ((c .before .before .before .before .before .before .args) .returns) ((c .before .before .before .before .before .before .args) .d) ((c .before .before .before .before .enum-told7) .given .1) ((c .move-to) .ensures ((c .before .before .before .before .before .before .args) .locals .now))
 
 returns-17 : tie.Need-returns-17
-returns-17 c = stepped ((c .before .before .before .before .before .before .args) .m .state .violation) ((c .before .before .before .before .before .before .args) .m .state .refusal) (runningOf ((c .before .before .before .before .before .before .args) .m .state)) (stackOf ((c .before .before .before .before .before .before .args) .m .stack)) ((c .before .before .before .before .before .before .args) .returns) ((c .before .before .before .before .before .before .args) .d) ((c .before .before .i10) .given .1) (machineOf ((c .vector-op) .result)) ((c .vector-op) .ensures)
+returns-17 c = stepped ((c .before .before .before .before .before .before .before .args) .returns) ((c .before .before .before .before .before .before .before .args) .d) ((c .before .before .before .before .before .i10) .given .1) ((c .vector-op) .ensures ((c .before .before .before .before .before .before .before .args) .locals .now))
 
 returns-18 : tie.Need-returns-18
-returns-18 c = stepped ((c .before .before .before .before .before .before .args) .m .state .violation) ((c .before .before .before .before .before .before .args) .m .state .refusal) (runningOf ((c .before .before .before .before .before .before .args) .m .state)) (stackOf ((c .before .before .before .before .before .before .args) .m .stack)) ((c .before .before .before .before .before .before .args) .returns) ((c .before .before .before .before .before .before .args) .d) ((c .before .before .i11) .given .1) (machineOf ((c .borrow-element) .result)) ((c .borrow-element) .ensures)
+returns-18 c = stepped ((c .before .before .before .before .before .before .before .args) .returns) ((c .before .before .before .before .before .before .before .args) .d) ((c .before .before .before .before .before .i11) .given .1) ((c .borrow-element) .ensures ((c .before .before .before .before .before .before .before .args) .locals .now))
 
 pub execute-spec : {M : Type 1} → statement M
 execute-spec =
@@ -188,10 +174,8 @@ execute-spec =
     pop-top-requires
     enum-known-i
     copy-loc-requires
-    pushed-requires
     enum-known-i-2
     move-loc-requires
-    pushed-requires-2
     enum-known-i-3
     st-loc-requires
     enum-told-2
@@ -204,7 +188,6 @@ execute-spec =
     write-ref-requires
     enum-known-i-4
     borrow-loc-requires
-    pushed-requires-3
     enum-known-i-5
     borrow-field-requires
     enum-known-i-6

@@ -1,26 +1,23 @@
 -- `reference_safety::machine::push_each` meets its contract. Assumes nothing.
-use mathlib.Core.Path.{_≡_, refl, _∙_, sym, ap}
-use Rattle.meaning.specs.Answers.{then}
-use Rattle.abstract_state.specs.Models.{runningOf}
-use Rattle.operand_stack.specs.Models.{stackOf}
-use Rattle.reference_safety.specs.Models.{with, machineOf}
 use Prim.Native.Nat.{ℕ, _-_}
-use Rattle.meaning.specs.Steps.{pushNew}
+use mathlib.Core.Path.{refl}
+use mathlib.Core.List.{List}
 use Rattle.file_format.specs.Models.{tokenOf}
-use Rattle.reference_safety.specs.MachineLaws.{new-turn, new-out, new-end}
+use Rattle.reference_safety.specs.Models.{board}
+use Rattle.reference_safety.specs.MachineLaws.{Turns, new-turn, new-out, new-end}
 use native.Mathlib.Omega.{arith}
 use borrow.Author.Needs.{needs}
 use Rattle.reference_safety.proofs.machine.push_each.Statement.{statement}
 use Rattle.reference_safety.proofs.machine.push_each.Tie as tie
 
 abbrev Inv-loop : tie.InvT-loop
-Inv-loop n token out₀ left₀ out left = then (machineOf out) (λ x. pushNew left (tokenOf token) (x .stack) (x .state)) ≡ then (machineOf out₀) (λ x. pushNew n (tokenOf token) (x .stack) (x .state))
+Inv-loop names₀ stack₀ n token out₀ left₀ names stack out left = (ls : List ℕ) (es : List (List ℕ)) → Turns (tokenOf token) n (board ls names₀ es stack₀ out₀) left (board ls names es stack out)
 
 abbrev μ-loop : tie.MeasureT-loop
-μ-loop n token out₀ left₀ out left = left
+μ-loop names₀ stack₀ n token out₀ left₀ names stack out left = left
 
 loop-holds : tie.Need-loop-holds Inv-loop μ-loop
-loop-holds c = refl
+loop-holds c = λ ls es. record { ready = λ h. h; turns = λ h. refl }
 
 push-one-requires : tie.Need-push-one-requires Inv-loop μ-loop
 push-one-requires c κs = search needs
@@ -32,16 +29,13 @@ loop-less : tie.Need-loop-less Inv-loop μ-loop
 loop-less c = omega arith
 
 loop-again : tie.Need-loop-again Inv-loop μ-loop
-loop-again c = new-turn (tokenOf ((c .before .before .before .before .before .before .args) .token)) ((c .before .before .before .before .before .loop) .out .state .violation) ((c .before .before .before .before .before .loop) .out .state .refusal) (with (stackOf ((c .before .before .before .before .before .loop) .out .stack)) (runningOf ((c .before .before .before .before .before .loop) .out .state))) (then (machineOf ((c .before .before .before .before .before .before .args) .m)) (λ x. pushNew ((c .before .before .before .before .before .before .args) .n) (tokenOf ((c .before .before .before .before .before .before .args) .token)) (x .stack) (x .state))) ((c .before .before .before .before .before .loop) .left) ((c .before .before .before .before .before .loop) .left - 1) (machineOf ((c .push-one) .result)) (omega arith) ((c .push-one) .ensures) ((c .before .before .before .before .before .loop) .inv)
+loop-again c = λ ls es. new-turn ((c .before .before .before .before .before .before .before .loop) .left - 1) (omega arith) ((c .push-one) .ensures ls es) ((c .before .before .before .before .before .before .before .loop) .inv ls es)
 
 returns : tie.Need-returns Inv-loop μ-loop
-returns c = new-out (tokenOf ((c .before .before .before .before .before .args) .token)) ((c .before .before .before .before .loop) .out .state .violation) ((c .before .before .before .before .loop) .out .state .refusal) (with (stackOf ((c .before .before .before .before .loop) .out .stack)) (runningOf ((c .before .before .before .before .loop) .out .state))) (then (machineOf ((c .before .before .before .before .before .args) .m)) (λ x. pushNew ((c .before .before .before .before .before .args) .n) (tokenOf ((c .before .before .before .before .before .args) .token)) (x .stack) (x .state))) ((c .before .before .before .before .loop) .left) ((c .if1) .left) ((c .before .before .before .before .loop) .inv)
+returns c = λ ls es. new-out ((c .if1) .left) ((c .before .before .before .before .loop) .inv ls es)
 
 returns-2 : tie.Need-returns-2 Inv-loop μ-loop
-returns-2 c =
-    let z : (c .before .loop) .left ≡ 0 = omega arith in
-    new-end (tokenOf ((c .before .before .args) .token)) ((c .before .loop) .out .state .violation) ((c .before .loop) .out .state .refusal) (with (stackOf ((c .before .loop) .out .stack)) (runningOf ((c .before .loop) .out .state))) (then (machineOf ((c .before .before .args) .m)) (λ x. pushNew ((c .before .before .args) .n) (tokenOf ((c .before .before .args) .token)) (x .stack) (x .state)))
-    (ap (λ (k : ℕ). then (machineOf ((c .before .loop) .out)) (λ x. pushNew k (tokenOf ((c .before .before .args) .token)) (x .stack) (x .state))) (sym z) ∙ (c .before .loop) .inv)
+returns-2 c = λ ls es. new-end (omega arith) ((c .before .loop) .inv ls es)
 
 pub push-each-spec : {M : Type 1} → statement M
 push-each-spec =

@@ -1,11 +1,7 @@
 -- `reference_safety::steps::borrow_field` meets its contract. Assumes nothing.
 use Rattle.meaning.specs.EntryPoints.{borrowField}
-use Rattle.meaning.specs.Steps.{push, pushed}
-use Rattle.abstract_state.specs.Models.{outcomeOf, answerOf}
-use Rattle.operand_stack.specs.Models.{stackOf}
-use Rattle.reference_safety.specs.Models.{with, machineOf}
-use Rattle.reference_safety.specs.MachineLaws.{ref-out, ref-on}
-use Rattle.abstract_state.specs.OutcomeLaws.{link}
+use Rattle.meaning.specs.Steps.{pushed}
+use Rattle.reference_safety.specs.MachineLaws.{ref-runs, gives}
 use borrow.Author.Needs.{needs}
 use Rattle.reference_safety.proofs.steps.borrow_field.Statement.{statement}
 use Rattle.reference_safety.proofs.steps.borrow_field.Tie as tie
@@ -13,11 +9,8 @@ use Rattle.reference_safety.proofs.steps.borrow_field.Tie as tie
 pop-ref-requires : tie.Need-pop-ref-requires
 pop-ref-requires c κs = search needs
 
-stop-requires : tie.Need-stop-requires
-stop-requires c κs = search needs
-
-returns : tie.Need-returns
-returns c = ref-out (outcomeOf ((c .before .before .before .before .before .args) .state)) (machineOf ((c .stop) .result)) ((c .before .before .before .before .pop-ref) .result .refusal) (stackOf ((c .before .before .before .before .before .args) .stack)) (record { what = (c .before .before .before .before .pop-ref) .result .id .0; rest = stackOf ((c .before .before .before .before .pop-ref) .result .stack) }) (λ s n ws. pushed ws (borrowField ((c .before .before .before .before .before .args) .mutable) n ((c .before .before .before .before .before .args) .field) s)) ((c .before .before .before .before .pop-ref) .ensures) ((c .before .if1) .taken) (with (stackOf ((c .before .before .before .before .pop-ref) .result .stack))) ((c .stop) .ensures)
+refuse-requires : tie.Need-refuse-requires
+refuse-requires c κs = search needs
 
 borrow-field-requires : tie.Need-borrow-field-requires
 borrow-field-requires c κs = search needs
@@ -25,17 +18,10 @@ borrow-field-requires c κs = search needs
 pushed-requires : tie.Need-pushed-requires
 pushed-requires c κs = search needs
 
-returns-2 : tie.Need-returns-2
-returns-2 c = ref-on (outcomeOf ((c .before .before .before .before .before .before .before .args) .state)) (machineOf ((c .pushed) .result)) ((c .before .before .before .before .before .before .pop-ref) .result .refusal) (stackOf ((c .before .before .before .before .before .before .before .args) .stack)) (record { what = (c .before .before .before .before .before .before .pop-ref) .result .id .0; rest = stackOf ((c .before .before .before .before .before .before .pop-ref) .result .stack) }) (λ s n ws. pushed ws (borrowField ((c .before .before .before .before .before .before .before .args) .mutable) n ((c .before .before .before .before .before .before .before .args) .field) s)) ((c .before .before .before .before .before .before .pop-ref) .ensures) ((c .before .before .before .if1) .left)
-    (link (outcomeOf ((c .before .before .before .before .before .before .before .args) .state)) (answerOf ((c .before .borrow-field) .result)) (machineOf ((c .pushed) .result)) (borrowField ((c .before .before .before .before .before .before .before .args) .mutable) ((c .before .before .before .before .before .before .pop-ref) .result .id .0) ((c .before .before .before .before .before .before .before .args) .field)) (λ x. push (stackOf ((c .before .before .before .before .before .before .pop-ref) .result .stack)) (x .operand) (x .state)) ((c .before .borrow-field) .ensures) ((c .pushed) .ensures))
+returns : tie.Need-returns
+returns c = λ ls. ref-runs ((c .before .before .before .before .before .before .before .before .before .before .args) .stack .now) ((c .before .before .before .before .before .before .before .before .before .before .args) .m .depth) ((c .before .before .before .before .before .before .before .pop-ref) .result) (λ n us s. pushed us (borrowField ((c .before .before .before .before .before .before .before .before .before .before .args) .mutable) n ((c .before .before .before .before .before .before .before .before .before .before .args) .field) s)) ((c .before .before .before .before .before .before .before .pop-ref) .ensures .0) ((c .before .before .before .before .before .before .refuse) .ensures ls _ _) (gives ((c .before .before .borrow-field) .ensures ls) ((c .pushed) .ensures ls _ _))
 
 pub borrow-field-spec : {M : Type 1} → statement M
 borrow-field-spec =
     tie.close
-    (tie.spec
-    pop-ref-requires
-    stop-requires
-    returns
-    borrow-field-requires
-    pushed-requires
-    returns-2)
+    (tie.spec pop-ref-requires refuse-requires borrow-field-requires pushed-requires returns)

@@ -1,11 +1,8 @@
 -- `reference_safety::steps::compare` meets its contract. Assumes nothing.
 use Rattle.meaning.specs.EntryPoints.{comparison}
-use Rattle.meaning.specs.Steps.{pop, push, pushed}
-use Rattle.abstract_state.specs.Models.{outcomeOf, operandOf, answerOf}
-use Rattle.operand_stack.specs.Models.{stackOf}
-use Rattle.reference_safety.specs.Models.{with, machineOf}
-use Rattle.reference_safety.specs.MachineLaws.{one-out, one-on}
-use Rattle.abstract_state.specs.OutcomeLaws.{link}
+use Rattle.meaning.specs.Steps.{pop, pushed}
+use Rattle.abstract_state.specs.Models.{operandOf}
+use Rattle.reference_safety.specs.MachineLaws.{pop-runs, gives}
 use borrow.Author.Needs.{needs}
 use Rattle.reference_safety.proofs.steps.compare.Statement.{statement}
 use Rattle.reference_safety.proofs.steps.compare.Tie as tie
@@ -13,21 +10,14 @@ use Rattle.reference_safety.proofs.steps.compare.Tie as tie
 pop-requires : tie.Need-pop-requires
 pop-requires c κs = search needs
 
-stop-requires : tie.Need-stop-requires
-stop-requires c κs = search needs
-
-returns : tie.Need-returns
-returns c = one-out (outcomeOf ((c .before .before .before .before .before .args) .state)) (machineOf ((c .stop) .result)) ((c .before .before .before .before .pop) .result .refusal) (stackOf ((c .before .before .before .before .before .args) .stack)) (record { what = operandOf ((c .before .before .before .before .pop) .result .value); rest = stackOf ((c .before .before .before .before .pop) .result .stack) }) (λ s v ws. pop ws (λ w us. pushed us (comparison v w s))) ((c .before .before .before .before .pop) .ensures .0) ((c .before .if1) .taken) (with (stackOf ((c .before .before .before .before .pop) .result .stack))) ((c .stop) .ensures)
+refuse-requires : tie.Need-refuse-requires
+refuse-requires c κs = search needs
 
 pop-requires-2 : tie.Need-pop-requires-2
 pop-requires-2 c κs = search needs
 
-stop-requires-2 : tie.Need-stop-requires-2
-stop-requires-2 c κs = search needs
-
-returns-2 : tie.Need-returns-2
-returns-2 c = one-on (outcomeOf ((c .before .before .before .before .before .before .before .before .before .args) .state)) (machineOf ((c .stop2) .result)) ((c .before .before .before .before .before .before .before .before .pop) .result .refusal) (stackOf ((c .before .before .before .before .before .before .before .before .before .args) .stack)) (record { what = operandOf ((c .before .before .before .before .before .before .before .before .pop) .result .value); rest = stackOf ((c .before .before .before .before .before .before .before .before .pop) .result .stack) }) (λ s v ws. pop ws (λ w us. pushed us (comparison v w s))) ((c .before .before .before .before .before .before .before .before .pop) .ensures .0) ((c .before .before .before .before .before .if1) .left)
-    (one-out (outcomeOf ((c .before .before .before .before .before .before .before .before .before .args) .state)) (machineOf ((c .stop2) .result)) ((c .before .before .before .before .pop2) .result .refusal) (stackOf ((c .before .before .before .before .before .before .before .before .pop) .result .stack)) (record { what = operandOf ((c .before .before .before .before .pop2) .result .value); rest = stackOf ((c .before .before .before .before .pop2) .result .stack) }) (λ s w us. pushed us (comparison (operandOf ((c .before .before .before .before .before .before .before .before .pop) .result .value)) w s)) ((c .before .before .before .before .pop2) .ensures .0) ((c .before .if2) .taken) (with (stackOf ((c .before .before .before .before .pop2) .result .stack))) ((c .stop2) .ensures))
+refuse-requires-2 : tie.Need-refuse-requires-2
+refuse-requires-2 c κs = search needs
 
 comparison-requires : tie.Need-comparison-requires
 comparison-requires c κs = search needs
@@ -35,21 +25,22 @@ comparison-requires c κs = search needs
 pushed-requires : tie.Need-pushed-requires
 pushed-requires c κs = search needs
 
-returns-3 : tie.Need-returns-3
-returns-3 c = one-on (outcomeOf ((c .before .before .before .before .before .before .before .before .before .before .args) .state)) (machineOf ((c .pushed) .result)) ((c .before .before .before .before .before .before .before .before .before .pop) .result .refusal) (stackOf ((c .before .before .before .before .before .before .before .before .before .before .args) .stack)) (record { what = operandOf ((c .before .before .before .before .before .before .before .before .before .pop) .result .value); rest = stackOf ((c .before .before .before .before .before .before .before .before .before .pop) .result .stack) }) (λ s v ws. pop ws (λ w us. pushed us (comparison v w s))) ((c .before .before .before .before .before .before .before .before .before .pop) .ensures .0) ((c .before .before .before .before .before .before .if1) .left)
-    (one-on (outcomeOf ((c .before .before .before .before .before .before .before .before .before .before .args) .state)) (machineOf ((c .pushed) .result)) ((c .before .before .before .before .before .pop2) .result .refusal) (stackOf ((c .before .before .before .before .before .before .before .before .before .pop) .result .stack)) (record { what = operandOf ((c .before .before .before .before .before .pop2) .result .value); rest = stackOf ((c .before .before .before .before .before .pop2) .result .stack) }) (λ s w us. pushed us (comparison (operandOf ((c .before .before .before .before .before .before .before .before .before .pop) .result .value)) w s)) ((c .before .before .before .before .before .pop2) .ensures .0) ((c .before .before .if2) .left)
-    (link (outcomeOf ((c .before .before .before .before .before .before .before .before .before .before .args) .state)) (answerOf ((c .before .comparison) .result)) (machineOf ((c .pushed) .result)) (comparison (operandOf ((c .before .before .before .before .before .before .before .before .before .pop) .result .value)) (operandOf ((c .before .before .before .before .before .pop2) .result .value))) (λ x. push (stackOf ((c .before .before .before .before .before .pop2) .result .stack)) (x .operand) (x .state)) ((c .before .comparison) .ensures) ((c .pushed) .ensures)))
+returns : tie.Need-returns
+returns c = λ ls.
+    let a = (c .before .before .before .before .before .before .before .before .before .before .before .before .args) in
+    let p = (c .before .before .before .before .before .before .before .before .before .pop) in
+    let q = (c .before .before .before .before .before .before .pop2) in
+    pop-runs (a .stack .now) (a .m .depth) (p .result) (λ v us s. pop us (λ w ts. pushed ts (comparison v w s))) (p .ensures .0) ((c .before .before .before .before .before .before .before .before .refuse) .ensures ls _ _)
+    (pop-runs (a .stack .now) (p .result .depth) (q .result) (λ w ts s. pushed ts (comparison (operandOf (p .result .value)) w s)) (q .ensures .0) ((c .before .before .before .before .before .refuse2) .ensures ls _ _) (gives ((c .before .before .comparison) .ensures ls) ((c .pushed) .ensures ls _ _)))
 
 pub compare-spec : {M : Type 1} → statement M
 compare-spec =
     tie.close
     (tie.spec
     pop-requires
-    stop-requires
-    returns
+    refuse-requires
     pop-requires-2
-    stop-requires-2
-    returns-2
+    refuse-requires-2
     comparison-requires
     pushed-requires
-    returns-3)
+    returns)

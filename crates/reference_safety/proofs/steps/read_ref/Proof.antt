@@ -1,11 +1,7 @@
 -- `reference_safety::steps::read_ref` meets its contract. Assumes nothing.
 use Rattle.meaning.specs.EntryPoints.{readRef}
-use Rattle.meaning.specs.Steps.{push, pushed}
-use Rattle.abstract_state.specs.Models.{outcomeOf, answerOf}
-use Rattle.operand_stack.specs.Models.{stackOf}
-use Rattle.reference_safety.specs.Models.{with, machineOf}
-use Rattle.reference_safety.specs.MachineLaws.{ref-out, ref-on}
-use Rattle.abstract_state.specs.OutcomeLaws.{link}
+use Rattle.meaning.specs.Steps.{pushed}
+use Rattle.reference_safety.specs.MachineLaws.{ref-runs, gives}
 use borrow.Author.Needs.{needs}
 use Rattle.reference_safety.proofs.steps.read_ref.Statement.{statement}
 use Rattle.reference_safety.proofs.steps.read_ref.Tie as tie
@@ -13,11 +9,8 @@ use Rattle.reference_safety.proofs.steps.read_ref.Tie as tie
 pop-ref-requires : tie.Need-pop-ref-requires
 pop-ref-requires c κs = search needs
 
-stop-requires : tie.Need-stop-requires
-stop-requires c κs = search needs
-
-returns : tie.Need-returns
-returns c = ref-out (outcomeOf ((c .before .before .before .before .before .args) .state)) (machineOf ((c .stop) .result)) ((c .before .before .before .before .pop-ref) .result .refusal) (stackOf ((c .before .before .before .before .before .args) .stack)) (record { what = (c .before .before .before .before .pop-ref) .result .id .0; rest = stackOf ((c .before .before .before .before .pop-ref) .result .stack) }) (λ s n ws. pushed ws (readRef n s)) ((c .before .before .before .before .pop-ref) .ensures) ((c .before .if1) .taken) (with (stackOf ((c .before .before .before .before .pop-ref) .result .stack))) ((c .stop) .ensures)
+refuse-requires : tie.Need-refuse-requires
+refuse-requires c κs = search needs
 
 read-ref-requires : tie.Need-read-ref-requires
 read-ref-requires c κs = search needs
@@ -25,11 +18,9 @@ read-ref-requires c κs = search needs
 pushed-requires : tie.Need-pushed-requires
 pushed-requires c κs = search needs
 
-returns-2 : tie.Need-returns-2
-returns-2 c = ref-on (outcomeOf ((c .before .before .before .before .before .before .before .args) .state)) (machineOf ((c .pushed) .result)) ((c .before .before .before .before .before .before .pop-ref) .result .refusal) (stackOf ((c .before .before .before .before .before .before .before .args) .stack)) (record { what = (c .before .before .before .before .before .before .pop-ref) .result .id .0; rest = stackOf ((c .before .before .before .before .before .before .pop-ref) .result .stack) }) (λ s n ws. pushed ws (readRef n s)) ((c .before .before .before .before .before .before .pop-ref) .ensures) ((c .before .before .before .if1) .left)
-    (link (outcomeOf ((c .before .before .before .before .before .before .before .args) .state)) (answerOf ((c .before .read-ref) .result)) (machineOf ((c .pushed) .result)) (readRef ((c .before .before .before .before .before .before .pop-ref) .result .id .0)) (λ x. push (stackOf ((c .before .before .before .before .before .before .pop-ref) .result .stack)) (x .operand) (x .state)) ((c .before .read-ref) .ensures) ((c .pushed) .ensures))
+returns : tie.Need-returns
+returns c = λ ls. ref-runs ((c .before .before .before .before .before .before .before .before .before .before .args) .stack .now) ((c .before .before .before .before .before .before .before .before .before .before .args) .m .depth) ((c .before .before .before .before .before .before .before .pop-ref) .result) (λ n us s. pushed us (readRef n s)) ((c .before .before .before .before .before .before .before .pop-ref) .ensures .0) ((c .before .before .before .before .before .before .refuse) .ensures ls _ _) (gives ((c .before .before .read-ref) .ensures ls) ((c .pushed) .ensures ls _ _))
 
 pub read-ref-spec : {M : Type 1} → statement M
 read-ref-spec =
-    tie.close
-    (tie.spec pop-ref-requires stop-requires returns read-ref-requires pushed-requires returns-2)
+    tie.close (tie.spec pop-ref-requires refuse-requires read-ref-requires pushed-requires returns)

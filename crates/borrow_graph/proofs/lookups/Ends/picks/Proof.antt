@@ -1,5 +1,4 @@
 use mathlib.Core.Path.{refl}
-use native.Mathlib.Omega.{arith}
 use borrow.Author.Needs.{needs}
 use Rattle.borrow_graph.proofs.lookups.Ends.picks.Statement.{statement}
 use Rattle.borrow_graph.proofs.lookups.Ends.picks.Tie as tie

@@ -1,0 +1,113 @@
+use mathlib.Core.Path.{_≡_, refl, sym, ap, _∙_}
+use mathlib.Core.Bool.{true}
+use mathlib.Core.List.{List, _∷_, _++_}
+use Prim.Native.Nat.{ℕ, _+_, _-_, _≤_, _<_, min}
+use lib.ListN.{length, take, drop}
+use Rattle.meaning.specs.Answers.{Ans, ok}
+use Rattle.meaning.specs.References.{EdgeSet, insert, offer}
+use Rattle.meaning.specs.Lists.{keep}
+use Rattle.meaning.specs.BorrowGraph.{GEdge, isBefore, setAt, setTo}
+use Rattle.meaning.specs.BorrowGraph as G
+use Rattle.meaning.specs.Laws.Pass.{neat-few}
+use Rattle.meaning.specs.Laws.Pair.{Neat}
+use Rattle.meaning.specs.Refinement.Pairs.{edgesAt}
+use Rattle.references.specs.Models.{rowOf, edgesIn, setIn, setEdges, told}
+use Rattle.references.specs.ModelLaws.{edges-count, set-count}
+use Rattle.borrow_graph_edit.specs.Replaces.{row-short, taken-in, cut-in, more-over, more-fits}
+use native.Mathlib.Omega.{arith}
+use borrow.Author.Needs.{needs}
+use Rattle.borrow_graph_edit.proofs.edges.add_more.Statement.{statement}
+use Rattle.borrow_graph_edit.proofs.edges.add_more.Tie as tie
+
+-- what is known once the edge was inserted into the pair's set
+found : (c : tie.After-insert) (e : length ((c .before .before .before .before .before .before .before .before .before .before .args) .edges .now) ≡ 96) (w : Neat (edgesIn ((c .before .before .before .before .before .before .before .before .before .before .args) .edges .now) ((c .before .before .before .before .before .before .before .before .before .before .args) .m))) →
+    let a = (c .before .before .before .before .before .before .before .before .before .before .args) in
+    let es = edgesIn (a .edges .now) (a .m) in
+    (length ((c .insert) .last .0) ≡ 10)
+    × (insert (setAt (rowOf (a .t3) .parent) (rowOf (a .t3) .child) es) (rowOf (a .t3) .edge) ≡ ok (setIn ((c .insert) .last .0) ((c .insert) .result .set)))
+    × ((c .before .before .before .between) .result .low ≡ length (keep (isBefore (rowOf (a .t3) .parent) (rowOf (a .t3) .child)) es))
+    × ((c .before .before .before .between) .result .set .len ≡ length (edgesAt (rowOf (a .t3) .parent) (rowOf (a .t3) .child) es))
+found c e w =
+    let a = (c .before .before .before .before .before .before .before .before .before .before .args) in
+    let es = edgesIn (a .edges .now) (a .m) in
+    let b = (c .before .before .before .between) .ensures .2 e refl in
+    let g = b .1 (neat-few es ((c .before .before .before .before .before .before .before .before .parent) .result .0) ((c .before .before .before .before .before .before .child) .result .0) w) in
+    let s = g .0 ∙ (λ i. setAt ((c .before .before .before .before .before .before .before .before .parent) .ensures i) ((c .before .before .before .before .before .before .child) .ensures i) es) in
+    let t = (c .insert) .ensures (b .0) in (
+      t .1,
+      taken-in (setAt (rowOf (a .t3) .parent) (rowOf (a .t3) .child) es) (setIn ((c .insert) .last .0) ((c .insert) .result .set)) (rowOf (a .t3) .edge) ((c .insert) .result .refusal) (row-short (a .t3))
+          (t .0 ∙ ap (λ (u : EdgeSet). offer u (ok (rowOf (a .t3) .edge))) s),
+      g .1 ∙ (λ i. length (keep (isBefore ((c .before .before .before .before .before .before .before .before .parent) .ensures i) ((c .before .before .before .before .before .before .child) .ensures i)) es)),
+      omega (arith, set-count ((c .before .before .before .between) .last .1 .1 .1 .1 .0) ((c .before .before .before .between) .result .set .len) (b .0), (c .before .before .before .between) .ensures .1, ap (λ (u : EdgeSet). length (u .edges)) s),
+    )
+
+parent-requires : tie.Need-parent-requires
+parent-requires c κs = search needs
+
+child-requires : tie.Need-child-requires
+child-requires c κs = search needs
+
+between-requires : tie.Need-between-requires
+between-requires c κs = search needs
+
+insert-requires : tie.Need-insert-requires
+insert-requires c κs = search needs
+
+sub-if1 : tie.Need-sub-if1
+sub-if1 c = search needs
+
+len-requires : tie.Need-len-requires
+len-requires c κs = search needs
+
+add-if1 : tie.Need-add-if1
+add-if1 c = search needs
+
+returns : tie.Need-returns
+returns c =
+    let a = (c .before .before .before .before .before .before .before .before .before .before .before .before .before .args) in
+    let es = edgesIn (a .edges .now) (a .m) in (
+      (c .before .before .before .before .before .before .before .before .before .before .before .before .before .pre),
+      λ e w.
+          let n = edges-count (a .edges .now) (a .m) (omega (arith, e, (c .before .before .before .before .before .before .before .before .before .before .before .before .before .pre))) in
+          let f = found (c .before .before .before) e w in
+          let k = set-count ((c .before .before .before .insert) .last .0) ((c .before .before .before .insert) .result .set .len) (f .0) in
+          (e, more-over (rowOf (a .t3)) es (setIn ((c .before .before .before .insert) .last .0) ((c .before .before .before .insert) .result .set)) (f .1) (omega (arith, n, k, f .3, (c .before .len) .ensures, c .if1 .taken, (c .before .before .before .before .before .before .between) .ensures .0)), λ z. (refl, refl)),
+    )
+
+replace-requires : tie.Need-replace-requires
+replace-requires c κs = search needs
+
+returns-2 : tie.Need-returns-2
+returns-2 c =
+    let a = (c .before .before .before .before .before .before .before .before .before .before .before .before .before .before .before .before .args) in
+    let es = edgesIn (a .edges .now) (a .m) in (
+      omega (arith, c .replace .ensures .0, (c .before .before .before .if1) .left, (c .before .before .before .before .len) .ensures),
+      λ e w.
+          let n = edges-count (a .edges .now) (a .m) (omega (arith, e, (c .before .before .before .before .before .before .before .before .before .before .before .before .before .before .before .before .pre))) in
+          let f = found (c .before .before .before .before .before .before) e w in
+          let k = set-count ((c .before .before .before .before .before .before .insert) .last .0) ((c .before .before .before .before .before .before .insert) .result .set .len) (f .0) in
+          let t = setIn ((c .before .before .before .before .before .before .insert) .last .0) ((c .before .before .before .before .before .before .insert) .result .set) in
+          let z = c .replace .ensures .1 e (f .0) in
+          let y = z .1 ∙ (λ i. take ((c .before .before .before .before .before .before .before .before .before .between) .result .low) es ++ (G.tagged ((c .before .before .before .before .before .before .before .before .before .before .before .before .before .before .parent) .ensures i) ((c .before .before .before .before .before .before .before .before .before .before .before .before .child) .ensures i) (t .blurred) (t .edges) ++ drop ((c .before .before .before .before .before .before .before .before .before .between) .result .low + (c .before .before .before .before .before .before .before .before .before .between) .result .set .len) es)) in (
+            z .0,
+            more-fits (rowOf (a .t3)) es t (f .1) _
+                (y ∙ cut-in es (rowOf (a .t3) .parent) (rowOf (a .t3) .child) ((c .before .before .before .before .before .before .before .before .before .between) .result .low) ((c .before .before .before .before .before .before .before .before .before .between) .result .set .len) t w (f .2) (f .3))
+                (omega (arith, n, k, f .3, (c .before .before .before .before .len) .ensures, (c .before .before .before .if1) .left, (c .before .before .before .before .before .before .before .before .before .between) .ensures .0)),
+            λ q. absurd (q refl),
+          ),
+    )
+
+pub add-more-spec : {M : Type 1} → statement M
+add-more-spec =
+    tie.close
+    (tie.spec
+    parent-requires
+    child-requires
+    between-requires
+    insert-requires
+    sub-if1
+    len-requires
+    add-if1
+    returns
+    replace-requires
+    returns-2)

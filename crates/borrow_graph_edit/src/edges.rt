@@ -1,0 +1,85 @@
+// An edge put into the set of its pair (graph.rs, 142 `add_edge`).
+use crate::pairs::Replaced;
+use crate::pairs::between;
+use crate::pairs::place;
+use crate::pairs::replace;
+use meaning::MAX_EDGES;
+use references::rows::Candidate;
+use references::rows::child;
+use references::rows::parent;
+use references::rows::tagged;
+use references::set::insert;
+use references::set::len;
+ghost use mathlib.Core.Path.{_≡_};
+ghost use mathlib.Core.List.{_∷_, _++_};
+ghost use Prim.Native.Nat.{_+_, _≤_, _<_};
+ghost use lib.ListN.{length, take, drop};
+ghost use Rattle.meaning.specs.Laws.Pair.{Neat};
+ghost use Rattle.references.specs.Models.{rowOf, edgesIn};
+ghost use Rattle.borrow_graph_edit.specs.Models.{replacedIn, addRow};
+
+// The rows from k on make room for one.
+fn insert_at(edges: &mut [[u32; 10]; MAX_EDGES], m: usize, k: usize, x: [u32; 10])
+    requires { ⌜ (k ≤ m) × (m < 96) ⌝ }
+    ensures { λ _. ⌜ (length (now (edges .entry)) ≡ 96 → (length (now (edges .exit)) ≡ 96) × (edgesIn (now (edges .exit)) (m + 1) ≡ take k (edgesIn (now (edges .entry)) m) ++ (rowOf x ∷ drop k (edgesIn (now (edges .entry)) m)))) ⌝ }
+{
+    let mut j = m;
+    while k < j {
+        let y = edges[j - 1];
+        edges[j] = y;
+        j -= 1;
+    }
+    edges[k] = x;
+}
+
+// Into a set that has edges.
+fn add_more(edges: &mut [[u32; 10]; MAX_EDGES], m: usize, x: [u32; 10]) -> Replaced
+    requires { ⌜ m ≤ 96 ⌝ }
+    ensures { λ r. ⌜ (r .edges ≤ 96) × (length (now (edges .entry)) ≡ 96 → Neat (edgesIn (now (edges .entry)) m) → (length (now (edges .exit)) ≡ 96) × (replacedIn (now (edges .exit)) r ≡ addRow (rowOf x) (edgesIn (now (edges .entry)) m)) × ((r .refusal ≡ 0 → ⊥) → (now (edges .exit) ≡ now (edges .entry)) × (r .edges ≡ m))) ⌝ }
+{
+    let p = parent(&x);
+    let c = child(&x);
+    let mut set = [[0u32; 10]; 10];
+    let b = between(edges, m, p, c, &mut set);
+    let old = b.set;
+    let candidate = Candidate { fits: true, row: x };
+    let a = insert(&mut set, old, candidate);
+    let new = a.set;
+    let size = old.len;
+    if MAX_EDGES < m - size + len(new) {
+        return Replaced {
+            refusal: 21,
+            edges: m,
+        };
+    }
+    let n = replace(edges, m, b.low, size, p, c, &set, new);
+    Replaced {
+        refusal: 0,
+        edges: n,
+    }
+}
+
+// The first edge of a pair goes straight to its place. A refusal leaves the array as it was.
+pub(crate) fn add_edge(edges: &mut [[u32; 10]; MAX_EDGES], m: usize, x: [u32; 10]) -> Replaced
+    requires { ⌜ m ≤ 96 ⌝ }
+    ensures { λ r. ⌜ (r .edges ≤ 96) × (length (now (edges .entry)) ≡ 96 → Neat (edgesIn (now (edges .entry)) m) → (length (now (edges .exit)) ≡ 96) × (replacedIn (now (edges .exit)) r ≡ addRow (rowOf x) (edgesIn (now (edges .entry)) m)) × ((r .refusal ≡ 0 → ⊥) → (now (edges .exit) ≡ now (edges .entry)) × (r .edges ≡ m))) ⌝ }
+{
+    let p = parent(&x);
+    let c = child(&x);
+    let at = place(edges, m, p, c);
+    if 0 < at.size {
+        return add_more(edges, m, x);
+    }
+    if MAX_EDGES <= m {
+        return Replaced {
+            refusal: 21,
+            edges: m,
+        };
+    }
+    let y = tagged(&x, p, c, false);
+    insert_at(edges, m, at.low, y);
+    Replaced {
+        refusal: 0,
+        edges: m + 1,
+    }
+}

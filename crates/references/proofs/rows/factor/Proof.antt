@@ -1,0 +1,43 @@
+use mathlib.Core.Path.{_≡_, ap, _∙_}
+use Prim.Native.Nat.{ℕ, min}
+use lib.ListN.{length, drop}
+use Rattle.references.specs.Models.{rowOf, pathAt}
+use Rattle.references.specs.RowLaws.{pathIn, countIn, path-length, drop-within}
+use mathlib.Core.Bool.{false}
+use native.Mathlib.Omega.{arith}
+use borrow.Author.Needs.{needs}
+use Rattle.references.proofs.rows.factor.Statement.{statement}
+use Rattle.references.proofs.rows.factor.Tie as tie
+
+len-of-requires : tie.Need-len-of-requires
+len-of-requires c κs = search needs
+
+labels-requires : tie.Need-labels-requires
+labels-requires c κs = search needs
+
+lesser-requires : tie.Need-lesser-requires
+lesser-requires c κs = search needs
+
+child-requires : tie.Need-child-requires
+child-requires c κs = search needs
+
+remade-requires : tie.Need-remade-requires
+remade-requires c κs = omega (arith, (c .before .lesser) .ensures, (c .before .before .labels) .ensures .0, path-length ((c .before .before .before .before .args) .y .now) (countIn ((c .before .before .before .before .args) .y .now)))
+
+returns : tie.Need-returns
+returns c =
+    let y = (c .before .before .before .before .before .args) .y .now in
+    let k : (c .before .before .lesser) .result ≡ min (length (pathAt ((c .before .before .before .before .before .args) .path))) (countIn y) = omega (arith, (c .before .before .lesser) .ensures, (c .before .before .before .before .len-of) .ensures, (c .before .before .before .labels) .ensures .0, path-length y (countIn y)) in
+    let p = ap (λ (j : ℕ). drop j (pathIn y (countIn y))) k ∙ drop-within y (length (pathAt ((c .before .before .before .before .before .args) .path))) (countIn y) in
+    (c .remade) .ensures .0 ∙ (λ i. record { parent = (c .before .before .before .before .before .args) .child .0; child = (c .before .child) .ensures i; blurred = false; edge = record { strong = rowOf y .edge .strong; path = p i } })
+
+pub factor-spec : {M : Type 1} → statement M
+factor-spec =
+    tie.close
+    (tie.spec
+    len-of-requires
+    labels-requires
+    lesser-requires
+    child-requires
+    remade-requires
+    returns)

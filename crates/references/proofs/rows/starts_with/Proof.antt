@@ -1,0 +1,30 @@
+use Rattle.references.specs.RowLaws.{starts-by, path-length, countIn}
+use mathlib.Core.Path.{_≡_, sym, ap, _∙_}
+use Prim.Native.Nat.{ℕ}
+use lib.Dec.{eqb, ltb}
+use mathlib.Core.Bool.{_||_, _&&_}
+use native.Mathlib.Omega.{arith}
+use borrow.Author.Needs.{needs}
+use Rattle.references.proofs.rows.starts_with.Statement.{statement}
+use Rattle.references.proofs.rows.starts_with.Tie as tie
+
+len-of-requires : tie.Need-len-of-requires
+len-of-requires c κs = search needs
+
+number-of-requires : tie.Need-number-of-requires
+number-of-requires c κs = search needs
+
+labels-requires : tie.Need-labels-requires
+labels-requires c κs = search needs
+
+label-requires : tie.Need-label-requires
+label-requires c κs = search needs
+
+returns : tie.Need-returns
+returns c =
+    let e : (c .before .labels) .result ≡ countIn ((c .before .before .before .before .args) .x .now) = (c .before .labels) .ensures .0 ∙ path-length ((c .before .before .before .before .args) .x .now) _ in
+    (λ i. eqb ((c .before .before .before .len-of) .result) 0 || (ltb 0 (e i) && eqb ((c .before .before .number-of) .result) ((c .label) .ensures i))) ∙ starts-by ((c .before .before .before .before .args) .path) ((c .before .before .before .before .args) .x .now) ((c .before .before .before .len-of) .result) ((c .before .before .number-of) .result) _ ((c .before .before .before .len-of) .ensures .0) ((c .before .before .number-of) .ensures .0)
+
+pub starts-with-spec : {M : Type 1} → statement M
+starts-with-spec =
+    tie.close (tie.spec len-of-requires number-of-requires labels-requires label-requires returns)
