@@ -83,10 +83,12 @@ def contracts(text):
     lines = text.splitlines()
     for i, line in enumerate(lines):
         if re.match(r'\s*pub (?:extern "C" )?fn ', line):
+            within = False
             for clause in lines[i + 1 :]:
                 if clause.strip() == "{":
                     break
-                if "⌜" in clause:
+                within = within or "⌜" in clause
+                if within:
                     yield clause
 
 
