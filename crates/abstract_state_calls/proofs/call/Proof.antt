@@ -29,10 +29,15 @@ release-all-requires c κs = search needs
 
 returns : tie.Need-returns
 returns c =
+    let operand-ids = (c .before .before .before .before .before .before .before .before .before .before .before .before .before .before .before .before .operand-ids) in
+    let mutable = (c .before .before .before .before .before .before .before .before .before .before .before .before .before .before .mutable) in
+    let fail-acquired = (c .before .before .before .before .before .before .before .before .before .before .before .fail-acquired) in
+    let hand-over = (c .before .before .before .before .before .before .before .before .hand-over) in
+    let return-values = (c .before .before .before .before .before .return-values) in
     let a = (c .before .before .before .before .before .before .before .before .before .before .before .before .before .before .before .before .before .args) in
-    λ ls. let k = calls-done (operandsOf (a .arguments)) (take (a .acquired-count) (a .acquired)) (map tokenAs (take (a .token-count) (a .tokens))) (idsOf ((c .before .before .before .before .before .before .before .before .before .before .before .before .before .before .mutable) .result)) (idsOf ((c .before .before .before .before .before .before .before .before .before .before .before .before .before .before .before .before .operand-ids) .result))
-    (words ls (a .names .now) (a .edges .now) (a .state)) _ _ _ _ (operandsOf ((c .before .before .before .before .before .return-values) .result .values)) ((c .before .before .before .before .before .before .before .before .before .before .before .before .before .before .before .before .operand-ids) .ensures) (λ h. (c .before .before .before .before .before .before .before .before .before .before .before .before .before .before .mutable) .ensures ls _ h)
-    ((c .before .before .before .before .before .before .before .before .before .before .before .fail-acquired) .ensures ls) ((c .before .before .before .before .before .before .before .before .hand-over) .ensures ls) ((c .before .before .before .before .before .return-values) .ensures ls) ((c .release-all) .ensures ls) in
+    λ ls. let k = calls-done (operandsOf (a .arguments)) (take (a .acquired-count) (a .acquired)) (map tokenAs (take (a .token-count) (a .tokens))) (idsOf (mutable .result)) (idsOf (operand-ids .result))
+    (words ls (a .names .now) (a .edges .now) (a .state)) _ _ _ _ (operandsOf (return-values .result .values)) (operand-ids .ensures) (λ h. mutable .ensures ls _ h)
+    (fail-acquired .ensures ls) (hand-over .ensures ls) (return-values .ensures ls) ((c .release-all) .ensures ls) in
     (k .fits, k .calls)
 
 pub call-spec : {M : Type 1} → statement M

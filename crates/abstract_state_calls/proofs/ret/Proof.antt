@@ -20,9 +20,11 @@ hand-over-requires c κs = search needs
 
 returns : tie.Need-returns
 returns c =
+    let local-ids = (c .before .before .before .before .before .before .before .before .before .local-ids) in
+    let release-all = (c .before .before .before .before .before .before .release-all) in
     let a = (c .before .before .before .before .before .before .before .before .before .before .args) in
     let ls = a .locals .now in
-    does-ret (operandsOf (a .values)) (idsOf ((c .before .before .before .before .before .before .before .before .before .local-ids) .result)) (words ls (a .names .now) (a .edges .now) (a .state)) _ _ _ (λ h. (c .before .before .before .before .before .before .before .before .before .local-ids) .ensures (h .locals)) ((c .before .before .before .before .before .before .release-all) .ensures ls) ((c .before .before .before .fail-frame) .ensures ls) ((c .hand-over) .ensures ls)
+    does-ret (operandsOf (a .values)) (idsOf (local-ids .result)) (words ls (a .names .now) (a .edges .now) (a .state)) _ _ _ (λ h. local-ids .ensures (h .locals)) (release-all .ensures ls) ((c .before .before .before .fail-frame) .ensures ls) ((c .hand-over) .ensures ls)
 
 pub ret-spec : {M : Type 1} → statement M
 ret-spec =

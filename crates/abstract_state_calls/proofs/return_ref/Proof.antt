@@ -20,8 +20,9 @@ give-requires c κs = search needs
 
 returns : tie.Need-returns
 returns c =
+    let fresh = (c .before .before .before .before .before .before .fresh) in
     let a = (c .before .before .before .before .before .before .before .args) in
-    λ ls. calls-ref (a .mutable) (idsOf (a .parents)) ((c .before .before .before .before .before .before .fresh) .result .0) (words ls (a .names .now) (a .edges .now) (a .state)) _ _ _ ((c .before .before .before .before .before .before .fresh) .ensures) ((c .before .before .before .before .new-ref) .ensures ls _) ((c .before .lend-all) .ensures ls) ((c .give) .ensures ls _ _)
+    λ ls. calls-ref (a .mutable) (idsOf (a .parents)) (fresh .result .0) (words ls (a .names .now) (a .edges .now) (a .state)) _ _ _ (fresh .ensures) ((c .before .before .before .before .new-ref) .ensures ls _) ((c .before .lend-all) .ensures ls) ((c .give) .ensures ls _ _)
 
 pub return-ref-spec : {M : Type 1} → statement M
 return-ref-spec =

@@ -105,7 +105,11 @@ index-2-e c = search needs
 
 returns : tie.Need-returns
 unfolding keepsTo
-returns c = rw ((c .before .before .before .before .before .before .before .before .before .before .before .before .before .wide) .ensures, (c .before .before .before .before .before .before .before .before .before .before .wide2) .ensures, (c .before .before .before .before .before .before .before .wide3) .ensures, (c .before .before .before .before .wide4) .ensures, (c .before .wide5) .ensures)
+returns c =
+    let wide = (c .before .before .before .before .before .before .before .before .before .before .before .before .before .wide) in
+    let wide2 = (c .before .before .before .before .before .before .before .before .before .before .wide2) in
+    let wide3 = (c .before .before .before .before .before .before .before .wide3) in
+    rw (wide .ensures, wide2 .ensures, wide3 .ensures, (c .before .before .before .before .wide4) .ensures, (c .before .wide5) .ensures)
 
 pub keeps-to-row-spec : {M : Type 1} → statement M
 keeps-to-row-spec =

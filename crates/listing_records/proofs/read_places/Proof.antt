@@ -15,16 +15,20 @@ refused-at-requires c κs = search needs
 
 returns : tie.Need-returns
 returns c =
-    none-read _ ((c .before .before .before .before .before .before .args) .s .now) ((c .before .before .before .before .before .before .args) .blocks .now) ((c .before .before .before .before .before .before .args) .code .now) ((c .refused-at) .result) 6 65536 ((c .refused-at) .ensures) (λ h. omega arith)
-    ((c .before .before .whole) .ensures .0) ((c .before .before .whole) .ensures .1) (too-long _ ((c .before .if1) .taken))
+    let a = (c .before .before .before .before .before .before .args) in
+    let whole = (c .before .before .whole) in
+    none-read _ (a .s .now) (a .blocks .now) (a .code .now) ((c .refused-at) .result) 6 65536 ((c .refused-at) .ensures) (λ h. omega arith)
+    (whole .ensures .0) (whole .ensures .1) (too-long _ ((c .before .if1) .taken))
 
 refused-at-requires-2 : tie.Need-refused-at-requires-2
 refused-at-requires-2 c κs = search needs
 
 returns-2 : tie.Need-returns-2
 returns-2 c =
-    none-read _ ((c .before .before .before .before .before .before .before .args) .s .now) ((c .before .before .before .before .before .before .before .args) .blocks .now) ((c .before .before .before .before .before .before .before .args) .code .now) ((c .refused-at2) .result) 1 0 ((c .refused-at2) .ensures) (λ h. omega arith)
-    ((c .before .before .before .whole) .ensures .0) ((c .before .before .before .whole) .ensures .1) (nothing _ ((c .before .before .if1) .left) ((c .before .if2) .taken))
+    let a = (c .before .before .before .before .before .before .before .args) in
+    let whole = (c .before .before .before .whole) in
+    none-read _ (a .s .now) (a .blocks .now) (a .code .now) ((c .refused-at2) .result) 1 0 ((c .refused-at2) .ensures) (λ h. omega arith)
+    (whole .ensures .0) (whole .ensures .1) (nothing _ ((c .before .before .if1) .left) ((c .before .if2) .taken))
 
 body-requires : tie.Need-body-requires
 body-requires c κs = search needs
@@ -33,7 +37,9 @@ byte-at-requires : tie.Need-byte-at-requires
 byte-at-requires c κs = search needs
 
 read-records-requires : tie.Need-read-records-requires
-read-records-requires c κs = ((c .before .before .before .before .before .if1) .left, (c .before .before .byte-at) .ensures ∙ ap localsOf ((c .before .before .before .body) .ensures), (c .before .before .before .before .before .before .whole) .ensures .0, (c .before .before .before .before .before .before .whole) .ensures .1)
+read-records-requires c κs =
+    let whole = (c .before .before .before .before .before .before .whole) in
+    ((c .before .before .before .before .before .if1) .left, (c .before .before .byte-at) .ensures ∙ ap localsOf ((c .before .before .before .body) .ensures), whole .ensures .0, whole .ensures .1)
 
 returns-3 : tie.Need-returns-3
 returns-3 c =

@@ -23,11 +23,16 @@ abbrev μ-loop : tie.MeasureT-loop
 
 -- room for a block, and for an instruction
 room-2 : (c : tie.Then3 Inv-loop μ-loop) → (c .before .before .before .before .before .before .before .before .before .loop) .block-count < 16
-room-2 c = room-block ((c .before .before .before .before .before .before .test-by-row) .result .kind) ((c .before .before .before .before .before .before .before .before .before .loop) .block-count) ((c .before .before .before .before .before .before .before .before .before .loop) .code-count) (sym ((c .before .before .before .is-full) .ensures) ∙ (c .before .before .if2) .left) ((c .if3) .taken)
+room-2 c =
+    let loop = (c .before .before .before .before .before .before .before .before .before .loop) in
+    let test-by-row = (c .before .before .before .before .before .before .test-by-row) in
+    room-block (test-by-row .result .kind) (loop .block-count) (loop .code-count) (sym ((c .before .before .before .is-full) .ensures) ∙ (c .before .before .if2) .left) ((c .if3) .taken)
 
 room-3 : (c : tie.Then4 Inv-loop μ-loop) → (c .before .before .before .before .before .before .before .before .before .before .before .loop) .code-count < 512
 room-3 c =
-    room-code ((c .before .before .before .before .before .before .before .before .test-by-row) .result .kind) ((c .before .before .before .before .before .before .before .before .before .before .before .loop) .block-count) ((c .before .before .before .before .before .before .before .before .before .before .before .loop) .code-count) (sym ((c .before .before .before .before .before .is-full) .ensures) ∙ (c .before .before .before .before .if2) .left) ((c .if4) .taken) ((c .before .before .if3) .left)
+    let loop = (c .before .before .before .before .before .before .before .before .before .before .before .loop) in
+    let test-by-row = (c .before .before .before .before .before .before .before .before .test-by-row) in
+    room-code (test-by-row .result .kind) (loop .block-count) (loop .code-count) (sym ((c .before .before .before .before .before .is-full) .ensures) ∙ (c .before .before .before .before .if2) .left) ((c .if4) .taken) ((c .before .before .if3) .left)
 
 limit-rows-requires : tie.Need-limit-rows-requires Inv-loop μ-loop
 limit-rows-requires c κs = search needs
@@ -44,12 +49,15 @@ refused-at-requires c κs = search needs
 
 returns : tie.Need-returns Inv-loop μ-loop
 returns c =
+    let a = (c .before .before .before .before .before .before .before .before .before .args) in
+    let pre = (c .before .before .before .before .before .before .before .before .before .pre) in
+    let if1 = (c .before .if1) in
     let l = (c .before .before .before .before .before .before .loop) in
     let t = (c .before .before .before .test-by-row) in
     let f = (c .refused-at) in
-    none-read _ ((c .before .before .before .before .before .before .before .before .before .args) .s .now) (l .blocks) (l .code) (f .result) (t .result .number) (l .at) (f .ensures) ((c .before .if1) .taken) (l .inv .2) (l .inv .3)
-    (stop-fault ((c .before .before .before .before .before .before .before .before .before .args) .s .now) (l .blocks) (l .code) (l .block-count) (l .code-count) (l .at) ((c .before .before .before .before .before .before .before .before .before .args) .locals) _ ((c .before .before .before .before .before .loop-test) .taken) ((c .before .before .before .before .before .before .before .before .before .pre) .1) (l .inv .4)
-    (t .result .number) (t .ensures .number) ((c .before .if1) .taken))
+    none-read _ (a .s .now) (l .blocks) (l .code) (f .result) (t .result .number) (l .at) (f .ensures) (if1 .taken) (l .inv .2) (l .inv .3)
+    (stop-fault (a .s .now) (l .blocks) (l .code) (l .block-count) (l .code-count) (l .at) (a .locals) _ ((c .before .before .before .before .before .loop-test) .taken) (pre .1) (l .inv .4)
+    (t .result .number) (t .ensures .number) (if1 .taken))
 
 is-full-requires : tie.Need-is-full-requires Inv-loop μ-loop
 is-full-requires c κs = search needs
@@ -59,12 +67,15 @@ refused-at-requires-2 c κs = search needs
 
 returns-2 : tie.Need-returns-2 Inv-loop μ-loop
 returns-2 c =
+    let a = (c .before .before .before .before .before .before .before .before .before .before .before .args) in
+    let pre = (c .before .before .before .before .before .before .before .before .before .before .before .pre) in
+    let loop-test = (c .before .before .before .before .before .before .before .loop-test) in
     let l = (c .before .before .before .before .before .before .before .before .loop) in
     let t = (c .before .before .before .before .before .test-by-row) in
     let f = (c .refused-at2) in
     let z : t .result .number ≡ 0 = (c .before .before .before .if1) .left in
-    none-read _ ((c .before .before .before .before .before .before .before .before .before .before .before .args) .s .now) (l .blocks) (l .code) (f .result) 6 (l .at) (f .ensures) (λ h. omega arith) (l .inv .2) (l .inv .3)
-    (stop-full ((c .before .before .before .before .before .before .before .before .before .before .before .args) .s .now) (l .blocks) (l .code) (l .block-count) (l .code-count) (l .at) ((c .before .before .before .before .before .before .before .before .before .before .before .args) .locals) _ ((c .before .before .before .before .before .before .before .loop-test) .taken) ((c .before .before .before .before .before .before .before .before .before .before .before .pre) .1) (l .inv .4)
+    none-read _ (a .s .now) (l .blocks) (l .code) (f .result) 6 (l .at) (f .ensures) (λ h. omega arith) (l .inv .2) (l .inv .3)
+    (stop-full (a .s .now) (l .blocks) (l .code) (l .block-count) (l .code-count) (l .at) (a .locals) _ (loop-test .taken) (pre .1) (l .inv .4)
     (sym (t .ensures .number) ∙ ap faultOf z) (omega arith) (omega arith) (rw (t .ensures .kind z) at (sym ((c .before .before .is-full) .ensures) ∙ (c .before .if2) .taken)))
 
 cast-blocks : tie.Need-cast-blocks Inv-loop μ-loop
@@ -99,6 +110,9 @@ loop-less c = let x = (c .before .before .before .before .before .before .test-b
 
 loop-again : tie.Need-loop-again Inv-loop μ-loop
 loop-again c =
+    let a = (c .before .before .before .before .before .before .before .before .before .before .before .before .args) in
+    let pre = (c .before .before .before .before .before .before .before .before .before .before .before .before .pre) in
+    let loop-test = (c .before .before .before .before .before .before .before .before .loop-test) in
     let l = (c .before .before .before .before .before .before .before .before .before .loop) in
     let t = (c .before .before .before .before .before .before .test-by-row) in
     let z : t .result .number ≡ 0 = (c .before .before .before .before .if1) .left in
@@ -108,7 +122,7 @@ loop-again c =
       simp length-set (l .inv .2),
       l .inv .3,
       rw (t .ensures .next z)
-          (go-block ((c .before .before .before .before .before .before .before .before .before .before .before .before .args) .s .now) (l .blocks) (l .code) (l .block-count) (l .code-count) (l .at) ((c .before .before .before .before .before .before .before .before .before .before .before .before .args) .locals) _ ((c .before .before .before .before .before .before .before .before .loop-test) .taken) ((c .before .before .before .before .before .before .before .before .before .before .before .before .pre) .1) (l .inv .4)
+          (go-block (a .s .now) (l .blocks) (l .code) (l .block-count) (l .code-count) (l .at) (a .locals) _ (loop-test .taken) (pre .1) (l .inv .4)
           (sym (t .ensures .number) ∙ ap faultOf z) (sym (t .ensures .kind z) ∙ (c .if3) .taken) h (omega arith)),
       l .inv .5,
     )
@@ -118,18 +132,22 @@ loop-less-2 c = let x = (c .before .before .before .before .before .before .befo
 
 loop-again-2 : tie.Need-loop-again-2 Inv-loop μ-loop
 loop-again-2 c =
+    let a = (c .before .before .before .before .before .before .before .before .before .before .before .before .before .before .before .args) in
+    let pre = (c .before .before .before .before .before .before .before .before .before .before .before .before .before .before .before .pre) in
+    let loop-test = (c .before .before .before .before .before .before .before .before .before .before .before .loop-test) in
+    let if1 = (c .before .before .before .before .before .before .before .if1) in
     let l = (c .before .before .before .before .before .before .before .before .before .before .before .before .loop) in
     let t = (c .before .before .before .before .before .before .before .before .before .test-by-row) in
-    let z : t .result .number ≡ 0 = (c .before .before .before .before .before .before .before .if1) .left in
+    let z : t .result .number ≡ 0 = if1 .left in
     let h = room-3 (c .before) in (
       omega arith,
       omega arith,
       l .inv .2,
       simp length-set (l .inv .3),
       rw (t .ensures .next z)
-          (go-code ((c .before .before .before .before .before .before .before .before .before .before .before .before .before .before .before .args) .s .now) (l .blocks) (l .code) (l .block-count) (l .code-count) (l .at) ((c .before .before .before .before .before .before .before .before .before .before .before .before .before .before .before .args) .locals) _ ((c .before .before .before .before .before .before .before .before .before .before .before .loop-test) .taken) ((c .before .before .before .before .before .before .before .before .before .before .before .before .before .before .before .pre) .1) (l .inv .4)
+          (go-code (a .s .now) (l .blocks) (l .code) (l .block-count) (l .code-count) (l .at) (a .locals) _ (loop-test .taken) (pre .1) (l .inv .4)
           (sym (t .ensures .number) ∙ ap faultOf z) (λ e. (c .before .if4) .taken (t .ensures .kind z ∙ e)) (λ e. (c .before .before .before .if3) .left (t .ensures .kind z ∙ e)) h (omega arith)),
-      (c .before-ret) .ensures ∙ ret-put ((c .before .before .before .before .before .before .before .before .before .before .before .before .before .before .before .args) .s .now) (l .code) (l .code-count) (l .at) (t .result .kind) (l .first-ret) (omega arith) (t .ensures .kind z) (l .inv .5),
+      (c .before-ret) .ensures ∙ ret-put (a .s .now) (l .code) (l .code-count) (l .at) (t .result .kind) (l .first-ret) (omega arith) (t .ensures .kind z) (l .inv .5),
     )
 
 loop-less-3 : tie.Need-loop-less-3 Inv-loop μ-loop
@@ -137,6 +155,9 @@ loop-less-3 c = let x = (c .before .before .before .before .before .before .befo
 
 loop-again-3 : tie.Need-loop-again-3 Inv-loop μ-loop
 loop-again-3 c =
+    let a = (c .before .before .before .before .before .before .before .before .before .before .before .before .before .before .args) in
+    let pre = (c .before .before .before .before .before .before .before .before .before .before .before .before .before .before .pre) in
+    let loop-test = (c .before .before .before .before .before .before .before .before .before .before .loop-test) in
     let l = (c .before .before .before .before .before .before .before .before .before .before .before .loop) in
     let t = (c .before .before .before .before .before .before .before .before .test-by-row) in
     let z : t .result .number ≡ 0 = (c .before .before .before .before .before .before .if1) .left in (
@@ -145,7 +166,7 @@ loop-again-3 c =
       l .inv .2,
       l .inv .3,
       rw (t .ensures .next z)
-          (go-first ((c .before .before .before .before .before .before .before .before .before .before .before .before .before .before .args) .s .now) (l .blocks) (l .code) (l .block-count) (l .code-count) (l .at) ((c .before .before .before .before .before .before .before .before .before .before .before .before .before .before .args) .locals) _ ((c .before .before .before .before .before .before .before .before .before .before .loop-test) .taken) ((c .before .before .before .before .before .before .before .before .before .before .before .before .before .before .pre) .1) (l .inv .4)
+          (go-first (a .s .now) (l .blocks) (l .code) (l .block-count) (l .code-count) (l .at) (a .locals) _ (loop-test .taken) (pre .1) (l .inv .4)
           (sym (t .ensures .number) ∙ ap faultOf z) (sym (t .ensures .kind z) ∙ (c .if4) .left)),
       l .inv .5,
     )

@@ -34,17 +34,21 @@ enum-told c = search needs
 
 returns-2 : tie.Need-returns-2
 returns-2 c =
-    let ws = (c .before .before .before .before .before .before .args) .stack .now in
-    let vs = stackIn ws ((c .before .before .before .before .before .before .args) .depth) in
-    let p = (c .before .before .before .before .before .pop) .result in
-    (λ e. ap (λ (v : AbstractValue). asRef (operandOf v) (stackIn ws (p .depth))) (sym ((c .before .v) .given .1)) ∙ went-then (p .refusal) (record { what = operandOf (p .value); rest = stackIn ws (p .depth) }) (popOne vs) (λ t. asRef (t .what) (t .rest)) ((c .before .before .before .before .before .pop) .ensures .0 e) ((c .before .before .before .if1) .left) ∙ pop-then vs asRef, λ n. absurd (n refl))
+    let a = (c .before .before .before .before .before .before .args) in
+    let pop = (c .before .before .before .before .before .pop) in
+    let ws = a .stack .now in
+    let vs = stackIn ws (a .depth) in
+    let p = pop .result in
+    (λ e. ap (λ (v : AbstractValue). asRef (operandOf v) (stackIn ws (p .depth))) (sym ((c .before .v) .given .1)) ∙ went-then (p .refusal) (record { what = operandOf (p .value); rest = stackIn ws (p .depth) }) (popOne vs) (λ t. asRef (t .what) (t .rest)) (pop .ensures .0 e) ((c .before .before .before .if1) .left) ∙ pop-then vs asRef, λ n. absurd (n refl))
 
 returns-3 : tie.Need-returns-3
 returns-3 c =
-    let ws = (c .before .before .before .before .before .args) .stack .now in
-    let vs = stackIn ws ((c .before .before .before .before .before .args) .depth) in
-    let p = (c .before .before .before .before .pop) .result in
-    (λ e. ap (λ (v : AbstractValue). asRef (operandOf v) (stackIn ws (p .depth))) (sym ((c .enum-told) .given .1)) ∙ went-then (p .refusal) (record { what = operandOf (p .value); rest = stackIn ws (p .depth) }) (popOne vs) (λ t. asRef (t .what) (t .rest)) ((c .before .before .before .before .pop) .ensures .0 e) ((c .before .before .if1) .left) ∙ pop-then vs asRef, λ n. refl)
+    let a = (c .before .before .before .before .before .args) in
+    let pop = (c .before .before .before .before .pop) in
+    let ws = a .stack .now in
+    let vs = stackIn ws (a .depth) in
+    let p = pop .result in
+    (λ e. ap (λ (v : AbstractValue). asRef (operandOf v) (stackIn ws (p .depth))) (sym ((c .enum-told) .given .1)) ∙ went-then (p .refusal) (record { what = operandOf (p .value); rest = stackIn ws (p .depth) }) (popOne vs) (λ t. asRef (t .what) (t .rest)) (pop .ensures .0 e) ((c .before .before .if1) .left) ∙ pop-then vs asRef, λ n. refl)
 
 pub pop-ref-spec : {M : Type 1} → statement M
 pop-ref-spec = tie.close (tie.spec pop-requires returns enum-known-v enum-told returns-2 returns-3)

@@ -42,14 +42,15 @@ add-t7 c = search needs
 returns-2 : tie.Need-returns-2
 unfolding pushEach
 returns-2 c =
+    let lesser = (c .before .before .lesser) in
     let a = (c .before .before .before .args) in
     let v = operandOf (a .value) in
     let ws = a .stack .now in
-    let d = (c .before .before .lesser) .result in
+    let d = lesser .result in
     let w = (c .value-word) .result in (
       record {
         words = λ e. simp length-set e;
-        pushes = λ e. push-turn ws d [] (pushEach (stackIn ws (a .depth)) (v ∷ [])) w (omega arith) (omega arith) (ap (λ (u : Operand). pushEach (stackIn ws d) (u ∷ [])) ((c .value-word) .ensures .0) ∙ ap (λ vs. pushEach vs (v ∷ [])) (sym (stack-cut ws (a .depth) d e ((c .before .before .lesser) .ensures))));
+        pushes = λ e. push-turn ws d [] (pushEach (stackIn ws (a .depth)) (v ∷ [])) w (omega arith) (omega arith) (ap (λ (u : Operand). pushEach (stackIn ws d) (u ∷ [])) ((c .value-word) .ensures .0) ∙ ap (λ vs. pushEach vs (v ∷ [])) (sym (stack-cut ws (a .depth) d e (lesser .ensures))));
         depth = λ n. absurd (n refl);
       },
       λ n. absurd (n refl),

@@ -56,6 +56,7 @@ loop-less c = omega arith
 
 loop-again : tie.Need-loop-again Inv-loop μ-loop
 loop-again c =
+    let value-word = (c .before .before .before .value-word) in
     let a = (c .before .before .before .before .before .args) in
     let l = (c .before .before .loop) in (
       omega arith,
@@ -63,7 +64,7 @@ loop-again c =
       λ e.
           let f : length (l .stack) ≡ 16 = l .inv .1 e in
           let q : l .left ≡ suc (l .left - 1) = omega arith in
-          push-turn (l .stack) (l .k) (replicate (l .left - 1) nonRef) (pushEach (stackIn (a .stack .now) (a .depth)) (replicate (a .n) nonRef)) ((c .before .before .before .value-word) .result) (omega arith) (omega arith) (ap (λ (u : Operand). pushEach (stackIn (l .stack) (l .k)) (u ∷ replicate (l .left - 1) nonRef)) ((c .before .before .before .value-word) .ensures .0) ∙ ap (λ (m : ℕ). pushEach (stackIn (l .stack) (l .k)) (replicate m nonRef)) (sym q) ∙ l .inv .2 e),
+          push-turn (l .stack) (l .k) (replicate (l .left - 1) nonRef) (pushEach (stackIn (a .stack .now) (a .depth)) (replicate (a .n) nonRef)) (value-word .result) (omega arith) (omega arith) (ap (λ (u : Operand). pushEach (stackIn (l .stack) (l .k)) (u ∷ replicate (l .left - 1) nonRef)) (value-word .ensures .0) ∙ ap (λ (m : ℕ). pushEach (stackIn (l .stack) (l .k)) (replicate m nonRef)) (sym q) ∙ l .inv .2 e),
     )
 
 returns-2 : tie.Need-returns-2 Inv-loop μ-loop

@@ -97,13 +97,15 @@ same-length c = (c .before .before .before .before .loop) .inv .long ∙ (c .bef
 
 returns : tie.Need-returns Inv-loop μ-loop
 returns c =
+    let forget = (c .before .before .before .before .before .before .before .before .before .before .before .before .before .before .before .forget) in
+    let store = (c .before .before .before .before .before .before .before .before .store) in
     let loop = (c .before .before .before .before .loop) in
     let args = (c .before .before .before .before .before .before .before .before .before .before .before .before .before .before .before .before .before .before .before .before .before .before .before .args) in
     let pre = (c .before .before .before .before .before .before .before .before .before .before .before .before .before .before .before .before .before .before .before .before .before .before .before .pre) in
     let new = (c .before .before .before .before .before .before .before .before .before .before .before .before .before .before .before .before .before .new) in
     let made-new = new .ensures (replicate 96 (replicate 10 0)) refl refl refl in
-    Law.from (args .listing .now) (args .code .now) (args .routine) (args .area .now) ((c .before .before .before .before .before .before .before .before .store) .last .0) (loop .area) (loop .t)
-    ((c .before .before .before .before .before .before .before .before .store) .ensures (made-new .0 .locals) (made-new .0 .tells .words) (made-new .0 .tells .rows) .beyond ∙ Law.forgot _ _ (pre .1) ((c .before .before .before .before .before .before .before .before .before .before .before .before .before .before .before .forget) .ensures) .beyond)
+    Law.from (args .listing .now) (args .code .now) (args .routine) (args .area .now) (store .last .0) (loop .area) (loop .t)
+    (store .ensures (made-new .0 .locals) (made-new .0 .tells .words) (made-new .0 .tells .rows) .beyond ∙ Law.forgot _ _ (pre .1) (forget .ensures) .beyond)
     (Law.ends (args .listing .now) (args .code .now) (args .routine) (loop .inv .read .promise) (loop .inv .read .count) (loop .inv .read .some) _ (loop .area) (loop .t) (loop .inv .going) (Law.test-off (loop .t .stopped) _ _ ((c .if1) .left)))
 
 pub analyze-function-spec : {M : Type 1} → statement M

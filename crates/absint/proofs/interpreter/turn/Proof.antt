@@ -29,7 +29,9 @@ routine s = routineOf (s .args .listing .now) (s .args .code .now) (s .args .rou
 
 -- the words that it started from, and those that it left
 abbrev first : (c : tie.After-run-block) → Words
-first c = words ((c .before .before .before .before .before .before .start-from) .last .1 .1 .1 .0) ((c .before .before .before .before .before .before .start-from) .last .1 .1 .1 .1 .0) ((c .before .before .before .before .before .before .start-from) .last .1 .1 .1 .1 .1 .0) ((c .before .before .before .before .before .before .start-from) .result .state)
+first c =
+    let start-from = (c .before .before .before .before .before .before .start-from) in
+    words (start-from .last .1 .1 .1 .0) (start-from .last .1 .1 .1 .1 .0) (start-from .last .1 .1 .1 .1 .1 .0) (start-from .result .state)
 
 abbrev last : (c : tie.After-run-block) → Words
 last c = words (c .run-block .last .1 .1 .1 .1 .0) (c .run-block .last .1 .1 .1 .1 .1 .0) (c .run-block .last .1 .1 .1 .1 .1 .1 .0) (c .run-block .result .state)
@@ -37,30 +39,43 @@ last c = words (c .run-block .last .1 .1 .1 .1 .0) (c .run-block .last .1 .1 .1 
 abbrev block : (c : tie.After-run-block) → Block
 block c = blockOf ((c .before .before .before .before .before .before .before .before .before .before .before .block-at) .result)
 
-begun : (c : tie.After-run-block) → StartsFrom (keptOf ((c .before .before .before .before .before .before .before .before .before .before .before .before .before .before .before .before .args) .routine .locals) ((c .before .before .before .before .before .before .before .before .before .before .before .before .before .before .before .before .args) .area .now) ((c .before .before .before .before .before .before .before .before .before .before .before .before .before .before .before .before .args) .t .next)) ((c .before .before .before .before .before .before .before .before .before .before .before .before .before .before .before .before .args) .routine .locals) (first c .locals) (first c .names) (first c .edges) ((c .before .before .before .before .before .before .start-from) .result)
+begun : (c : tie.After-run-block) → let a = (c .before .before .before .before .before .before .before .before .before .before .before .before .before .before .before .before .args) in
+    let start-from = (c .before .before .before .before .before .before .start-from) in
+    StartsFrom (keptOf (a .routine .locals) (a .area .now) (a .t .next)) (a .routine .locals) (first c .locals) (first c .names) (first c .edges) (start-from .result)
 begun c = (c .before .before .before .before .before .before .start-from) .ensures refl refl refl
 
 -- it had a kept state
-old : (c : tie.After-run-block) → keptOf ((c .before .before .before .before .before .before .before .before .before .before .before .before .before .before .before .before .args) .routine .locals) ((c .before .before .before .before .before .before .before .before .before .before .before .before .before .before .before .before .args) .area .now) ((c .before .before .before .before .before .before .before .before .before .before .before .before .before .before .before .before .args) .t .next) ≡ some (stateOf (first c))
+old : (c : tie.After-run-block) → let a = (c .before .before .before .before .before .before .before .before .before .before .before .before .before .before .before .before .args) in
+    keptOf (a .routine .locals) (a .area .now) (a .t .next) ≡ some (stateOf (first c))
 old c = sym (begun c .kept) ∙ ap {B = Option State} (λ (b : Bool). cond b (some (stateOf (first c))) none) ((c .before .before .before .before .before .if1) .taken)
 
 -- and was run from it
-ran : (c : tie.After-run-block) → ranOf (block c) (last c) (c .run-block .result .place .0) ≡ exec (routine (c .before .before .before .before .before .before .before .before .before .before .before .before .before .before .before .before)) ((c .before .before .before .before .before .before .before .before .before .before .before .before .before .before .before .before .args) .t .next) (stateOf (first c))
+ran : (c : tie.After-run-block) → let earlier = (c .before .before .before .before .before .before .before .before .before .before .before .before .before .before .before .before) in
+    let a = (c .before .before .before .before .before .before .before .before .before .before .before .before .before .before .before .before .args) in
+    ranOf (block c) (last c) (c .run-block .result .place .0) ≡ exec (routine earlier) (a .t .next) (stateOf (first c))
 ran c =
+    let earlier = (c .before .before .before .before .before .before .before .before .before .before .before .before .before .before .before .before) in
+    let a = (c .before .before .before .before .before .before .before .before .before .before .before .before .before .before .before .before .args) in
+    let block-at = (c .before .before .before .before .before .before .before .before .before .before .before .block-at) in
     sym
-    (Law.ran (routine (c .before .before .before .before .before .before .before .before .before .before .before .before .before .before .before .before)) ((c .before .before .before .before .before .before .before .before .before .before .before .before .before .before .before .before .args) .t .next) (block c) (stateOf (first c)) (stateIn ((c .before .before .before .before .before .before .before .before .before .before .before .before .before .before .before .before .args) .routine .locals) (first c)) (ranOf (block c) (last c) (c .run-block .result .place .0))
-    ((c .before .before .before .before .before .before .before .before .before .before .before .block-at) .ensures .0)
+    (Law.ran (routine earlier) (a .t .next) (block c) (stateOf (first c)) (stateIn (a .routine .locals) (first c)) (ranOf (block c) (last c) (c .run-block .result .place .0))
+    (block-at .ensures .0)
     (λ z. record { locals = localsIn (first c .locals) (sym (begun c .locals) z); graph = runningOf (first c) .graph }) (c .run-block .ensures .ends (begun c .fits)))
 
 -- without a number it came to its end
-ended : (c : tie.After-run-block) → c .run-block .result .state .violation ≡ 0 → c .run-block .result .state .refusal ≡ 0
-    → exec (routine (c .before .before .before .before .before .before .before .before .before .before .before .before .before .before .before .before)) ((c .before .before .before .before .before .before .before .before .before .before .before .before .before .before .before .before .args) .t .next) (stateOf (first c)) ≡ endFor (block c .successors) (runningOf (last c))
+ended : (c : tie.After-run-block) → let earlier = (c .before .before .before .before .before .before .before .before .before .before .before .before .before .before .before .before) in
+    let a = (c .before .before .before .before .before .before .before .before .before .before .before .before .before .before .before .before .args) in
+    c .run-block .result .state .violation ≡ 0 → c .run-block .result .state .refusal ≡ 0
+    → exec (routine earlier) (a .t .next) (stateOf (first c)) ≡ endFor (block c .successors) (runningOf (last c))
 ended c =
     let x = c .run-block .result in
     Law.placed-end (block c .successors) (x .state .violation) (x .state .refusal) (runningOf (last c)) (x .place .0) _ (ran c)
 
-ended-some : (c : tie.After-run-block) → c .run-block .result .state .violation ≡ 0 → c .run-block .result .state .refusal ≡ 0
-    → ((c .before .before .before .before .before .before .before .before .before .before .before .block-at) .result .count ≡ 0 → ⊥) → exec (routine (c .before .before .before .before .before .before .before .before .before .before .before .before .before .before .before .before)) ((c .before .before .before .before .before .before .before .before .before .before .before .before .before .before .before .before .args) .t .next) (stateOf (first c)) ≡ Result.ended (stateOf (last c))
+ended-some : (c : tie.After-run-block) → let earlier = (c .before .before .before .before .before .before .before .before .before .before .before .before .before .before .before .before) in
+    let a = (c .before .before .before .before .before .before .before .before .before .before .before .before .before .before .before .before .args) in
+    let block-at = (c .before .before .before .before .before .before .before .before .before .before .before .block-at) in
+    c .run-block .result .state .violation ≡ 0 → c .run-block .result .state .refusal ≡ 0
+    → (block-at .result .count ≡ 0 → ⊥) → exec (routine earlier) (a .t .next) (stateOf (first c)) ≡ Result.ended (stateOf (last c))
 ended-some c v n h =
     let b = (c .before .before .before .before .before .before .before .before .before .before .before .block-at) .result in
     ended c v n ∙ ap {B = Result State} (λ (es : List ℕ). endFor es (runningOf (last c))) (take-some (b .count) (b .first .0) (b .second .0) (Law.positive (b .count) h))
@@ -72,21 +87,29 @@ after s =
     ∙ ap at (add-one (s .args .t .next))
 
 -- the end state with the routine's number of locals
-counted : (c : tie.After-with-locals) → length (localsIn (last (c .before .before .before .before .before .before .before .before .before .before .before) .locals) ((c .before .before .before .before .before .before .before .before .before .before .before .run-block) .result .state .«num_locals»)) ≡ (c .before .before .before .before .before .before .before .before .before .before .before .before .before .before .before .before .before .before .before .before .before .before .before .before .before .before .before .args) .routine .locals
+counted : (c : tie.After-with-locals) → let a = (c .before .before .before .before .before .before .before .before .before .before .before .before .before .before .before .before .before .before .before .before .before .before .before .before .before .before .before .args) in
+    let earlier = (c .before .before .before .before .before .before .before .before .before .before .before) in
+    let run-block = (c .before .before .before .before .before .before .before .before .before .before .before .run-block) in
+    length (localsIn (last earlier .locals) (run-block .result .state .«num_locals»)) ≡ a .routine .locals
 unfolding statusesOf
 counted c =
+    let block-at = (c .before .before .before .before .before .before .before .before .before .before .before .before .before .before .before .before .before .before .before .before .before .before .block-at) in
     let r = (c .before .before .before .before .before .before .before .before .before .before .before) in
     let s = (c .before .before .before .before .before .before .before .before .before .before .before .before .before .before .before .before .before .before .before .before .before .before .before .before .before .before .before) in
-    Law.ended-count (s .args .listing .now) (s .args .code .now) (s .args .routine) ((c .before .before .before .before .before .before .before .before .before .before .before .before .before .before .before .before .before .before .before .before .before .before .block-at) .ensures .1) (s .args .area .now) (s .args .t) (s .pre)
+    Law.ended-count (s .args .listing .now) (s .args .code .now) (s .args .routine) (block-at .ensures .1) (s .args .area .now) (s .args .t) (s .pre)
     (stateOf (first r)) (old r) ((c .before .before .before .clear) .ensures .3) (stateOf (last r)) (ended-some r ((c .before .before .before .before .before .before .if2) .left) ((c .before .before .before .before .if3) .left) ((c .before .if4) .left))
 
 abbrev sent : (c : tie.After-with-locals) → Words
-sent c = words (last (c .before .before .before .before .before .before .before .before .before .before .before) .locals) (last (c .before .before .before .before .before .before .before .before .before .before .before) .names) (last (c .before .before .before .before .before .before .before .before .before .before .before) .edges) (c .with-locals .result)
+sent c =
+    let earlier = (c .before .before .before .before .before .before .before .before .before .before .before) in
+    words (last earlier .locals) (last earlier .names) (last earlier .edges) (c .with-locals .result)
 
 same-state : (c : tie.After-with-locals) → stateOf (sent c) ≡ stateOf (last (c .before .before .before .before .before .before .before .before .before .before .before))
 same-state c =
+    let a = (c .before .before .before .before .before .before .before .before .before .before .before .before .before .before .before .before .before .before .before .before .before .before .before .before .before .before .before .args) in
+    let run-block = (c .before .before .before .before .before .before .before .before .before .before .before .run-block) in
     let r = (c .before .before .before .before .before .before .before .before .before .before .before) in
-    let n = Law.locals-same (last r .locals) ((c .before .before .before .before .before .before .before .before .before .before .before .run-block) .result .state .«num_locals») ((c .before .before .before .before .before .before .before .before .before .before .before .before .before .before .before .before .before .before .before .before .before .before .before .before .before .before .before .args) .routine .locals) (counted c) in
+    let n = Law.locals-same (last r .locals) (run-block .result .state .«num_locals») (a .routine .locals) (counted c) in
     (λ z. record { locals = localsIn (last r .locals) (c .with-locals .ensures .0 z); graph = graphIn (last r .names) (last r .edges) (c .with-locals .ensures .1 z) })
     ∙ (λ z. record { locals = n z; graph = runningOf (last r) .graph })
 
@@ -147,11 +170,13 @@ same-length-2 c = search needs
 returns-2 : tie.Need-returns-2
 unfolding statusesOf
 returns-2 c =
+    let block-at = (c .before .before .before .before .before .before .before .before .before .before .before .before .before .before .before .before .before .before .before .block-at) in
+    let run-block = (c .before .before .before .before .before .before .before .before .run-block) in
     let r = (c .before .before .before .before .before .before .before .before) in
     let s = (c .before .before .before .before .before .before .before .before .before .before .before .before .before .before .before .before .before .before .before .before .before .before .before .before) in
-    let x = (c .before .before .before .before .before .before .before .before .run-block) .result in
+    let x = run-block .result in
     let stop = c .stop in
-    Law.turned-refused (s .args .listing .now) (s .args .code .now) (s .args .routine) ((c .before .before .before .before .before .before .before .before .before .before .before .before .before .before .before .before .before .before .before .block-at) .ensures .1) (s .args .area .now) (s .args .t) (s .pre)
+    Law.turned-refused (s .args .listing .now) (s .args .code .now) (s .args .routine) (block-at .ensures .1) (s .args .area .now) (s .args .t) (s .pre)
     (stateOf (first r)) (old r) (stop .ensures .3) (stop .result) (x .state .refusal) (x .place .0)
     (Law.placed-refused (block r .successors) (x .state .violation) (x .state .refusal) (runningOf (last r)) (x .place .0) _ (ran r) ((c .before .before .before .if2) .left) ((c .before .if3) .taken))
     (stop .ensures .1) (stop .ensures .0) (stop .ensures .2 .visits ∙ add-one (s .args .t .visits)) (stop .ensures .2 .turns)
@@ -181,7 +206,9 @@ with-locals-requires : tie.Need-with-locals-requires
 with-locals-requires c κs = search needs
 
 propagate-requires : tie.Need-propagate-requires
-propagate-requires c κs = ((c .before .before .before .before .before .before .before .before .before .before .before .before .before .before .before .before .before .before .before .before .before .before .before .before .before .before .before .before .before .before .before .pre) .blocks, (c .before .before .before .before .before .before .before .before .before .before .before .before .before .before .before .before .before .before .before .before .before .before .before .before .before .before .before .before .before .before .before .pre) .area, fit (c .before .before .before .before), Law.positive _ ((c .before .before .before .before .before .if4) .left))
+propagate-requires c κs =
+    let pre = (c .before .before .before .before .before .before .before .before .before .before .before .before .before .before .before .before .before .before .before .before .before .before .before .before .before .before .before .before .before .before .before .pre) in
+    (pre .blocks, pre .area, fit (c .before .before .before .before), Law.positive _ ((c .before .before .before .before .before .if4) .left))
 
 same-length-4 : tie.Need-same-length-4
 same-length-4 c = search needs
@@ -189,6 +216,10 @@ same-length-4 c = search needs
 returns-4 : tie.Need-returns-4
 unfolding statusesOf
 returns-4 c =
+    let if2 = (c .before .before .before .before .before .before .before .before .before .before .before .before .before .if2) in
+    let if3 = (c .before .before .before .before .before .before .before .before .before .before .before .if3) in
+    let if4 = (c .before .before .before .before .before .before .before .before .if4) in
+    let with-locals = (c .before .before .before .before .before .before .before .with-locals) in
     let w = (c .before .before .before .before .before .before .before) in
     let r = (c .before .before .before .before .before .before .before .before .before .before .before .before .before .before .before .before .before .before) in
     let s = (c .before .before .before .before .before .before .before .before .before .before .before .before .before .before .before .before .before .before .before .before .before .before .before .before .before .before .before .before .before .before .before .before .before .before) in
@@ -197,9 +228,9 @@ returns-4 c =
     let propagate = (c .before .before .propagate) in
     Law.turned-ended (s .args .listing .now) (s .args .code .now) (s .args .routine) (b .ensures .1) (s .args .area .now) (s .args .t) (s .pre) (stateOf (first r)) (old r) (clear .ensures .3)
     (stateOf (sent w)) (block r) (propagate .last .0) (clear .result) (propagate .result)
-    (ended-some r ((c .before .before .before .before .before .before .before .before .before .before .before .before .before .if2) .left) ((c .before .before .before .before .before .before .before .before .before .before .before .if3) .left) ((c .before .before .before .before .before .before .before .before .if4) .left) ∙ ap {B = Result State} Result.ended (sym (same-state w)))
+    (ended-some r (if2 .left) (if3 .left) (if4 .left) ∙ ap {B = Result State} Result.ended (sym (same-state w)))
     (b .ensures .0) (clear .ensures .1) (clear .ensures .0 ∙ after s) (clear .ensures .2 .visits ∙ add-one (s .args .t .visits)) (clear .ensures .2 .turns)
-    (subst (λ (n : ℕ). Propagated (blocksIn (s .args .routine .blocks) (s .args .routine .«block_count»)) n (block r) (stateOf (sent w)) (s .args .area .now) (propagate .last .0) (clear .result) (propagate .result)) ((c .before .before .before .before .before .before .before .with-locals) .ensures .0) (propagate .ensures))
+    (subst (λ (n : ℕ). Propagated (blocksIn (s .args .routine .blocks) (s .args .routine .«block_count»)) n (block r) (stateOf (sent w)) (s .args .area .now) (propagate .last .0) (clear .result) (propagate .result)) (with-locals .ensures .0) (propagate .ensures))
 
 same-length-5 : tie.Need-same-length-5
 same-length-5 c = search needs

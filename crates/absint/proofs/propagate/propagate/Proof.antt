@@ -35,10 +35,13 @@ same-length-2 c = search needs
 
 returns-2 : tie.Need-returns-2
 returns-2 c =
+    let pre = (c .before .before .before .before .before .before .before .before .before .before .before .before .before .pre) in
+    let propagate-to = (c .before .before .before .before .before .before .before .before .before .propagate-to) in
+    let propagate-to2 = (c .before .before .propagate-to2) in
     let a = (c .before .before .before .before .before .before .before .before .before .before .before .before .before .args) in
     H.propagate-two (blocksIn (a .blocks) (a .n)) (a .s .«num_locals») (blockOf (a .b)) (stateOf (words (a .locals .now) (a .names .now) (a .edges .now) (a .s))) (a .area .now) (a .t)
-    (a .b .first .0) (a .b .second .0) ((c .before .before .before .before .before .before .before .before .before .propagate-to) .last .0) ((c .before .before .propagate-to2) .last .0) ((c .before .before .before .before .before .before .before .before .before .propagate-to) .result) ((c .before .before .propagate-to2) .result)
-    (H.take-two (a .b .count) (a .b .first .0) (a .b .second .0) (let h : 1 ≤ a .b .count = (c .before .before .before .before .before .before .before .before .before .before .before .before .before .pre) .3 in λ z. omega (arith, h, z)) ((c .before .before .before .before .before .if1) .left)) ((c .before .before .before .before .before .before .before .before .before .propagate-to) .ensures) ((c .before .before .propagate-to2) .ensures)
+    (a .b .first .0) (a .b .second .0) (propagate-to .last .0) (propagate-to2 .last .0) (propagate-to .result) (propagate-to2 .result)
+    (H.take-two (a .b .count) (a .b .first .0) (a .b .second .0) (let h : 1 ≤ a .b .count = pre .3 in λ z. omega (arith, h, z)) ((c .before .before .before .before .before .if1) .left)) (propagate-to .ensures) (propagate-to2 .ensures)
 
 pub propagate-spec : {M : Type 1} → statement M
 propagate-spec =

@@ -29,19 +29,27 @@ sent s = words (s .args .locals .now) (s .args .names .now) (s .args .edges .now
 abbrev kept : (c : tie.After-start-from) → Words
 kept c = words (c .start-from .last .1 .1 .1 .0) (c .start-from .last .1 .1 .1 .1 .0) (c .start-from .last .1 .1 .1 .1 .1 .0) (c .start-from .result .state)
 
-begun : (c : tie.After-start-from) → StartsFrom (keptOf ((c .before .before .before .before .before .before .before .before .before .args) .s .«num_locals») ((c .before .before .before .before .before .before .before .before .before .args) .area .now) ((c .before .before .before .before .before .before .position-of) .result)) ((c .before .before .before .before .before .before .before .before .before .args) .s .«num_locals») (kept c .locals) (kept c .names) (kept c .edges) (c .start-from .result)
+begun : (c : tie.After-start-from) → let a = (c .before .before .before .before .before .before .before .before .before .args) in
+    let position-of = (c .before .before .before .before .before .before .position-of) in
+    StartsFrom (keptOf (a .s .«num_locals») (a .area .now) (position-of .result)) (a .s .«num_locals») (kept c .locals) (kept c .names) (kept c .edges) (c .start-from .result)
 begun c = c .start-from .ensures refl refl refl
 
 abbrev joined : (c : tie.After-join) → Words
 joined c = words (c .join .last .0) (c .join .last .1 .0) (c .join .last .1 .1 .0) (c .join .result .state)
 
-joins : (c : tie.After-join) → Joins (kept (c .before .before .before .before .before .before .before .before .before .before)) (sent (c .before .before .before .before .before .before .before .before .before .before .before .before .before .before .before .before .before .before .before)) (c .join .result .refusal) (joined c)
+joins : (c : tie.After-join) → let earlier = (c .before .before .before .before .before .before .before .before .before .before .before .before .before .before .before .before .before .before .before) in
+    let earlier′ = (c .before .before .before .before .before .before .before .before .before .before) in
+    Joins (kept earlier′) (sent earlier) (c .join .result .refusal) (joined c)
 joins c = c .join .ensures (begun (c .before .before .before .before .before .before .before .before .before .before) .fits) ((c .before .before .before .before .before .before .before .before .before .before .before .before .before .before .before .before .before .before .before .pre) .2) .0
 
-held : (c : tie.Then3) → keptOf ((c .before .before .before .before .before .before .before .before .before .before .args) .s .«num_locals») ((c .before .before .before .before .before .before .before .before .before .before .args) .area .now) ((c .before .before .before .before .before .before .before .position-of) .result) ≡ some (stateOf (kept (c .before)))
+held : (c : tie.Then3) → let a = (c .before .before .before .before .before .before .before .before .before .before .args) in
+    let position-of = (c .before .before .before .before .before .before .before .position-of) in
+    keptOf (a .s .«num_locals») (a .area .now) (position-of .result) ≡ some (stateOf (kept (c .before)))
 held c = sym (begun (c .before) .kept) ∙ ap {B = Option State} (λ (b : Bool). cond b (some (stateOf (kept (c .before)))) none) (c .if3 .taken)
 
-answered : (c : tie.After-join) → c .join .result .refusal ≡ 0 → join (stateOf (kept (c .before .before .before .before .before .before .before .before .before .before))) (stateOf (sent (c .before .before .before .before .before .before .before .before .before .before .before .before .before .before .before .before .before .before .before))) ≡ ok (stateOf (joined c))
+answered : (c : tie.After-join) → let earlier = (c .before .before .before .before .before .before .before .before .before .before .before .before .before .before .before .before .before .before .before) in
+    let earlier′ = (c .before .before .before .before .before .before .before .before .before .before) in
+    c .join .result .refusal ≡ 0 → join (stateOf (kept earlier′)) (stateOf (sent earlier)) ≡ ok (stateOf (joined c))
 answered c z = sym (joins c .answer) ∙ told-yes (c .join .result .refusal) (stateOf (joined c)) z
 
 told : (c : tie.After-join) → c .join .result .refusal ≡ 0 → c .join .result .changed ≡ changed (stateOf (kept (c .before .before .before .before .before .before .before .before .before .before))) (stateOf (joined c))
@@ -83,25 +91,36 @@ same-length c = search needs
 
 returns-3 : tie.Need-returns-3
 returns-3 c =
+    let pre = (c .before .before .before .before .before .before .before .before .before .before .before .before .before .before .before .before .before .before .before .before .before .before .before .pre) in
+    let if1 = (c .before .before .before .before .before .before .before .before .before .before .before .before .before .before .before .before .before .before .before .before .before .if1) in
+    let position-of = (c .before .before .before .before .before .before .before .before .before .before .before .before .before .before .before .before .before .before .before .before .position-of) in
+    let if2 = (c .before .before .before .before .before .before .before .before .before .before .before .before .before .before .before .before .before .before .before .if2) in
+    let earlier = (c .before .before .before .before .before .before .before .before .before .before .before .before .before .before) in
+    let earlier′ = (c .before .before .before .before .before .before .before .before .before .before .before .before .before) in
+    let join′ = (c .before .before .before .before .join) in
     let s = (c .before .before .before .before .before .before .before .before .before .before .before .before .before .before .before .before .before .before .before .before .before .before .before) in
     let a = (c .before .before .before .before .before .before .before .before .before .before .before .before .before .before .before .before .before .before .before .before .before .before .before .args) in
     let j = (c .before .before .before .before) in
     let stop = c .stop in
-    let count = (c .before .before .before .before .before .before .before .before .before .before .before .before .before .before .before .before .before .before .before .before .position-of) .ensures .1 in
-    let few : (a .n) ≤ 16 = (c .before .before .before .before .before .before .before .before .before .before .before .before .before .before .before .before .before .before .before .before .before .before .before .pre) .0 in
-    let z : ((c .before .before .before .before .before .before .before .before .before .before .before .before .before .before .before .before .before .before .before .before .position-of) .result) < (a .n) = (c .before .before .before .before .before .before .before .before .before .before .before .before .before .before .before .before .before .before .before .if2) .left in
+    let count = position-of .ensures .1 in
+    let few : (a .n) ≤ 16 = pre .0 in
+    let z : (position-of .result) < (a .n) = if2 .left in
     H.propagated-refused (blocksIn (a .blocks) (a .n)) (a .s .«num_locals») (blockOf (a .b)) (stateOf (sent s)) (a .e .0) (a .area .now)
-    (a .t) ((c .before .before .before .before .before .before .before .before .before .before .before .before .before .before .before .before .before .before .before .before .before .if1) .left) ((c .before .before .before .before .before .before .before .before .before .before .before .before .before .before .before .before .before .before .before .before .position-of) .result) ((c .before .before .before .before .before .before .before .before .before .before .before .before .before .before .before .before .before .before .before .before .position-of) .ensures .0) (omega (arith, count, z)) (omega (arith, count, few)) ((c .before .before .before .before .before .before .before .before .before .before .before .before .before .before .before .before .before .before .before .before .before .before .before .pre) .1) (stop .result)
-    (stop .ensures .3) (stateOf (kept (c .before .before .before .before .before .before .before .before .before .before .before .before .before .before))) ((c .before .before .before .before .join) .result .refusal) (held (c .before .before .before .before .before .before .before .before .before .before .before .before .before))
-    (sym (joins j .answer) ∙ told-no ((c .before .before .before .before .join) .result .refusal) (stateOf (joined j)) ((c .before .before .if4) .taken)) (stop .ensures .0) (stop .ensures .1) (stop .ensures .2)
+    (a .t) (if1 .left) (position-of .result) (position-of .ensures .0) (omega (arith, count, z)) (omega (arith, count, few)) (pre .1) (stop .result)
+    (stop .ensures .3) (stateOf (kept earlier)) (join′ .result .refusal) (held earlier′)
+    (sym (joins j .answer) ∙ told-no (join′ .result .refusal) (stateOf (joined j)) ((c .before .before .if4) .taken)) (stop .ensures .0) (stop .ensures .1) (stop .ensures .2)
 
 store-requires : tie.Need-store-requires
 store-requires c κs = search needs
 
 clear-requires : tie.Need-clear-requires
 clear-requires c κs =
-    let few : ((c .before .before .before .before .before .before .before .before .before .before .before .before .before .before .before .before .before .before .before .before .before .before .before .before .before .before .before .before .before .before .args) .n) ≤ 16 = (c .before .before .before .before .before .before .before .before .before .before .before .before .before .before .before .before .before .before .before .before .before .before .before .before .before .before .before .before .before .before .pre) .0 in
-    let z : ((c .before .before .before .before .before .before .before .before .before .before .before .before .before .before .before .before .before .before .before .before .before .before .before .before .before .before .before .position-of) .result) < ((c .before .before .before .before .before .before .before .before .before .before .before .before .before .before .before .before .before .before .before .before .before .before .before .before .before .before .before .before .before .before .args) .n) = (c .before .before .before .before .before .before .before .before .before .before .before .before .before .before .before .before .before .before .before .before .before .before .before .before .before .before .if2) .left in
+    let a = (c .before .before .before .before .before .before .before .before .before .before .before .before .before .before .before .before .before .before .before .before .before .before .before .before .before .before .before .before .before .before .args) in
+    let pre = (c .before .before .before .before .before .before .before .before .before .before .before .before .before .before .before .before .before .before .before .before .before .before .before .before .before .before .before .before .before .before .pre) in
+    let position-of = (c .before .before .before .before .before .before .before .before .before .before .before .before .before .before .before .before .before .before .before .before .before .before .before .before .before .before .before .position-of) in
+    let if2 = (c .before .before .before .before .before .before .before .before .before .before .before .before .before .before .before .before .before .before .before .before .before .before .before .before .before .before .if2) in
+    let few : (a .n) ≤ 16 = pre .0 in
+    let z : (position-of .result) < (a .n) = if2 .left in
     omega (arith, few, z)
 
 same-length-2 : tie.Need-same-length-2
@@ -110,22 +129,31 @@ same-length-2 c = search needs
 returns-4 : tie.Need-returns-4
 unfolding statusesOf
 returns-4 c =
+    let pre = (c .before .before .before .before .before .before .before .before .before .before .before .before .before .before .before .before .before .before .before .before .before .before .before .before .before .before .before .before .before .before .before .before .before .before .pre) in
+    let if1 = (c .before .before .before .before .before .before .before .before .before .before .before .before .before .before .before .before .before .before .before .before .before .before .before .before .before .before .before .before .before .before .before .before .if1) in
+    let position-of = (c .before .before .before .before .before .before .before .before .before .before .before .before .before .before .before .before .before .before .before .before .before .before .before .before .before .before .before .before .before .before .before .position-of) in
+    let if2 = (c .before .before .before .before .before .before .before .before .before .before .before .before .before .before .before .before .before .before .before .before .before .before .before .before .before .before .before .before .before .before .if2) in
+    let earlier = (c .before .before .before .before .before .before .before .before .before .before .before .before .before .before .before .before .before .before .before .before .before .before .before .before .before) in
+    let earlier′ = (c .before .before .before .before .before .before .before .before .before .before .before .before .before .before .before .before .before .before .before .before .before .before .before .before) in
+    let join′ = (c .before .before .before .before .before .before .before .before .before .before .before .before .before .before .before .join) in
+    let if4 = (c .before .before .before .before .before .before .before .before .before .before .before .before .before .if4) in
+    let if5 = (c .before .before .before .before .before .before .before .before .before .before .before .before .if5) in
     let s = (c .before .before .before .before .before .before .before .before .before .before .before .before .before .before .before .before .before .before .before .before .before .before .before .before .before .before .before .before .before .before .before .before .before .before) in
     let a = (c .before .before .before .before .before .before .before .before .before .before .before .before .before .before .before .before .before .before .before .before .before .before .before .before .before .before .before .before .before .before .before .before .before .before .args) in
     let j = (c .before .before .before .before .before .before .before .before .before .before .before .before .before .before .before) in
     let clear = (c .before .before .before .clear) in
     let store = (c .before .before .before .before .before .before .store) in
-    let count = (c .before .before .before .before .before .before .before .before .before .before .before .before .before .before .before .before .before .before .before .before .before .before .before .before .before .before .before .before .before .before .before .position-of) .ensures .1 in
-    let few : (a .n) ≤ 16 = (c .before .before .before .before .before .before .before .before .before .before .before .before .before .before .before .before .before .before .before .before .before .before .before .before .before .before .before .before .before .before .before .before .before .before .pre) .0 in
-    let z : ((c .before .before .before .before .before .before .before .before .before .before .before .before .before .before .before .before .before .before .before .before .before .before .before .before .before .before .before .before .before .before .before .position-of) .result) < (a .n) = (c .before .before .before .before .before .before .before .before .before .before .before .before .before .before .before .before .before .before .before .before .before .before .before .before .before .before .before .before .before .before .if2) .left in
+    let count = position-of .ensures .1 in
+    let few : (a .n) ≤ 16 = pre .0 in
+    let z : (position-of .result) < (a .n) = if2 .left in
     let f = joins j .fits in
-    let off = H.not-stopped (clear .result) _ (clear .ensures .0 ∙ H.going (a .t) ((c .before .before .before .before .before .before .before .before .before .before .before .before .before .before .before .before .before .before .before .before .before .before .before .before .before .before .before .before .before .before .before .before .if1) .left)) in
+    let off = H.not-stopped (clear .result) _ (clear .ensures .0 ∙ H.going (a .t) (if1 .left)) in
     H.propagated-changed (blocksIn (a .blocks) (a .n)) (a .s .«num_locals») (blockOf (a .b)) (stateOf (sent s)) (a .e .0) (a .area .now)
-    (a .t) ((c .before .before .before .before .before .before .before .before .before .before .before .before .before .before .before .before .before .before .before .before .before .before .before .before .before .before .before .before .before .before .before .before .if1) .left) ((c .before .before .before .before .before .before .before .before .before .before .before .before .before .before .before .before .before .before .before .before .before .before .before .before .before .before .before .before .before .before .before .position-of) .result) ((c .before .before .before .before .before .before .before .before .before .before .before .before .before .before .before .before .before .before .before .before .before .before .before .before .before .before .before .before .before .before .before .position-of) .ensures .0) (omega (arith, count, z)) (omega (arith, count, few)) ((c .before .before .before .before .before .before .before .before .before .before .before .before .before .before .before .before .before .before .before .before .before .before .before .before .before .before .before .before .before .before .before .before .before .before .pre) .1) _ (clear .ensures .3)
-    (stateOf (kept (c .before .before .before .before .before .before .before .before .before .before .before .before .before .before .before .before .before .before .before .before .before .before .before .before .before))) (stateOf (joined j)) ((c .before .before .before .before .before .before .before .before .before .before .before .before .before .before .before .join) .result .state .«num_locals») (store .last .0) ((c .before .before .before .before .before .before .before .before .before .before .before .before .before .before .before .before .before .before .before .before .before .before .before .before .before .before .before .before .before .before .before .position-of) .result)
-    (kept-root ((c .before .before .before .before .before .before .before .before .before .before .before .before .before .before .before .join) .result .state .«num_locals») (a .s .«num_locals») (rooted j)) (held (c .before .before .before .before .before .before .before .before .before .before .before .before .before .before .before .before .before .before .before .before .before .before .before .before)) (answered j ((c .before .before .before .before .before .before .before .before .before .before .before .before .before .if4) .left)) (sym (told j ((c .before .before .before .before .before .before .before .before .before .before .before .before .before .if4) .left)) ∙ (c .before .before .before .before .before .before .before .before .before .before .before .before .if5) .taken)
+    (a .t) (if1 .left) (position-of .result) (position-of .ensures .0) (omega (arith, count, z)) (omega (arith, count, few)) (pre .1) _ (clear .ensures .3)
+    (stateOf (kept earlier)) (stateOf (joined j)) (join′ .result .state .«num_locals») (store .last .0) (position-of .result)
+    (kept-root (join′ .result .state .«num_locals») (a .s .«num_locals») (rooted j)) (held earlier′) (answered j (if4 .left)) (sym (told j (if4 .left)) ∙ if5 .taken)
     (store .ensures (f .locals) (f .tells .words) (f .tells .rows)) (rw (le-leb _ _ (c .if6 .taken)) refl)
-    (ap {B = Next} (λ (b : Bool). cond b (stopped (clear .result .number) (clear .result .place .0)) (at ((c .before .before .before .before .before .before .before .before .before .before .before .before .before .before .before .before .before .before .before .before .before .before .before .before .before .before .before .before .before .before .before .position-of) .result))) off)
+    (ap {B = Next} (λ (b : Bool). cond b (stopped (clear .result .number) (clear .result .place .0)) (at (position-of .result))) off)
     (clear .ensures .1) (record { visits = clear .ensures .2 .visits; turns = clear .ensures .2 .turns })
 
 same-length-3 : tie.Need-same-length-3
@@ -133,35 +161,51 @@ same-length-3 c = search needs
 
 returns-5 : tie.Need-returns-5
 returns-5 c =
+    let pre = (c .before .before .before .before .before .before .before .before .before .before .before .before .before .before .before .before .before .before .before .before .before .before .before .before .before .before .before .before .before .before .before .before .before .before .pre) in
+    let if1 = (c .before .before .before .before .before .before .before .before .before .before .before .before .before .before .before .before .before .before .before .before .before .before .before .before .before .before .before .before .before .before .before .before .if1) in
+    let position-of = (c .before .before .before .before .before .before .before .before .before .before .before .before .before .before .before .before .before .before .before .before .before .before .before .before .before .before .before .before .before .before .before .position-of) in
+    let if2 = (c .before .before .before .before .before .before .before .before .before .before .before .before .before .before .before .before .before .before .before .before .before .before .before .before .before .before .before .before .before .before .if2) in
+    let earlier = (c .before .before .before .before .before .before .before .before .before .before .before .before .before .before .before .before .before .before .before .before .before .before .before .before .before) in
+    let earlier′ = (c .before .before .before .before .before .before .before .before .before .before .before .before .before .before .before .before .before .before .before .before .before .before .before .before) in
+    let join′ = (c .before .before .before .before .before .before .before .before .before .before .before .before .before .before .before .join) in
+    let if4 = (c .before .before .before .before .before .before .before .before .before .before .before .before .before .if4) in
+    let if5 = (c .before .before .before .before .before .before .before .before .before .before .before .before .if5) in
     let s = (c .before .before .before .before .before .before .before .before .before .before .before .before .before .before .before .before .before .before .before .before .before .before .before .before .before .before .before .before .before .before .before .before .before .before) in
     let a = (c .before .before .before .before .before .before .before .before .before .before .before .before .before .before .before .before .before .before .before .before .before .before .before .before .before .before .before .before .before .before .before .before .before .before .args) in
     let j = (c .before .before .before .before .before .before .before .before .before .before .before .before .before .before .before) in
     let clear = (c .before .before .before .clear) in
     let store = (c .before .before .before .before .before .before .store) in
-    let count = (c .before .before .before .before .before .before .before .before .before .before .before .before .before .before .before .before .before .before .before .before .before .before .before .before .before .before .before .before .before .before .before .position-of) .ensures .1 in
-    let few : (a .n) ≤ 16 = (c .before .before .before .before .before .before .before .before .before .before .before .before .before .before .before .before .before .before .before .before .before .before .before .before .before .before .before .before .before .before .before .before .before .before .pre) .0 in
-    let z : ((c .before .before .before .before .before .before .before .before .before .before .before .before .before .before .before .before .before .before .before .before .before .before .before .before .before .before .before .before .before .before .before .position-of) .result) < (a .n) = (c .before .before .before .before .before .before .before .before .before .before .before .before .before .before .before .before .before .before .before .before .before .before .before .before .before .before .before .before .before .before .if2) .left in
+    let count = position-of .ensures .1 in
+    let few : (a .n) ≤ 16 = pre .0 in
+    let z : (position-of .result) < (a .n) = if2 .left in
     let f = joins j .fits in
     H.propagated-changed (blocksIn (a .blocks) (a .n)) (a .s .«num_locals») (blockOf (a .b)) (stateOf (sent s)) (a .e .0) (a .area .now)
-    (a .t) ((c .before .before .before .before .before .before .before .before .before .before .before .before .before .before .before .before .before .before .before .before .before .before .before .before .before .before .before .before .before .before .before .before .if1) .left) ((c .before .before .before .before .before .before .before .before .before .before .before .before .before .before .before .before .before .before .before .before .before .before .before .before .before .before .before .before .before .before .before .position-of) .result) ((c .before .before .before .before .before .before .before .before .before .before .before .before .before .before .before .before .before .before .before .before .before .before .before .before .before .before .before .before .before .before .before .position-of) .ensures .0) (omega (arith, count, z)) (omega (arith, count, few)) ((c .before .before .before .before .before .before .before .before .before .before .before .before .before .before .before .before .before .before .before .before .before .before .before .before .before .before .before .before .before .before .before .before .before .before .pre) .1) (clear .result) (clear .ensures .3)
-    (stateOf (kept (c .before .before .before .before .before .before .before .before .before .before .before .before .before .before .before .before .before .before .before .before .before .before .before .before .before))) (stateOf (joined j)) ((c .before .before .before .before .before .before .before .before .before .before .before .before .before .before .before .join) .result .state .«num_locals») (store .last .0) (a .t .next)
-    (kept-root ((c .before .before .before .before .before .before .before .before .before .before .before .before .before .before .before .join) .result .state .«num_locals») (a .s .«num_locals») (rooted j)) (held (c .before .before .before .before .before .before .before .before .before .before .before .before .before .before .before .before .before .before .before .before .before .before .before .before)) (answered j ((c .before .before .before .before .before .before .before .before .before .before .before .before .before .if4) .left)) (sym (told j ((c .before .before .before .before .before .before .before .before .before .before .before .before .before .if4) .left)) ∙ (c .before .before .before .before .before .before .before .before .before .before .before .before .if5) .taken)
-    (store .ensures (f .locals) (f .tells .words) (f .tells .rows)) (rw (lt-leb _ _ (c .if6 .left)) refl) (clear .ensures .0 ∙ H.going (a .t) ((c .before .before .before .before .before .before .before .before .before .before .before .before .before .before .before .before .before .before .before .before .before .before .before .before .before .before .before .before .before .before .before .before .if1) .left)) (clear .ensures .1) (clear .ensures .2)
+    (a .t) (if1 .left) (position-of .result) (position-of .ensures .0) (omega (arith, count, z)) (omega (arith, count, few)) (pre .1) (clear .result) (clear .ensures .3)
+    (stateOf (kept earlier)) (stateOf (joined j)) (join′ .result .state .«num_locals») (store .last .0) (a .t .next)
+    (kept-root (join′ .result .state .«num_locals») (a .s .«num_locals») (rooted j)) (held earlier′) (answered j (if4 .left)) (sym (told j (if4 .left)) ∙ if5 .taken)
+    (store .ensures (f .locals) (f .tells .words) (f .tells .rows)) (rw (lt-leb _ _ (c .if6 .left)) refl) (clear .ensures .0 ∙ H.going (a .t) (if1 .left)) (clear .ensures .1) (clear .ensures .2)
 
 same-length-4 : tie.Need-same-length-4
 same-length-4 c = search needs
 
 returns-6 : tie.Need-returns-6
 returns-6 c =
+    let pre = (c .before .before .before .before .before .before .before .before .before .before .before .before .before .before .before .before .before .before .before .before .before .before .pre) in
+    let if1 = (c .before .before .before .before .before .before .before .before .before .before .before .before .before .before .before .before .before .before .before .before .if1) in
+    let position-of = (c .before .before .before .before .before .before .before .before .before .before .before .before .before .before .before .before .before .before .before .position-of) in
+    let if2 = (c .before .before .before .before .before .before .before .before .before .before .before .before .before .before .before .before .before .before .if2) in
+    let earlier = (c .before .before .before .before .before .before .before .before .before .before .before .before .before) in
+    let earlier′ = (c .before .before .before .before .before .before .before .before .before .before .before .before) in
+    let if4 = (c .before .if4) in
     let s = (c .before .before .before .before .before .before .before .before .before .before .before .before .before .before .before .before .before .before .before .before .before .before) in
     let a = (c .before .before .before .before .before .before .before .before .before .before .before .before .before .before .before .before .before .before .before .before .before .before .args) in
     let j = (c .before .before .before) in
-    let count = (c .before .before .before .before .before .before .before .before .before .before .before .before .before .before .before .before .before .before .before .position-of) .ensures .1 in
-    let few : (a .n) ≤ 16 = (c .before .before .before .before .before .before .before .before .before .before .before .before .before .before .before .before .before .before .before .before .before .before .pre) .0 in
-    let z : ((c .before .before .before .before .before .before .before .before .before .before .before .before .before .before .before .before .before .before .before .position-of) .result) < (a .n) = (c .before .before .before .before .before .before .before .before .before .before .before .before .before .before .before .before .before .before .if2) .left in
+    let count = position-of .ensures .1 in
+    let few : (a .n) ≤ 16 = pre .0 in
+    let z : (position-of .result) < (a .n) = if2 .left in
     H.propagated-same (blocksIn (a .blocks) (a .n)) (a .s .«num_locals») (blockOf (a .b)) (stateOf (sent s)) (a .e .0) (a .area .now)
-    (a .t) ((c .before .before .before .before .before .before .before .before .before .before .before .before .before .before .before .before .before .before .before .before .if1) .left) ((c .before .before .before .before .before .before .before .before .before .before .before .before .before .before .before .before .before .before .before .position-of) .result) ((c .before .before .before .before .before .before .before .before .before .before .before .before .before .before .before .before .before .before .before .position-of) .ensures .0) (omega (arith, count, z)) (omega (arith, count, few)) ((c .before .before .before .before .before .before .before .before .before .before .before .before .before .before .before .before .before .before .before .before .before .before .pre) .1)
-    (stateOf (kept (c .before .before .before .before .before .before .before .before .before .before .before .before .before))) (stateOf (joined j)) (held (c .before .before .before .before .before .before .before .before .before .before .before .before)) (answered j ((c .before .if4) .left)) (sym (told j ((c .before .if4) .left)) ∙ c .if5 .left)
+    (a .t) (if1 .left) (position-of .result) (position-of .ensures .0) (omega (arith, count, z)) (omega (arith, count, few)) (pre .1)
+    (stateOf (kept earlier)) (stateOf (joined j)) (held earlier′) (answered j (if4 .left)) (sym (told j (if4 .left)) ∙ c .if5 .left)
 
 store-requires-2 : tie.Need-store-requires-2
 store-requires-2 c κs = search needs
@@ -174,18 +218,23 @@ same-length-5 c = search needs
 
 returns-7 : tie.Need-returns-7
 returns-7 c =
+    let pre = (c .before .before .before .before .before .before .before .before .before .before .before .before .before .before .before .pre) in
+    let if1 = (c .before .before .before .before .before .before .before .before .before .before .before .before .before .if1) in
+    let position-of = (c .before .before .before .before .before .before .before .before .before .before .before .before .position-of) in
+    let if2 = (c .before .before .before .before .before .before .before .before .before .before .before .if2) in
+    let earlier = (c .before .before .before .before .before .before) in
     let s = (c .before .before .before .before .before .before .before .before .before .before .before .before .before .before .before) in
     let a = (c .before .before .before .before .before .before .before .before .before .before .before .before .before .before .before .args) in
     let clear2 = c .clear2 in
     let store2 = (c .before .before .before .store2) in
-    let count = (c .before .before .before .before .before .before .before .before .before .before .before .before .position-of) .ensures .1 in
-    let few : (a .n) ≤ 16 = (c .before .before .before .before .before .before .before .before .before .before .before .before .before .before .before .pre) .0 in
-    let z : ((c .before .before .before .before .before .before .before .before .before .before .before .before .position-of) .result) < (a .n) = (c .before .before .before .before .before .before .before .before .before .before .before .if2) .left in
-    let f = (c .before .before .before .before .before .before .before .before .before .before .before .before .before .before .before .pre) .2 in
+    let count = position-of .ensures .1 in
+    let few : (a .n) ≤ 16 = pre .0 in
+    let z : (position-of .result) < (a .n) = if2 .left in
+    let f = pre .2 in
     H.propagated-fresh (blocksIn (a .blocks) (a .n)) (a .s .«num_locals») (blockOf (a .b)) (stateOf (sent s)) (a .e .0) (a .area .now)
-    (a .t) ((c .before .before .before .before .before .before .before .before .before .before .before .before .before .if1) .left) ((c .before .before .before .before .before .before .before .before .before .before .before .before .position-of) .result) ((c .before .before .before .before .before .before .before .before .before .before .before .before .position-of) .ensures .0) (omega (arith, count, z)) (omega (arith, count, few)) ((c .before .before .before .before .before .before .before .before .before .before .before .before .before .before .before .pre) .1) (clear2 .result)
+    (a .t) (if1 .left) (position-of .result) (position-of .ensures .0) (omega (arith, count, z)) (omega (arith, count, few)) (pre .1) (clear2 .result)
     (clear2 .ensures .3) (a .s .«num_locals») (store2 .last .0) (λ us i. refl)
-    (sym (begun (c .before .before .before .before .before .before) .kept) ∙ ap {B = Option State} (λ (b : Bool). cond b (some (stateOf (kept (c .before .before .before .before .before .before)))) none) ((c .before .before .before .before .before .if3) .left)) (store2 .ensures (f .locals) (f .tells .words) (f .tells .rows))
+    (sym (begun earlier .kept) ∙ ap {B = Option State} (λ (b : Bool). cond b (some (stateOf (kept earlier))) none) ((c .before .before .before .before .before .if3) .left)) (store2 .ensures (f .locals) (f .tells .words) (f .tells .rows))
     (clear2 .ensures .0) (clear2 .ensures .1) (clear2 .ensures .2)
 
 pub propagate-to-spec : {M : Type 1} → statement M

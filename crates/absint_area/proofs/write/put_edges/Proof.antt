@@ -37,7 +37,10 @@ loop-less : tie.Need-loop-less Inv-loop μ-loop
 loop-less c = omega arith
 
 loop-again : tie.Need-loop-again Inv-loop μ-loop
-loop-again c = (omega arith, edges-one _ _ _ _ ((c .before .before .before .before .before .before .loop) .i) ((c .before .before .before .before .before .before .loop) .ws) _ (omega arith) ((c .before .before .put-row) .ensures .0) ((c .before .before .put-row) .ensures .1) ((c .before .before .before .before .before .before .loop) .inv .1))
+loop-again c =
+    let loop = (c .before .before .before .before .before .before .loop) in
+    let put-row = (c .before .before .put-row) in
+    (omega arith, edges-one _ _ _ _ (loop .i) (loop .ws) _ (omega arith) (put-row .ensures .0) (put-row .ensures .1) (loop .inv .1))
 
 same-length : tie.Need-same-length Inv-loop μ-loop
 same-length c = (c .before .loop) .inv .1 .frame .size

@@ -47,7 +47,10 @@ loop-less : tie.Need-loop-less Inv-loop μ-loop
 loop-less c = omega arith
 
 loop-again : tie.Need-loop-again Inv-loop μ-loop
-loop-again c = (omega arith, written-one _ _ _ _ ((c .before .before .before .loop) .i) _ ((c .before .before .before .loop) .ws) (omega arith) (omega (arith, (c .before .before .before .loop) .inv .1 .frame .size)) (local-above _ ((c .above-local) .result) ((c .before .before .before .before .before .args) .names) ((c .before .before .before .before .before .args) .edges) ((c .before .before .before .loop) .i) ((c .before .before .before .before .before .args) .locals .now) refl ((c .above-local) .ensures .0)) ((c .before .before .before .loop) .inv .1))
+loop-again c =
+    let a = (c .before .before .before .before .before .args) in
+    let loop = (c .before .before .before .loop) in
+    (omega arith, written-one _ _ _ _ (loop .i) _ (loop .ws) (omega arith) (omega (arith, loop .inv .1 .frame .size)) (local-above _ ((c .above-local) .result) (a .names) (a .edges) (loop .i) (a .locals .now) refl ((c .above-local) .ensures .0)) (loop .inv .1))
 
 same-length : tie.Need-same-length Inv-loop μ-loop
 same-length c = (c .before .loop) .inv .1 .frame .size

@@ -45,13 +45,17 @@ add-s c = search needs
 
 returns-2 : tie.Need-returns-2
 returns-2 c =
+    let if1 = (c .before .before .before .before .before .before .before .before .before .before .before .if1) in
+    let crosses = (c .before .before .before .before .before .before .before .before .before .crosses) in
+    let if2 = (c .before .before .before .before .before .before .before .before .if2) in
+    let own-names = (c .before .before .before .before .own-names) in
     let a = (c .before .before .before .before .before .before .before .before .before .before .before .before .before .before .args) in
     let s = a .state in
     let before = words (a .locals .now) (a .names .now) (a .edges .now) s in
     record {
-      fits = λ f. record { locals = (c .before .before .before .before .own-names) .ensures (f .locals) .1; tells = (c .renamed) .ensures (f .tells) .1 };
-      does = λ f. end-ok (s .violation) (s .refusal) (runningOf before) _ _ ((c .before .before .before .before .before .before .before .before .before .before .before .if1) .taken)
-          (canonical-ok (s .«num_locals») (stateOf before) _ _ (sym ((c .before .before .before .before .before .before .before .before .before .crosses) .ensures (f .locals)) ∙ (c .before .before .before .before .before .before .before .before .if2) .left) ((c .before .before .before .before .own-names) .ensures (f .locals) .0)
+      fits = λ f. record { locals = own-names .ensures (f .locals) .1; tells = (c .renamed) .ensures (f .tells) .1 };
+      does = λ f. end-ok (s .violation) (s .refusal) (runningOf before) _ _ (if1 .taken)
+          (canonical-ok (s .«num_locals») (stateOf before) _ _ (sym (crosses .ensures (f .locals)) ∙ if2 .left) (own-names .ensures (f .locals) .0)
           ((c .renamed) .ensures (f .tells) .0 ∙ ap (λ (ms : List Change). renamed (nameAfter ms) (graphIn (a .names .now) (a .edges .now) (s .«borrow_graph»))) ((c .before .before .before .before .before .before .id-map) .ensures (f .locals))));
     }
 

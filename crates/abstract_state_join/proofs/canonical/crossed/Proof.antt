@@ -23,16 +23,23 @@ is-named-requires : tie.Need-is-named-requires
 is-named-requires c κs = search needs
 
 returns : tie.Need-returns
-returns c = λ h. (c .is-named) .ensures h ∙ crossed-held (localsIn ((c .before .before .before .before .before .before .before .args) .locals .now) ((c .before .before .before .before .before .before .before .args) .n)) ((c .before .before .before .before .before .before .before .args) .i) (localOf ((c .before .before .before .before .before .before .before .args) .x)) _ true (sym (ap operandOf ((c .before .before .before .before .v) .given .1)) ∙ (c .before .before .before .before .before .before .value-of) .ensures) ((c .before .if1) .taken)
+returns c =
+    let a = (c .before .before .before .before .before .before .before .args) in
+    let value-of = (c .before .before .before .before .before .before .value-of) in
+    λ h. (c .is-named) .ensures h ∙ crossed-held (localsIn (a .locals .now) (a .n)) (a .i) (localOf (a .x)) _ true (sym (ap operandOf ((c .before .before .before .before .v) .given .1)) ∙ value-of .ensures) ((c .before .if1) .taken)
 
 enum-told : tie.Need-enum-told
 enum-told c = search needs
 
 returns-2 : tie.Need-returns-2
-returns-2 c = λ h. crossed-held (localsIn ((c .before .before .before .before .before .before .args) .locals .now) ((c .before .before .before .before .before .before .args) .n)) ((c .before .before .before .before .before .before .args) .i) (localOf ((c .before .before .before .before .before .before .args) .x)) _ false (sym (ap operandOf ((c .before .before .before .v) .given .1)) ∙ (c .before .before .before .before .before .value-of) .ensures) ((c .if1) .left)
+returns-2 c =
+    let a = (c .before .before .before .before .before .before .args) in
+    λ h. crossed-held (localsIn (a .locals .now) (a .n)) (a .i) (localOf (a .x)) _ false (sym (ap operandOf ((c .before .before .before .v) .given .1)) ∙ (c .before .before .before .before .before .value-of) .ensures) ((c .if1) .left)
 
 returns-3 : tie.Need-returns-3
-returns-3 c = λ h. crossed-none (localsIn ((c .before .before .before .args) .locals .now) ((c .before .before .before .args) .n)) ((c .before .before .before .args) .i) (localOf ((c .before .before .before .args) .x)) (sym (ap operandOf ((c .enum-told) .given .1)) ∙ (c .before .before .value-of) .ensures)
+returns-3 c =
+    let a = (c .before .before .before .args) in
+    λ h. crossed-none (localsIn (a .locals .now) (a .n)) (a .i) (localOf (a .x)) (sym (ap operandOf ((c .enum-told) .given .1)) ∙ (c .before .before .value-of) .ensures)
 
 pub crossed-spec : {M : Type 1} → statement M
 crossed-spec =

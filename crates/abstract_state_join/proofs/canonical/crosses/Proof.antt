@@ -19,7 +19,9 @@ Inv-loop locals n k i₀ i = length locals ≡ 16 → S.crosses (localsIn locals
 abbrev μ-loop : tie.MeasureT-loop
 μ-loop locals n k i₀ i = k - i
 
-turn : (c : tie.In-loop Inv-loop μ-loop) → length ((c .before .before .before .args) .locals .now) ≡ 16 → (b : Bool) → S.crossed (localsIn ((c .before .before .before .args) .locals .now) ((c .before .before .before .args) .n)) ((c .before .loop) .i) (localIn (getD ((c .before .before .before .args) .locals .now) ((c .before .loop) .i) 0)) ≡ b → b || S.crosses (localsIn ((c .before .before .before .args) .locals .now) ((c .before .before .before .args) .n)) ((c .before .loop) .i + 1) (drop ((c .before .loop) .i + 1) (localsIn ((c .before .before .before .args) .locals .now) ((c .before .before .before .args) .n))) ≡ S.crosses (localsIn ((c .before .before .before .args) .locals .now) ((c .before .before .before .args) .n)) 0 (localsIn ((c .before .before .before .args) .locals .now) ((c .before .before .before .args) .n))
+turn : (c : tie.In-loop Inv-loop μ-loop) → let a = (c .before .before .before .args) in
+    let loop = (c .before .loop) in
+    length (a .locals .now) ≡ 16 → (b : Bool) → S.crossed (localsIn (a .locals .now) (a .n)) (loop .i) (localIn (getD (a .locals .now) (loop .i) 0)) ≡ b → b || S.crosses (localsIn (a .locals .now) (a .n)) (loop .i + 1) (drop (loop .i + 1) (localsIn (a .locals .now) (a .n))) ≡ S.crosses (localsIn (a .locals .now) (a .n)) 0 (localsIn (a .locals .now) (a .n))
 turn c h b e =
     let a = (c .before .before .before .args) in
     let l = (c .before .loop) in
@@ -46,7 +48,9 @@ crossed-requires : tie.Need-crossed-requires Inv-loop μ-loop
 crossed-requires c κs = search needs
 
 returns : tie.Need-returns Inv-loop μ-loop
-returns c = λ h. turn ((c .before .before .before .before)) h true (sym ((c .before .crossed) .ensures h ∙ ap (S.crossed (localsIn ((c .before .before .before .before .before .before .before .args) .locals .now) ((c .before .before .before .before .before .before .before .args) .n)) ((c .before .before .before .before .before .loop) .i)) ((c .before .before .local-of) .ensures)) ∙ (c .if1) .taken)
+returns c =
+    let a = (c .before .before .before .before .before .before .before .args) in
+    λ h. turn ((c .before .before .before .before)) h true (sym ((c .before .crossed) .ensures h ∙ ap (S.crossed (localsIn (a .locals .now) (a .n)) ((c .before .before .before .before .before .loop) .i)) ((c .before .before .local-of) .ensures)) ∙ (c .if1) .taken)
 
 add-i : tie.Need-add-i Inv-loop μ-loop
 add-i c = omega arith
@@ -55,7 +59,9 @@ loop-less : tie.Need-loop-less Inv-loop μ-loop
 loop-less c = omega arith
 
 loop-again : tie.Need-loop-again Inv-loop μ-loop
-loop-again c = λ h. turn ((c .before .before .before .before)) h false (sym ((c .before .crossed) .ensures h ∙ ap (S.crossed (localsIn ((c .before .before .before .before .before .before .before .args) .locals .now) ((c .before .before .before .before .before .before .before .args) .n)) ((c .before .before .before .before .before .loop) .i)) ((c .before .before .local-of) .ensures)) ∙ (c .if1) .left)
+loop-again c =
+    let a = (c .before .before .before .before .before .before .before .args) in
+    λ h. turn ((c .before .before .before .before)) h false (sym ((c .before .crossed) .ensures h ∙ ap (S.crossed (localsIn (a .locals .now) (a .n)) ((c .before .before .before .before .before .loop) .i)) ((c .before .before .local-of) .ensures)) ∙ (c .if1) .left)
 
 returns-2 : tie.Need-returns-2 Inv-loop μ-loop
 returns-2 c =

@@ -62,6 +62,7 @@ loop-less c = omega arith
 
 loop-again : tie.Need-loop-again Inv-loop μ-loop
 loop-again c =
+    let count = (c .before .before .before .before .before .before .before .before .count) in
     let a = (c .before .before .before .before .before .before .before .before .before .args) in
     let l = (c .before .before .before .before .before .before .before .loop) in
     let xs = drop (l .i + 1) (localsIn (a .locals .now) (a .n)) in (
@@ -69,7 +70,7 @@ loop-again c =
       omega arith,
       simp length-set (l .inv .2),
       λ h. push-map changeOf (l .list) (l .len) (l .len + 1) _ (renames (l .i + 1) xs) refl (omega arith)
-          ∙ ap (λ (ms : List Change). map changeOf (take (l .len) (l .list)) ++ ms) (sym (ap (renames (l .i)) (local-next (a .locals .now) (a .n) ((c .before .before .before .before .before .before .before .before .count) .result) h ((c .before .before .before .before .before .before .before .before .count) .ensures) (l .i) (omega arith)) ∙ renames-held (l .i) (localIn (getD (a .locals .now) (l .i) 0)) _ xs (sym (ap operandOf ((c .before .v) .given .1)) ∙ (c .before .before .before .value-of) .ensures ∙ ap heldBy ((c .before .before .before .before .local-of) .ensures))))
+          ∙ ap (λ (ms : List Change). map changeOf (take (l .len) (l .list)) ++ ms) (sym (ap (renames (l .i)) (local-next (a .locals .now) (a .n) (count .result) h (count .ensures) (l .i) (omega arith)) ∙ renames-held (l .i) (localIn (getD (a .locals .now) (l .i) 0)) _ xs (sym (ap operandOf ((c .before .v) .given .1)) ∙ (c .before .before .before .value-of) .ensures ∙ ap heldBy ((c .before .before .before .before .local-of) .ensures))))
           ∙ l .inv .3 h,
     )
 
@@ -84,13 +85,14 @@ loop-less-2 c = omega arith
 
 loop-again-2 : tie.Need-loop-again-2 Inv-loop μ-loop
 loop-again-2 c =
+    let count = (c .before .before .before .before .before .before .before .count) in
     let a = (c .before .before .before .before .before .before .before .before .args) in
     let l = (c .before .before .before .before .before .before .loop) in
     let xs = drop (l .i + 1) (localsIn (a .locals .now) (a .n)) in (
       omega arith,
       omega arith,
       l .inv .2,
-      λ h. ap (λ (ms : List Change). map changeOf (take (l .len) (l .list)) ++ ms) (sym (ap (renames (l .i)) (local-next (a .locals .now) (a .n) ((c .before .before .before .before .before .before .before .count) .result) h ((c .before .before .before .before .before .before .before .count) .ensures) (l .i) (omega arith)) ∙ renames-none (l .i) (localIn (getD (a .locals .now) (l .i) 0)) xs (sym (ap operandOf ((c .enum-told) .given .1)) ∙ (c .before .before .value-of) .ensures ∙ ap heldBy ((c .before .before .before .local-of) .ensures))))
+      λ h. ap (λ (ms : List Change). map changeOf (take (l .len) (l .list)) ++ ms) (sym (ap (renames (l .i)) (local-next (a .locals .now) (a .n) (count .result) h (count .ensures) (l .i) (omega arith)) ∙ renames-none (l .i) (localIn (getD (a .locals .now) (l .i) 0)) xs (sym (ap operandOf ((c .enum-told) .given .1)) ∙ (c .before .before .value-of) .ensures ∙ ap heldBy ((c .before .before .before .local-of) .ensures))))
           ∙ l .inv .3 h,
     )
 

@@ -23,7 +23,9 @@ Inv-loop locals n id k i₀ i = length locals ≡ 16 → any (λ y. eqLocal y (S
 abbrev μ-loop : tie.MeasureT-loop
 μ-loop locals n id k i₀ i = k - i
 
-turn : (c : tie.In-loop Inv-loop μ-loop) → length ((c .before .before .before .args) .locals .now) ≡ 16 → (b : Bool) → eqLocal (localIn (getD ((c .before .before .before .args) .locals .now) ((c .before .loop) .i) 0)) (S.Local.ref ((c .before .before .before .args) .id .0)) ≡ b → b || any (λ y. eqLocal y (S.Local.ref ((c .before .before .before .args) .id .0))) (drop ((c .before .loop) .i + 1) (localsIn ((c .before .before .before .args) .locals .now) ((c .before .before .before .args) .n))) ≡ any (λ y. eqLocal y (S.Local.ref ((c .before .before .before .args) .id .0))) (localsIn ((c .before .before .before .args) .locals .now) ((c .before .before .before .args) .n))
+turn : (c : tie.In-loop Inv-loop μ-loop) → let a = (c .before .before .before .args) in
+    let loop = (c .before .loop) in
+    length (a .locals .now) ≡ 16 → (b : Bool) → eqLocal (localIn (getD (a .locals .now) (loop .i) 0)) (S.Local.ref (a .id .0)) ≡ b → b || any (λ y. eqLocal y (S.Local.ref (a .id .0))) (drop (loop .i + 1) (localsIn (a .locals .now) (a .n))) ≡ any (λ y. eqLocal y (S.Local.ref (a .id .0))) (localsIn (a .locals .now) (a .n))
 turn c h b e =
     let a = (c .before .before .before .args) in
     let l = (c .before .loop) in
@@ -52,7 +54,13 @@ enum-known-v : tie.Need-enum-known-v Inv-loop μ-loop
 enum-known-v c = search needs
 
 returns : tie.Need-returns Inv-loop μ-loop
-returns c = λ h. turn ((c .before .before .before .before .before .before .before .before .before)) h true (named-held (localIn (getD ((c .before .before .before .before .before .before .before .before .before .before .before .before .args) .locals .now) ((c .before .before .before .before .before .before .before .before .before .before .loop) .i) 0)) _ ((c .before .before .before .before .before .before .before .before .before .before .before .before .args) .id .0) true (sym (ap operandOf ((c .before .before .before .before .v) .given .1)) ∙ (c .before .before .before .before .before .before .value-of) .ensures ∙ ap heldBy ((c .before .before .before .before .before .before .before .local-of) .ensures)) (eq-eqb _ _ ((c .if1) .taken)))
+returns c =
+    let a = (c .before .before .before .before .before .before .before .before .before .before .before .before .args) in
+    let loop = (c .before .before .before .before .before .before .before .before .before .before .loop) in
+    let earlier = (c .before .before .before .before .before .before .before .before .before) in
+    let local-of = (c .before .before .before .before .before .before .before .local-of) in
+    let value-of = (c .before .before .before .before .before .before .value-of) in
+    λ h. turn (earlier) h true (named-held (localIn (getD (a .locals .now) (loop .i) 0)) _ (a .id .0) true (sym (ap operandOf ((c .before .before .before .before .v) .given .1)) ∙ value-of .ensures ∙ ap heldBy (local-of .ensures)) (eq-eqb _ _ ((c .if1) .taken)))
 
 add-i : tie.Need-add-i Inv-loop μ-loop
 add-i c = omega arith
@@ -61,7 +69,13 @@ loop-less : tie.Need-loop-less Inv-loop μ-loop
 loop-less c = omega arith
 
 loop-again : tie.Need-loop-again Inv-loop μ-loop
-loop-again c = λ h. turn ((c .before .before .before .before .before .before .before .before .before)) h false (named-held (localIn (getD ((c .before .before .before .before .before .before .before .before .before .before .before .before .args) .locals .now) ((c .before .before .before .before .before .before .before .before .before .before .loop) .i) 0)) _ ((c .before .before .before .before .before .before .before .before .before .before .before .before .args) .id .0) false (sym (ap operandOf ((c .before .before .before .before .v) .given .1)) ∙ (c .before .before .before .before .before .before .value-of) .ensures ∙ ap heldBy ((c .before .before .before .before .before .before .before .local-of) .ensures)) (ne-eqb _ _ ((c .if1) .left)))
+loop-again c =
+    let a = (c .before .before .before .before .before .before .before .before .before .before .before .before .args) in
+    let loop = (c .before .before .before .before .before .before .before .before .before .before .loop) in
+    let earlier = (c .before .before .before .before .before .before .before .before .before) in
+    let local-of = (c .before .before .before .before .before .before .before .local-of) in
+    let value-of = (c .before .before .before .before .before .before .value-of) in
+    λ h. turn (earlier) h false (named-held (localIn (getD (a .locals .now) (loop .i) 0)) _ (a .id .0) false (sym (ap operandOf ((c .before .before .before .before .v) .given .1)) ∙ value-of .ensures ∙ ap heldBy (local-of .ensures)) (ne-eqb _ _ ((c .if1) .left)))
 
 enum-told : tie.Need-enum-told Inv-loop μ-loop
 enum-told c = search needs
@@ -73,7 +87,9 @@ loop-less-2 : tie.Need-loop-less-2 Inv-loop μ-loop
 loop-less-2 c = omega arith
 
 loop-again-2 : tie.Need-loop-again-2 Inv-loop μ-loop
-loop-again-2 c = λ h. turn ((c .before .before .before .before .before)) h false (named-none (localIn (getD ((c .before .before .before .before .before .before .before .before .args) .locals .now) ((c .before .before .before .before .before .before .loop) .i) 0)) ((c .before .before .before .before .before .before .before .before .args) .id .0) (sym (ap operandOf ((c .enum-told) .given .1)) ∙ (c .before .before .value-of) .ensures ∙ ap heldBy ((c .before .before .before .local-of) .ensures)))
+loop-again-2 c =
+    let a = (c .before .before .before .before .before .before .before .before .args) in
+    λ h. turn ((c .before .before .before .before .before)) h false (named-none (localIn (getD (a .locals .now) ((c .before .before .before .before .before .before .loop) .i) 0)) (a .id .0) (sym (ap operandOf ((c .enum-told) .given .1)) ∙ (c .before .before .value-of) .ensures ∙ ap heldBy ((c .before .before .before .local-of) .ensures)))
 
 returns-2 : tie.Need-returns-2 Inv-loop μ-loop
 returns-2 c =

@@ -72,11 +72,12 @@ loop-again c =
 
 returns : tie.Need-returns Inv-loop μ-loop
 returns c =
+    let count = (c .before .before .count) in
     let a = (c .before .before .before .args) in
     let l = (c .before .loop) in
-    let e : l .i ≡ (c .before .before .count) .result = omega arith in
+    let e : l .i ≡ count .result = omega arith in
     λ h. let q = l .inv .1 h in
-    (all-written (l .locals) (l .i) _ _ (q .1) (a .n) ((c .before .before .count) .result) (q .0) ((c .before .before .count) .ensures) e (ap (ownNames (l .i)) (locals-end (l .locals) (a .n) ((c .before .before .count) .result) (q .0) ((c .before .before .count) .ensures) (l .i) (omega arith)) ∙ own-end (l .i)), q .0)
+    (all-written (l .locals) (l .i) _ _ (q .1) (a .n) (count .result) (q .0) (count .ensures) e (ap (ownNames (l .i)) (locals-end (l .locals) (a .n) (count .result) (q .0) (count .ensures) (l .i) (omega arith)) ∙ own-end (l .i)), q .0)
 
 pub own-names-spec : {M : Type 1} → statement M
 own-names-spec =

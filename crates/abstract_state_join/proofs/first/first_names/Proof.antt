@@ -40,6 +40,7 @@ loop-less c = omega arith
 
 loop-again : tie.Need-loop-again Inv-loop μ-loop
 loop-again c =
+    let lesser = (c .before .before .before .lesser) in
     let a = (c .before .before .before .before .args) in
     let l = (c .before .before .loop) in
     let p : length (a .t3) ≡ 16 = search needs in
@@ -48,7 +49,7 @@ loop-again c =
       omega arith,
       λ h.
           let q = l .inv .2 h in
-          (q .0, ap (λ (ms : List Name). namesIn (l .names) (l .len) ++ ms) (sym (pass-value (l .i) (a .n) (getD (a .t3) (l .i) 0) _ (drop (l .i + 1) ts) (omega (arith, (c .before .before .before .lesser) .ensures)) (token-step (a .count) (a .t3) (l .i) (omega (arith, (c .before .before .before .lesser) .ensures)) (omega (arith, (c .before .before .before .lesser) .ensures))) (eq-eqb _ _ ((c .if1) .taken)))) ∙ q .1),
+          (q .0, ap (λ (ms : List Name). namesIn (l .names) (l .len) ++ ms) (sym (pass-value (l .i) (a .n) (getD (a .t3) (l .i) 0) _ (drop (l .i + 1) ts) (omega (arith, lesser .ensures)) (token-step (a .count) (a .t3) (l .i) (omega (arith, lesser .ensures)) (omega (arith, lesser .ensures))) (eq-eqb _ _ ((c .if1) .taken)))) ∙ q .1),
     )
 
 cast-t15 : tie.Need-cast-t15 Inv-loop μ-loop
@@ -77,6 +78,7 @@ loop-less-2 c = omega arith
 
 loop-again-2 : tie.Need-loop-again-2 Inv-loop μ-loop
 loop-again-2 c =
+    let lesser = (c .before .before .before .before .lesser) in
     let a = (c .before .before .before .before .before .args) in
     let l = (c .before .before .before .loop) in
     let p : length (a .t3) ≡ 16 = search needs in
@@ -87,8 +89,8 @@ loop-again-2 c =
       λ h.
           let q = l .inv .2 h in (
             simp length-set (q .0),
-            names-push (l .names) _ (l .len) (l .len + 1) rest refl (omega (arith, (c .before .before .before .before .lesser) .ensures)) ∙ ap (λ (m : Name). namesIn (l .names) (l .len) ++ m ∷ rest) ((c .name-word) .ensures)
-                ∙ ap (λ (ms : List Name). namesIn (l .names) (l .len) ++ ms) (sym (pass-reference (l .i) (a .n) (getD (a .t3) (l .i) 0) _ (drop (l .i + 1) ts) (omega (arith, (c .before .before .before .before .lesser) .ensures)) (token-step (a .count) (a .t3) (l .i) (omega (arith, (c .before .before .before .before .lesser) .ensures)) (omega (arith, (c .before .before .before .before .lesser) .ensures))) (ne-eqb _ _ ((c .before .if1) .left)))) ∙ q .1,
+            names-push (l .names) _ (l .len) (l .len + 1) rest refl (omega (arith, lesser .ensures)) ∙ ap (λ (m : Name). namesIn (l .names) (l .len) ++ m ∷ rest) ((c .name-word) .ensures)
+                ∙ ap (λ (ms : List Name). namesIn (l .names) (l .len) ++ ms) (sym (pass-reference (l .i) (a .n) (getD (a .t3) (l .i) 0) _ (drop (l .i + 1) ts) (omega (arith, lesser .ensures)) (token-step (a .count) (a .t3) (l .i) (omega (arith, lesser .ensures)) (omega (arith, lesser .ensures))) (ne-eqb _ _ ((c .before .if1) .left)))) ∙ q .1,
           ),
     )
 

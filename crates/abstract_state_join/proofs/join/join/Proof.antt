@@ -47,13 +47,20 @@ leq-requires : tie.Need-leq-requires
 leq-requires c κs = search needs
 
 returns-2 : tie.Need-returns-2
-returns-2 c = λ fa fb.
+returns-2 c =
+    let join- = (c .before .before .before .before .before .before .before .before .before .before .before .before .before .before .before .before .join-) in
+    let earlier = (c .before .before .before .before .before .before .before .before .before .before .before .before .before .before) in
+    let if1 = (c .before .before .before .before .before .before .before .before .before .before .before .before .before .before .if1) in
+    let same-locals = (c .before .before .before .before .before .before .before .before .before .before .same-locals) in
+    let if2 = (c .before .before .before .before .before .before .before .before .before .if2) in
+    let leq = (c .before .before .leq) in
+    λ fa fb.
     let a = (c .before .before .before .before .before .before .before .before .before .before .before .before .before .before .before .before .before .before .before .before .before .before .before .before .before .args) in
-    let m = (c .before .before .before .before .before .before .before .before .before .before .before .before .before .before .before .before .join-) .ensures fa fb in
+    let m = join- .ensures fa fb in
     let s = stateOf (words (a .locals .now) (a .names .now) (a .edges .now) (a .s)) in
     let o = stateOf (words (a .their-locals .now) (a .their-names .now) (a .their-edges .now) (a .o)) in
-    let e = joined ((c .before .before .before .before .before .before .before .before .before .before .before .before .before .before)) _ (m .0 .answer) in
-    let f = m .0 .fits ((c .before .before .before .before .before .before .before .before .before .before .before .before .before .before .if1) .left) in (
+    let e = joined (earlier) _ (m .0 .answer) in
+    let f = m .0 .fits (if1 .left) in (
       record {
         answer = sym e;
         left = sym (ap (leaves s) e);
@@ -62,16 +69,18 @@ returns-2 c = λ fa fb.
         stop = m .0 .stop;
       },
       changed-graph s o _ e
-          (ap (λ (n : ℕ). eqLocals (localsIn (a .locals .now) (a .s .«num_locals»)) (localsIn ((c .before .before .before .before .before .before .before .before .before .before .before .before .before .before .before .before .join-) .last .0) n)) (ap (λ (r : Running). r .root) (m .0 .rest)) ∙ sym ((c .before .before .before .before .before .before .before .before .before .before .same-locals) .ensures (fa .locals) (f .locals)) ∙ (c .before .before .before .before .before .before .before .before .before .if2) .taken)
-          ((c .before .before .leq) .result .refusal) ((c .before .before .leq) .result .yes) ((c .before .before .leq) .ensures (fa .tells) (f .tells)) ∙ sym (ap (changedBy s) e),
+          (ap (λ (n : ℕ). eqLocals (localsIn (a .locals .now) (a .s .«num_locals»)) (localsIn (join- .last .0) n)) (ap (λ (r : Running). r .root) (m .0 .rest)) ∙ sym (same-locals .ensures (fa .locals) (f .locals)) ∙ if2 .taken)
+          (leq .result .refusal) (leq .result .yes) (leq .ensures (fa .tells) (f .tells)) ∙ sym (ap (changedBy s) e),
       m .1,
       m .2,
     )
 
 returns-3 : tie.Need-returns-3
-returns-3 c = λ fa fb.
+returns-3 c =
+    let join- = (c .before .before .before .before .before .before .before .join-) in
+    λ fa fb.
     let a = (c .before .before .before .before .before .before .before .before .before .before .before .before .before .before .before .before .args) in
-    let m = (c .before .before .before .before .before .before .before .join-) .ensures fa fb in
+    let m = join- .ensures fa fb in
     let s = stateOf (words (a .locals .now) (a .names .now) (a .edges .now) (a .s)) in
     let o = stateOf (words (a .their-locals .now) (a .their-names .now) (a .their-edges .now) (a .o)) in
     let e = joined ((c .before .before .before .before .before)) _ (m .0 .answer) in
@@ -84,7 +93,7 @@ returns-3 c = λ fa fb.
         stop = m .0 .stop;
       },
       changed-locals s o _ e
-          (ap (λ (n : ℕ). eqLocals (localsIn (a .locals .now) (a .s .«num_locals»)) (localsIn ((c .before .before .before .before .before .before .before .join-) .last .0) n)) (ap (λ (r : Running). r .root) (m .0 .rest)) ∙ sym ((c .before .same-locals) .ensures (fa .locals) (f .locals)) ∙ (c .if2) .left) ∙ sym (ap (changedBy s) e),
+          (ap (λ (n : ℕ). eqLocals (localsIn (a .locals .now) (a .s .«num_locals»)) (localsIn (join- .last .0) n)) (ap (λ (r : Running). r .root) (m .0 .rest)) ∙ sym ((c .before .same-locals) .ensures (fa .locals) (f .locals)) ∙ (c .if2) .left) ∙ sym (ap (changedBy s) e),
       m .1,
       m .2,
     )

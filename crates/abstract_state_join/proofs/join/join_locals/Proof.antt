@@ -86,8 +86,14 @@ loop-less c = omega arith
 
 loop-again : tie.Need-loop-again Inv-loop μ-loop
 loop-again c =
+    let a = (c .before .before .before .before .before .before .before .before .before .before .before .before .before .before .before .args) in
+    let count = (c .before .before .before .before .before .before .before .before .before .before .before .before .before .before .count) in
+    let count2 = (c .before .before .before .before .before .before .before .before .before .before .before .before .before .count2) in
+    let lesser = (c .before .before .before .before .before .before .before .before .before .before .before .before .lesser) in
+    let loop-test = (c .before .before .before .before .before .before .before .before .loop-test) in
+    let local-word = (c .before .local-word) in
     let l = (c .before .before .before .before .before .before .before .before .before .loop) in
-    let i : l .i < (c .before .before .before .before .before .before .before .before .before .before .before .before .lesser) .result = (c .before .before .before .before .before .before .before .before .loop-test) .taken in (
+    let i : l .i < lesser .result = loop-test .taken in (
       omega arith,
       l .inv .1,
       λ hl hm t u.
@@ -97,8 +103,8 @@ loop-again c =
             simp length-set (q .0),
             q .1,
             q .2,
-            goes-on (l .locals) ((c .before .before .before .before .before .before .before .before .before .before .before .before .before .before .before .args) .their-locals .now) ((c .before .before .before .before .before .before .before .before .before .before .before .before .before .before .count) .result) ((c .before .before .before .before .before .before .before .before .before .before .before .before .before .count2) .result) (l .i) ((c .before .local-word) .result) g h _ (q .0) hm (omega (arith, (c .before .before .before .before .before .before .before .before .before .before .before .before .before .before .count) .ensures)) (omega (arith, (c .before .before .before .before .before .before .before .before .before .before .before .before .before .count2) .ensures)) (omega (arith, (c .before .before .before .before .before .before .before .before .before .before .before .before .lesser) .ensures)) (omega (arith, (c .before .before .before .before .before .before .before .before .before .before .before .before .lesser) .ensures)) (q .3) 0 g h
-                ((λ j. ok (record { local = (c .before .local-word) .ensures .0 j; ours = g; theirs = h })) ∙ idle-step ((c .before .before .before .meet) .result) g h ((c .if1) .taken) ∙ meets ((c .before)) g h) refl,
+            goes-on (l .locals) (a .their-locals .now) (count .result) (count2 .result) (l .i) (local-word .result) g h _ (q .0) hm (omega (arith, count .ensures)) (omega (arith, count2 .ensures)) (omega (arith, lesser .ensures)) (omega (arith, lesser .ensures)) (q .3) 0 g h
+                ((λ j. ok (record { local = local-word .ensures .0 j; ours = g; theirs = h })) ∙ idle-step ((c .before .before .before .meet) .result) g h ((c .if1) .taken) ∙ meets ((c .before)) g h) refl,
           ),
     )
 
@@ -107,61 +113,88 @@ act-requires c κs = search needs
 
 returns : tie.Need-returns Inv-loop μ-loop
 returns c =
+    let a′ = (c .before .before .before .before .before .before .before .before .before .before .before .before .before .before .before .before .before .before .before .before .before .before .before .before .args) in
+    let count = (c .before .before .before .before .before .before .before .before .before .before .before .before .before .before .before .before .before .before .before .before .before .before .before .count) in
+    let count2 = (c .before .before .before .before .before .before .before .before .before .before .before .before .before .before .before .before .before .before .before .before .before .before .count2) in
+    let lesser = (c .before .before .before .before .before .before .before .before .before .before .before .before .before .before .before .before .before .before .before .before .before .lesser) in
+    let loop-test = (c .before .before .before .before .before .before .before .before .before .before .before .before .before .before .before .before .before .loop-test) in
+    let meet = (c .before .before .before .before .before .before .before .before .before .before .before .before .meet) in
+    let local-word = (c .before .before .before .before .before .before .before .before .before .before .local-word) in
+    let earlier = (c .before .before .before .before .before .before .before .before .before .before) in
+    let if1 = (c .before .before .before .before .before .before .before .before .before .if1) in
+    let act = (c .before .before .act) in
     let l = (c .before .before .before .before .before .before .before .before .before .before .before .before .before .before .before .before .before .before .loop) in
-    let i : l .i < (c .before .before .before .before .before .before .before .before .before .before .before .before .before .before .before .before .before .before .before .before .before .lesser) .result = (c .before .before .before .before .before .before .before .before .before .before .before .before .before .before .before .before .before .loop-test) .taken in
+    let i : l .i < lesser .result = loop-test .taken in
     λ fa fb.
     let q = l .inv .2 (fa .locals) (fb .locals) (fa .tells) (fb .tells) in
     let g = graphIn (l .names) (l .edges) (l .p .ours) in
     let h = graphIn (l .their-names) (l .their-edges) (l .p .theirs) in
-    let a = (c .before .before .act) .ensures (q .1) (q .2) in
+    let a = act .ensures (q .1) (q .2) in
     record {
-      parts = ends (l .locals) ((c .before .before .before .before .before .before .before .before .before .before .before .before .before .before .before .before .before .before .before .before .before .before .before .before .args) .their-locals .now) ((c .before .before .before .before .before .before .before .before .before .before .before .before .before .before .before .before .before .before .before .before .before .before .before .count) .result) ((c .before .before .before .before .before .before .before .before .before .before .before .before .before .before .before .before .before .before .before .before .before .before .count2) .result) (l .i) ((c .before .before .before .before .before .before .before .before .before .before .local-word) .result) g h _ (q .0) (fb .locals) (omega (arith, (c .before .before .before .before .before .before .before .before .before .before .before .before .before .before .before .before .before .before .before .before .before .before .before .count) .ensures)) (omega (arith, (c .before .before .before .before .before .before .before .before .before .before .before .before .before .before .before .before .before .before .before .before .before .before .count2) .ensures)) (omega (arith, (c .before .before .before .before .before .before .before .before .before .before .before .before .before .before .before .before .before .before .before .before .before .lesser) .ensures)) (omega (arith, (c .before .before .before .before .before .before .before .before .before .before .before .before .before .before .before .before .before .before .before .before .before .lesser) .ensures)) (q .3) ((c .before .before .act) .result .refusal) _ _
-          (a .step (localIn ((c .before .before .before .before .before .before .before .before .before .before .local-word) .result)) ∙ ap (λ (y : S.Local). acted y ((c .before .before .before .before .before .before .before .before .before .before .before .before .meet) .result .action) g h) ((c .before .before .before .before .before .before .before .before .before .before .local-word) .ensures .0) ∙ busy-step ((c .before .before .before .before .before .before .before .before .before .before .before .before .meet) .result) g h ((c .before .before .before .before .before .before .before .before .before .if1) .left) ∙ meets ((c .before .before .before .before .before .before .before .before .before .before)) g h) ((c .if2) .taken) _
-          ∙ (λ j. joinLocals (clip ((c .before .before .before .before .before .before .before .before .before .before .before .before .before .before .before .before .before .before .before .before .before .before .before .before .args) .locals .now) ((c .before .before .before .before .before .before .before .before .before .before .before .before .before .before .before .before .before .before .before .before .before .before .before .before .args) .s .«num_locals») ((c .before .before .before .before .before .before .before .before .before .before .before .before .before .before .before .before .before .before .before .before .before .before .before .count) .result) (fa .locals) ((c .before .before .before .before .before .before .before .before .before .before .before .before .before .before .before .before .before .before .before .before .before .before .before .count) .ensures) j) (clip ((c .before .before .before .before .before .before .before .before .before .before .before .before .before .before .before .before .before .before .before .before .before .before .before .before .args) .their-locals .now) ((c .before .before .before .before .before .before .before .before .before .before .before .before .before .before .before .before .before .before .before .before .before .before .before .before .args) .o .«num_locals») ((c .before .before .before .before .before .before .before .before .before .before .before .before .before .before .before .before .before .before .before .before .before .before .count2) .result) (fb .locals) ((c .before .before .before .before .before .before .before .before .before .before .before .before .before .before .before .before .before .before .before .before .before .before .count2) .ensures) j) (graphIn ((c .before .before .before .before .before .before .before .before .before .before .before .before .before .before .before .before .before .before .before .before .before .before .before .before .args) .names .now) ((c .before .before .before .before .before .before .before .before .before .before .before .before .before .before .before .before .before .before .before .before .before .before .before .before .args) .edges .now) ((c .before .before .before .before .before .before .before .before .before .before .before .before .before .before .before .before .before .before .before .before .before .before .before .before .args) .s .«borrow_graph»)) (graphIn ((c .before .before .before .before .before .before .before .before .before .before .before .before .before .before .before .before .before .before .before .before .before .before .before .before .args) .their-names .now) ((c .before .before .before .before .before .before .before .before .before .before .before .before .before .before .before .before .before .before .before .before .before .before .before .before .args) .their-edges .now) ((c .before .before .before .before .before .before .before .before .before .before .before .before .before .before .before .before .before .before .before .before .before .before .before .before .args) .o .«borrow_graph»)));
+      parts = ends (l .locals) (a′ .their-locals .now) (count .result) (count2 .result) (l .i) (local-word .result) g h _ (q .0) (fb .locals) (omega (arith, count .ensures)) (omega (arith, count2 .ensures)) (omega (arith, lesser .ensures)) (omega (arith, lesser .ensures)) (q .3) (act .result .refusal) _ _
+          (a .step (localIn (local-word .result)) ∙ ap (λ (y : S.Local). acted y (meet .result .action) g h) (local-word .ensures .0) ∙ busy-step (meet .result) g h (if1 .left) ∙ meets (earlier) g h) ((c .if2) .taken) _
+          ∙ (λ j. joinLocals (clip (a′ .locals .now) (a′ .s .«num_locals») (count .result) (fa .locals) (count .ensures) j) (clip (a′ .their-locals .now) (a′ .o .«num_locals») (count2 .result) (fb .locals) (count2 .ensures) j) (graphIn (a′ .names .now) (a′ .edges .now) (a′ .s .«borrow_graph»)) (graphIn (a′ .their-names .now) (a′ .their-edges .now) (a′ .o .«borrow_graph»)));
       locals = simp length-set (q .0);
       ours = a .ours;
       theirs = a .theirs;
     }
 
 add-i-2 : tie.Need-add-i-2 Inv-loop μ-loop
-add-i-2 c = omega (arith, (c .before .before .before .before .before .before .before .before .before .before .before .before .before .before .before .before .before .loop-test) .taken, (c .before .before .before .before .before .before .before .before .before .before .before .before .before .before .before .before .before .before .before .before .before .lesser) .ensures, (c .before .before .before .before .before .before .before .before .before .before .before .before .before .before .before .before .before .before .before .before .before .before .before .count) .ensures)
+add-i-2 c =
+    let count = (c .before .before .before .before .before .before .before .before .before .before .before .before .before .before .before .before .before .before .before .before .before .before .before .count) in
+    let lesser = (c .before .before .before .before .before .before .before .before .before .before .before .before .before .before .before .before .before .before .before .before .before .lesser) in
+    let loop-test = (c .before .before .before .before .before .before .before .before .before .before .before .before .before .before .before .before .before .loop-test) in
+    omega (arith, loop-test .taken, lesser .ensures, count .ensures)
 
 loop-less-2 : tie.Need-loop-less-2 Inv-loop μ-loop
 loop-less-2 c = omega (arith, (c .before .before .before .before .before .before .before .before .before .before .before .before .before .before .before .before .before .loop-test) .taken)
 
 loop-again-2 : tie.Need-loop-again-2 Inv-loop μ-loop
 loop-again-2 c =
+    let a′ = (c .before .before .before .before .before .before .before .before .before .before .before .before .before .before .before .before .before .before .before .before .before .before .before .before .args) in
+    let count = (c .before .before .before .before .before .before .before .before .before .before .before .before .before .before .before .before .before .before .before .before .before .before .before .count) in
+    let count2 = (c .before .before .before .before .before .before .before .before .before .before .before .before .before .before .before .before .before .before .before .before .before .before .count2) in
+    let lesser = (c .before .before .before .before .before .before .before .before .before .before .before .before .before .before .before .before .before .before .before .before .before .lesser) in
+    let loop-test = (c .before .before .before .before .before .before .before .before .before .before .before .before .before .before .before .before .before .loop-test) in
+    let meet = (c .before .before .before .before .before .before .before .before .before .before .before .before .meet) in
+    let local-word = (c .before .before .before .before .before .before .before .before .before .before .local-word) in
+    let earlier = (c .before .before .before .before .before .before .before .before .before .before) in
+    let if1 = (c .before .before .before .before .before .before .before .before .before .if1) in
+    let act = (c .before .before .act) in
     let l = (c .before .before .before .before .before .before .before .before .before .before .before .before .before .before .before .before .before .before .loop) in
-    let i : l .i < (c .before .before .before .before .before .before .before .before .before .before .before .before .before .before .before .before .before .before .before .before .before .lesser) .result = (c .before .before .before .before .before .before .before .before .before .before .before .before .before .before .before .before .before .loop-test) .taken in (
+    let i : l .i < lesser .result = loop-test .taken in (
       omega arith,
       (c .if2) .left,
       λ hl hm t u.
           let q = l .inv .2 hl hm t u in
           let g = graphIn (l .names) (l .edges) (l .p .ours) in
           let h = graphIn (l .their-names) (l .their-edges) (l .p .theirs) in
-          let a = (c .before .before .act) .ensures (q .1) (q .2) in (
+          let a = act .ensures (q .1) (q .2) in (
             simp length-set (q .0),
             a .ours,
             a .theirs,
-            goes-on (l .locals) ((c .before .before .before .before .before .before .before .before .before .before .before .before .before .before .before .before .before .before .before .before .before .before .before .before .args) .their-locals .now) ((c .before .before .before .before .before .before .before .before .before .before .before .before .before .before .before .before .before .before .before .before .before .before .before .count) .result) ((c .before .before .before .before .before .before .before .before .before .before .before .before .before .before .before .before .before .before .before .before .before .before .count2) .result) (l .i) ((c .before .before .before .before .before .before .before .before .before .before .local-word) .result) g h _ (q .0) hm (omega (arith, (c .before .before .before .before .before .before .before .before .before .before .before .before .before .before .before .before .before .before .before .before .before .before .before .count) .ensures)) (omega (arith, (c .before .before .before .before .before .before .before .before .before .before .before .before .before .before .before .before .before .before .before .before .before .before .count2) .ensures)) (omega (arith, (c .before .before .before .before .before .before .before .before .before .before .before .before .before .before .before .before .before .before .before .before .before .lesser) .ensures)) (omega (arith, (c .before .before .before .before .before .before .before .before .before .before .before .before .before .before .before .before .before .before .before .before .before .lesser) .ensures)) (q .3) ((c .before .before .act) .result .refusal) _ _
-                (a .step (localIn ((c .before .before .before .before .before .before .before .before .before .before .local-word) .result)) ∙ ap (λ (y : S.Local). acted y ((c .before .before .before .before .before .before .before .before .before .before .before .before .meet) .result .action) g h) ((c .before .before .before .before .before .before .before .before .before .before .local-word) .ensures .0) ∙ busy-step ((c .before .before .before .before .before .before .before .before .before .before .before .before .meet) .result) g h ((c .before .before .before .before .before .before .before .before .before .if1) .left) ∙ meets ((c .before .before .before .before .before .before .before .before .before .before)) g h) ((c .if2) .left),
+            goes-on (l .locals) (a′ .their-locals .now) (count .result) (count2 .result) (l .i) (local-word .result) g h _ (q .0) hm (omega (arith, count .ensures)) (omega (arith, count2 .ensures)) (omega (arith, lesser .ensures)) (omega (arith, lesser .ensures)) (q .3) (act .result .refusal) _ _
+                (a .step (localIn (local-word .result)) ∙ ap (λ (y : S.Local). acted y (meet .result .action) g h) (local-word .ensures .0) ∙ busy-step (meet .result) g h (if1 .left) ∙ meets (earlier) g h) ((c .if2) .left),
           ),
     )
 
 returns-2 : tie.Need-returns-2 Inv-loop μ-loop
 returns-2 c =
+    let a = (c .before .before .before .before .before .before .before .before .args) in
+    let count = (c .before .before .before .before .before .before .before .count) in
+    let count2 = (c .before .before .before .before .before .before .count2) in
     let l = (c .before .before .loop) in
-    let n = (c .before .before .before .before .before .before .before .count) .result in
-    let m = (c .before .before .before .before .before .before .count2) .result in
+    let n = count .result in
+    let m = count2 .result in
     let i : l .i ≡ n = omega (arith, (c .before .before .before .before .before .lesser) .ensures, (c .if3) .taken, (c .before .loop-test) .left) in
     λ fa fb.
     let q = l .inv .2 (fa .locals) (fb .locals) (fa .tells) (fb .tells) in
     record {
       parts = told-yes (l .p .refusal) _ (l .inv .1)
           ∙ end-equal _ _ (graphIn (l .names) (l .edges) (l .p .ours)) (graphIn (l .their-names) (l .their-edges) (l .p .theirs)) (map localIn (take (l .i) (l .locals))) _ (q .3)
-          (locals-end (l .locals) n n (q .0) (omega (arith, (c .before .before .before .before .before .before .before .count) .ensures)) (l .i) (omega arith)) (locals-end ((c .before .before .before .before .before .before .before .before .args) .their-locals .now) m m (fb .locals) (omega (arith, (c .before .before .before .before .before .before .count2) .ensures)) (l .i) (omega (arith, (c .if3) .taken))) _
-          (locals-all (l .locals) ((c .before .before .before .before .before .before .before .before .args) .s .«num_locals») n (q .0) ((c .before .before .before .before .before .before .before .count) .ensures) (l .i) i)
-          ∙ (λ j. joinLocals (clip ((c .before .before .before .before .before .before .before .before .args) .locals .now) ((c .before .before .before .before .before .before .before .before .args) .s .«num_locals») n (fa .locals) ((c .before .before .before .before .before .before .before .count) .ensures) j) (clip ((c .before .before .before .before .before .before .before .before .args) .their-locals .now) ((c .before .before .before .before .before .before .before .before .args) .o .«num_locals») m (fb .locals) ((c .before .before .before .before .before .before .count2) .ensures) j) (graphIn ((c .before .before .before .before .before .before .before .before .args) .names .now) ((c .before .before .before .before .before .before .before .before .args) .edges .now) ((c .before .before .before .before .before .before .before .before .args) .s .«borrow_graph»)) (graphIn ((c .before .before .before .before .before .before .before .before .args) .their-names .now) ((c .before .before .before .before .before .before .before .before .args) .their-edges .now) ((c .before .before .before .before .before .before .before .before .args) .o .«borrow_graph»)));
+          (locals-end (l .locals) n n (q .0) (omega (arith, count .ensures)) (l .i) (omega arith)) (locals-end (a .their-locals .now) m m (fb .locals) (omega (arith, count2 .ensures)) (l .i) (omega (arith, (c .if3) .taken))) _
+          (locals-all (l .locals) (a .s .«num_locals») n (q .0) (count .ensures) (l .i) i)
+          ∙ (λ j. joinLocals (clip (a .locals .now) (a .s .«num_locals») n (fa .locals) (count .ensures) j) (clip (a .their-locals .now) (a .o .«num_locals») m (fb .locals) (count2 .ensures) j) (graphIn (a .names .now) (a .edges .now) (a .s .«borrow_graph»)) (graphIn (a .their-names .now) (a .their-edges .now) (a .o .«borrow_graph»)));
       locals = q .0;
       ours = q .1;
       theirs = q .2;
@@ -169,21 +202,24 @@ returns-2 c =
 
 returns-3 : tie.Need-returns-3 Inv-loop μ-loop
 returns-3 c =
+    let a = (c .before .before .before .before .before .before .before .before .args) in
+    let count = (c .before .before .before .before .before .before .before .count) in
+    let count2 = (c .before .before .before .before .before .before .count2) in
     let l = (c .before .before .loop) in
-    let n : ℕ = (c .before .before .before .before .before .before .before .count) .result in
-    let m : ℕ = (c .before .before .before .before .before .before .count2) .result in
+    let n : ℕ = count .result in
+    let m : ℕ = count2 .result in
     let i : l .i ≡ min n m = omega (arith, (c .before .before .before .before .before .lesser) .ensures, (c .before .loop-test) .left) in
     λ fa fb.
     let q = l .inv .2 (fa .locals) (fb .locals) (fa .tells) (fb .tells) in
     let xs = localsIn (l .locals) n in
-    let ys = localsIn ((c .before .before .before .before .before .before .before .before .args) .their-locals .now) m in
-    let p : length (drop (l .i) xs) ≡ n - l .i = length-drop (l .i) xs ∙ ap (λ (k : ℕ). k - l .i) (locals-are (l .locals) n n (q .0) (omega (arith, (c .before .before .before .before .before .before .before .count) .ensures))) in
-    let r : length (drop (l .i) ys) ≡ m - l .i = length-drop (l .i) ys ∙ ap (λ (k : ℕ). k - l .i) (locals-are ((c .before .before .before .before .before .before .before .before .args) .their-locals .now) m m (fb .locals) (omega (arith, (c .before .before .before .before .before .before .count2) .ensures))) in
+    let ys = localsIn (a .their-locals .now) m in
+    let p : length (drop (l .i) xs) ≡ n - l .i = length-drop (l .i) xs ∙ ap (λ (k : ℕ). k - l .i) (locals-are (l .locals) n n (q .0) (omega (arith, count .ensures))) in
+    let r : length (drop (l .i) ys) ≡ m - l .i = length-drop (l .i) ys ∙ ap (λ (k : ℕ). k - l .i) (locals-are (a .their-locals .now) m m (fb .locals) (omega (arith, count2 .ensures))) in
     let d : (length (drop (l .i) xs) ≡ 0) ⊎ (length (drop (l .i) ys) ≡ 0) = decide (leb n m)
     (λ t. let k : n ≤ m = leb-le t in inl (omega (arith, p, i))) (λ t. let k : m < n = leb-gt t in inr (omega (arith, r, i))) in
     record {
       parts = end-unequal (drop (l .i) xs) (drop (l .i) ys) (graphIn (l .names) (l .edges) (l .p .ours)) (graphIn (l .their-names) (l .their-edges) (l .p .theirs)) (map localIn (take (l .i) (l .locals))) _ (q .3) d (λ z. (c .if3) .left (omega (arith, p, r, i)))
-          ∙ (λ j. joinLocals (clip ((c .before .before .before .before .before .before .before .before .args) .locals .now) ((c .before .before .before .before .before .before .before .before .args) .s .«num_locals») n (fa .locals) ((c .before .before .before .before .before .before .before .count) .ensures) j) (clip ((c .before .before .before .before .before .before .before .before .args) .their-locals .now) ((c .before .before .before .before .before .before .before .before .args) .o .«num_locals») m (fb .locals) ((c .before .before .before .before .before .before .count2) .ensures) j) (graphIn ((c .before .before .before .before .before .before .before .before .args) .names .now) ((c .before .before .before .before .before .before .before .before .args) .edges .now) ((c .before .before .before .before .before .before .before .before .args) .s .«borrow_graph»)) (graphIn ((c .before .before .before .before .before .before .before .before .args) .their-names .now) ((c .before .before .before .before .before .before .before .before .args) .their-edges .now) ((c .before .before .before .before .before .before .before .before .args) .o .«borrow_graph»)));
+          ∙ (λ j. joinLocals (clip (a .locals .now) (a .s .«num_locals») n (fa .locals) (count .ensures) j) (clip (a .their-locals .now) (a .o .«num_locals») m (fb .locals) (count2 .ensures) j) (graphIn (a .names .now) (a .edges .now) (a .s .«borrow_graph»)) (graphIn (a .their-names .now) (a .their-edges .now) (a .o .«borrow_graph»)));
       locals = q .0;
       ours = q .1;
       theirs = q .2;

@@ -9,10 +9,14 @@ same-value-requires : tie.Need-same-value-requires
 same-value-requires c κs = search needs
 
 returns : tie.Need-returns
-returns c = (c .same-value) .ensures ∙ same-present ((c .before .before .before .before .args) .a .present) ((c .before .before .before .before .args) .b .present) (operandOf ((c .before .before .before .before .args) .a .value)) (operandOf ((c .before .before .before .before .args) .b .value)) ((c .before .if1) .taken)
+returns c =
+    let a′ = (c .before .before .before .before .args) in
+    (c .same-value) .ensures ∙ same-present (a′ .a .present) (a′ .b .present) (operandOf (a′ .a .value)) (operandOf (a′ .b .value)) ((c .before .if1) .taken)
 
 returns-2 : tie.Need-returns-2
-returns-2 c = same-absent ((c .before .before .before .before .before .args) .a .present) ((c .before .before .before .before .before .args) .b .present) (operandOf ((c .before .before .before .before .before .args) .a .value)) (operandOf ((c .before .before .before .before .before .args) .b .value)) ((c .before .before .if1) .left)
+returns-2 c =
+    let a′ = (c .before .before .before .before .before .args) in
+    same-absent (a′ .a .present) (a′ .b .present) (operandOf (a′ .a .value)) (operandOf (a′ .b .value)) ((c .before .before .if1) .left)
 
 pub same-local-spec : {M : Type 1} → statement M
 same-local-spec = tie.close (tie.spec same-value-requires returns returns-2)

@@ -18,8 +18,10 @@ Inv-loop a b n k i₀ i = length a ≡ 16 → length b ≡ 16 → eqLocals (drop
 abbrev μ-loop : tie.MeasureT-loop
 μ-loop a b n k i₀ i = k - i
 
-turn : (c : tie.In-loop Inv-loop μ-loop) → length ((c .before .before .before .args) .a .now) ≡ 16 → length ((c .before .before .before .args) .b .now) ≡ 16 → (b : Bool) → b ≡ eqLocal (localIn (getD ((c .before .before .before .args) .a .now) ((c .before .loop) .i) 0)) (localIn (getD ((c .before .before .before .args) .b .now) ((c .before .loop) .i) 0)) →
-    b && eqLocals (drop ((c .before .loop) .i + 1) (localsIn ((c .before .before .before .args) .a .now) ((c .before .before .before .args) .n))) (drop ((c .before .loop) .i + 1) (localsIn ((c .before .before .before .args) .b .now) ((c .before .before .before .args) .n))) ≡ eqLocals (localsIn ((c .before .before .before .args) .a .now) ((c .before .before .before .args) .n)) (localsIn ((c .before .before .before .args) .b .now) ((c .before .before .before .args) .n))
+turn : (c : tie.In-loop Inv-loop μ-loop) → let a′ = (c .before .before .before .args) in
+    let loop = (c .before .loop) in
+    length (a′ .a .now) ≡ 16 → length (a′ .b .now) ≡ 16 → (b : Bool) → b ≡ eqLocal (localIn (getD (a′ .a .now) (loop .i) 0)) (localIn (getD (a′ .b .now) (loop .i) 0)) →
+    b && eqLocals (drop (loop .i + 1) (localsIn (a′ .a .now) (a′ .n))) (drop (loop .i + 1) (localsIn (a′ .b .now) (a′ .n))) ≡ eqLocals (localsIn (a′ .a .now) (a′ .n)) (localsIn (a′ .b .now) (a′ .n))
 turn c ha hb b e =
     let a = (c .before .before .before .args) in
     let l = (c .before .loop) in
@@ -69,9 +71,10 @@ returns c = λ ha hb. turn ((c .before .before .before .before .before .before))
 
 returns-2 : tie.Need-returns-2 Inv-loop μ-loop
 returns-2 c =
+    let count = (c .before .before .count) in
     let a = (c .before .before .before .args) in
     let l = (c .before .loop) in
-    λ ha hb. sym ((λ j. eqLocals (locals-end (a .a .now) (a .n) ((c .before .before .count) .result) ha ((c .before .before .count) .ensures) (l .i) (omega arith) j) (locals-end (a .b .now) (a .n) ((c .before .before .count) .result) hb ((c .before .before .count) .ensures) (l .i) (omega arith) j)) ∙ eqLocals-end) ∙ l .inv ha hb
+    λ ha hb. sym ((λ j. eqLocals (locals-end (a .a .now) (a .n) (count .result) ha (count .ensures) (l .i) (omega arith) j) (locals-end (a .b .now) (a .n) (count .result) hb (count .ensures) (l .i) (omega arith) j)) ∙ eqLocals-end) ∙ l .inv ha hb
 
 pub same-locals-spec : {M : Type 1} → statement M
 same-locals-spec =

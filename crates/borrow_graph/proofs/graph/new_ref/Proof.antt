@@ -25,7 +25,8 @@ returns c = λ es t.
     declines _ (a .names .now) es (a .g) 8 refl (sym (new-8 g (a .id .0) (a .mutable) (sym (t .formed) ∙ (c .before .before .before .if1) .taken) (sym ((c .before .holds) .ensures (t .words)) ∙ (c .if2) .taken))) t
 
 returns-2 : tie.Need-returns-2
-returns-2 c = λ es t.
+returns-2 c =
+    λ es t.
     let a = (c .before .before .before .before .before .before .args) in
     let g = graphIn (a .names .now) es (a .g) in
     declines _ (a .names .now) es (a .g) 23 refl (sym (new-23 g (a .id .0) (a .mutable) (sym (t .formed) ∙ (c .before .before .before .before .before .if1) .taken) (sym ((c .before .before .before .holds) .ensures (t .words)) ∙ (c .before .before .if2) .left) (omega (arith, names-size (a .names .now) (a .g .refs))))) t
@@ -43,13 +44,18 @@ add-t14 : tie.Need-add-t14
 add-t14 c = search needs
 
 returns-3 : tie.Need-returns-3
-returns-3 c = λ es t.
+returns-3 c =
+    let if1 = (c .before .before .before .before .before .before .before .before .before .before .before .if1) in
+    let holds = (c .before .before .before .before .before .before .before .before .before .holds) in
+    let if2 = (c .before .before .before .before .before .before .before .before .if2) in
+    let place = (c .before .before .before .before .place) in
+    λ es t.
     let a = (c .before .before .before .before .before .before .before .before .before .before .before .before .args) in
     let g = graphIn (a .names .now) es (a .g) in
     let n = namesIn (a .names .now) (a .g .refs) in
     let z = (c .before .put-at) .ensures (t .words) in
-    let y = z .0 ∙ (λ i. take ((c .before .before .before .before .place) .ensures .1 (t .words) i) n ++ ((c .before .before .before .name-word) .ensures i ∷ drop ((c .before .before .before .before .place) .ensures .1 (t .words) i) n)) in
-    let e = new-ok g (a .id .0) (a .mutable) (sym (t .formed) ∙ (c .before .before .before .before .before .before .before .before .before .before .before .if1) .taken) (sym ((c .before .before .before .before .before .before .before .before .before .holds) .ensures (t .words)) ∙ (c .before .before .before .before .before .before .before .before .if2) .left) (omega (arith, names-size (a .names .now) (a .g .refs))) _ y in
+    let y = z .0 ∙ (λ i. take (place .ensures .1 (t .words) i) n ++ ((c .before .before .before .name-word) .ensures i ∷ drop (place .ensures .1 (t .words) i) n)) in
+    let e = new-ok g (a .id .0) (a .mutable) (sym (t .formed) ∙ if1 .taken) (sym (holds .ensures (t .words)) ∙ if2 .left) (omega (arith, names-size (a .names .now) (a .g .refs))) _ y in
     record {
       answer = e;
       left = sym (ap (λ (b : Ans Graph). leaves g b) (sym e));

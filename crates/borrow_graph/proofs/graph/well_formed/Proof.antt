@@ -71,24 +71,34 @@ loop-less : tie.Need-loop-less Inv-loop μ-loop
 loop-less c = omega arith
 
 loop-again : tie.Need-loop-again Inv-loop μ-loop
-loop-again c = λ few fit.
+loop-again c =
+    let lesser = (c .before .before .before .before .before .before .before .before .before .before .before .before .before .before .lesser) in
+    let loop-test = (c .before .before .before .before .before .before .before .before .before .before .loop-test) in
+    let parent = (c .before .before .before .before .before .before .before .parent) in
+    λ few fit.
     let a = (c .before .before .before .before .before .before .before .before .before .before .before .before .before .before .before .args) in
     let l = (c .before .before .before .before .before .before .before .before .before .before .before .loop) in
     let q = pairOk (namesIn (a .names .now) (a .n)) in
     let es = edgesIn (a .edges .now) (a .m) in
-    let e = edges-step (a .edges .now) (a .m) _ (l .i) (omega (arith, edges-size (a .edges .now) (a .m), (c .before .before .before .before .before .before .before .before .before .before .before .before .before .before .lesser) .ensures, (c .before .before .before .before .before .before .before .before .before .before .loop-test) .taken)) in
-    sym (chain-on q (l .count) (rowOf (l .last)) _ (drop (l .i + 1) es) _ _ ((c .before .before .before .before .pair-ok) .ensures few ∙ (λ i. q ((c .before .before .before .before .before .before .before .parent) .ensures i) ((c .before .before .before .before .before .child) .ensures i))) ((c .before .link) .ensures) ((c .if2) .taken))
+    let e = edges-step (a .edges .now) (a .m) _ (l .i) (omega (arith, edges-size (a .edges .now) (a .m), lesser .ensures, loop-test .taken)) in
+    sym (chain-on q (l .count) (rowOf (l .last)) _ (drop (l .i + 1) es) _ _ ((c .before .before .before .before .pair-ok) .ensures few ∙ (λ i. q (parent .ensures i) ((c .before .before .before .before .before .child) .ensures i))) ((c .before .link) .ensures) ((c .if2) .taken))
     ∙ ap (chain q (l .count) (rowOf (l .last))) (sym e) ∙ l .inv few fit
 
 returns-2 : tie.Need-returns-2 Inv-loop μ-loop
-returns-2 c = λ few fit.
+returns-2 c =
+    let lesser = (c .before .before .before .before .before .before .before .before .before .before .before .before .before .before .lesser) in
+    let ascend = (c .before .before .before .before .before .before .before .before .before .before .before .before .before .ascend) in
+    let if1 = (c .before .before .before .before .before .before .before .before .before .before .before .before .if1) in
+    let loop-test = (c .before .before .before .before .before .before .before .before .before .before .loop-test) in
+    let parent = (c .before .before .before .before .before .before .before .parent) in
+    λ few fit.
     let a = (c .before .before .before .before .before .before .before .before .before .before .before .before .before .before .before .args) in
     let l = (c .before .before .before .before .before .before .before .before .before .before .before .loop) in
     let q = pairOk (namesIn (a .names .now) (a .n)) in
     let es = edgesIn (a .edges .now) (a .m) in
-    let e = edges-step (a .edges .now) (a .m) _ (l .i) (omega (arith, edges-size (a .edges .now) (a .m), (c .before .before .before .before .before .before .before .before .before .before .before .before .before .before .lesser) .ensures, (c .before .before .before .before .before .before .before .before .before .before .loop-test) .taken)) in
-    answer (a .names .now) (a .edges .now) (a .n) (a .m) few fit true false (sym ((c .before .before .before .before .before .before .before .before .before .before .before .before .before .ascend) .ensures few) ∙ not-false _ ((c .before .before .before .before .before .before .before .before .before .before .before .before .if1) .left))
-    (sym (l .inv few fit) ∙ ap (chain q (l .count) (rowOf (l .last))) e ∙ chain-off q (l .count) (rowOf (l .last)) _ (drop (l .i + 1) es) _ _ ((c .before .before .before .before .pair-ok) .ensures few ∙ (λ i. q ((c .before .before .before .before .before .before .before .parent) .ensures i) ((c .before .before .before .before .before .child) .ensures i))) ((c .before .link) .ensures) ((c .if2) .left))
+    let e = edges-step (a .edges .now) (a .m) _ (l .i) (omega (arith, edges-size (a .edges .now) (a .m), lesser .ensures, loop-test .taken)) in
+    answer (a .names .now) (a .edges .now) (a .n) (a .m) few fit true false (sym (ascend .ensures few) ∙ not-false _ (if1 .left))
+    (sym (l .inv few fit) ∙ ap (chain q (l .count) (rowOf (l .last))) e ∙ chain-off q (l .count) (rowOf (l .last)) _ (drop (l .i + 1) es) _ _ ((c .before .before .before .before .pair-ok) .ensures few ∙ (λ i. q (parent .ensures i) ((c .before .before .before .before .before .child) .ensures i))) ((c .before .link) .ensures) ((c .if2) .left))
 
 returns-3 : tie.Need-returns-3 Inv-loop μ-loop
 returns-3 c = λ few fit.

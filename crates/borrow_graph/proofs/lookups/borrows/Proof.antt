@@ -58,6 +58,8 @@ loop-less c = omega arith
 
 loop-again : tie.Need-loop-again Inv-loop μ-loop
 loop-again c =
+    let lesser = (c .before .before .before .before .before .before .before .before .before .lesser) in
+    let loop-test = (c .before .before .before .before .before .before .before .loop-test) in
     let a = (c .before .before .before .before .before .before .before .before .before .before .args) in
     let l = (c .before .before .before .before .before .before .before .before .loop) in
     let ns = namesIn (a .names .now) (a .n) in
@@ -65,7 +67,7 @@ loop-again c =
     let in′ : Borrows → List GEdge → Borrows = borrowsIn ns (a .id .0) (filterOf (a .at)) in (
       (c .add) .ensures .0 ∙ l .inv .0,
       λ few fit.
-          let e = edges-step (a .edges .now) (a .m) [] (l .i) (omega (arith, edges-size (a .edges .now) (a .m), (c .before .before .before .before .before .before .before .before .before .lesser) .ensures, (c .before .before .before .before .before .before .before .loop-test) .taken)) in
+          let e = edges-step (a .edges .now) (a .m) [] (l .i) (omega (arith, edges-size (a .edges .now) (a .m), lesser .ensures, loop-test .taken)) in
           ap (λ (s : Borrows). in′ s (drop (l .i + 1) es)) ((c .add) .ensures .1 few) ∙ borrow-hit ns (a .id .0) (filterOf (a .at)) (borrowsOf (l .found)) _ (drop (l .i + 1) es) (eq-eqb _ _ ((c .before .before .if1) .taken ∙ (c .before .before .before .before .before .parent) .ensures)) ∙ ap (in′ (borrowsOf (l .found))) (sym e) ∙ l .inv .1 few fit,
     )
 

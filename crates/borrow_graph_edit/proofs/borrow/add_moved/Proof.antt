@@ -57,16 +57,18 @@ loop-less c = omega arith
 
 loop-again : tie.Need-loop-again Inv-loop μ-loop
 loop-again c =
+    let pre = (c .before .before .before .before .before .before .before .before .before .pre) in
+    let loop-test = (c .before .before .before .before .before .before .before .loop-test) in
     let l = (c .before .before .before .before .before .before .before .before .loop) in
     let a = (c .before .before .before .before .before .before .before .before .before .args) in
     let q = moves (a .parent .0) (pathAt (a .path)) in
     let es = edgesIn (a .old .now) (a .m) in
     let y = rowOf (getD (a .old .now) (l .i) []) in (
       (c .add-edge) .ensures .0,
-      omega (arith, (c .before .before .before .before .before .before .before .loop-test) .taken),
+      omega (arith, loop-test .taken),
       λ e o ns w r p.
           let v = l .inv .2 e o ns w r p in
-          let s = keep-yes q (a .old .now) (a .m) (omega (arith, o, (c .before .before .before .before .before .before .before .before .before .pre))) (l .i) ((c .before .before .before .before .before .before .before .loop-test) .taken) [] (sym ((c .before .before .before .before .before .is-moved) .ensures) ∙ (c .before .before .before .before .if1) .taken) in
+          let s = keep-yes q (a .old .now) (a .m) (omega (arith, o, pre)) (l .i) (loop-test .taken) [] (sym ((c .before .before .before .before .before .is-moved) .ensures) ∙ (c .before .before .before .before .if1) .taken) in
           going-turn ns (edgesIn (a .edges .now) (a .k)) (a .child .0) (pathAt (a .path)) (keep q es) (l .edges) (l .n) y (keep q (drop (l .i + 1) es))
           (subst (λ (ys : List GEdge). Going ns (edgesIn (a .edges .now) (a .k)) (a .child .0) (pathAt (a .path)) (keep q es) (l .edges) (l .n) ys) s v)
           (row-short (getD (a .old .now) (l .i) [])) ((c .add-edge) .last .0) ((c .add-edge) .result) ((c .add-edge) .ensures .0)

@@ -32,8 +32,9 @@ is-moved-requires c κs = search needs
 
 returns : tie.Need-returns Inv-loop μ-loop
 returns c =
+    let a = (c .before .before .before .before .before .args) in
     let l = (c .before .before .before .before .loop) in
-    λ e. any-found (moves ((c .before .before .before .before .before .args) .parent .0) (pathAt ((c .before .before .before .before .before .args) .path))) ((c .before .before .before .before .before .args) .edges .now) ((c .before .before .before .before .before .args) .m) (omega (arith, e, (c .before .before .before .before .before .pre))) (l .i) _ (l .inv .1 e) ((c .before .before .before .loop-test) .taken) [] (sym ((c .before .is-moved) .ensures) ∙ (c .if1) .taken)
+    λ e. any-found (moves (a .parent .0) (pathAt (a .path))) (a .edges .now) (a .m) (omega (arith, e, (c .before .before .before .before .before .pre))) (l .i) _ (l .inv .1 e) ((c .before .before .before .loop-test) .taken) [] (sym ((c .before .is-moved) .ensures) ∙ (c .if1) .taken)
 
 add-i : tie.Need-add-i Inv-loop μ-loop
 add-i c = omega arith
@@ -43,8 +44,10 @@ loop-less c = omega arith
 
 loop-again : tie.Need-loop-again Inv-loop μ-loop
 loop-again c =
+    let a = (c .before .before .before .before .before .args) in
+    let loop-test = (c .before .before .before .loop-test) in
     let l = (c .before .before .before .before .loop) in
-    (omega (arith, (c .before .before .before .loop-test) .taken), λ e. any-on (moves ((c .before .before .before .before .before .args) .parent .0) (pathAt ((c .before .before .before .before .before .args) .path))) ((c .before .before .before .before .before .args) .edges .now) ((c .before .before .before .before .before .args) .m) (omega (arith, e, (c .before .before .before .before .before .pre))) (l .i) _ (l .inv .1 e) ((c .before .before .before .loop-test) .taken) [] (sym ((c .before .is-moved) .ensures) ∙ (c .if1) .left))
+    (omega (arith, loop-test .taken), λ e. any-on (moves (a .parent .0) (pathAt (a .path))) (a .edges .now) (a .m) (omega (arith, e, (c .before .before .before .before .before .pre))) (l .i) _ (l .inv .1 e) (loop-test .taken) [] (sym ((c .before .is-moved) .ensures) ∙ (c .if1) .left))
 
 returns-2 : tie.Need-returns-2 Inv-loop μ-loop
 returns-2 c =

@@ -19,6 +19,11 @@ last : (c : tie.After-add-edge) → let a = (c .before .before .before .before .
     length (a .edges .now) ≡ 96 → (ns : List Name) → wellFormed (graphWith ns es) && pairOk ns (a .parent .0) (a .child .0) ≡ true
     → (told (r .refusal) (graphWith ns (edgesIn ((c .add-edge) .last .0) (r .edges))) ≡ borrowStrong (graphWith ns es) (a .parent .0) (pathAt (a .path)) (a .child .0)) × (length ((c .add-edge) .last .0) ≡ 96)
 last c =
+    let pre = (c .before .before .before .before .before .before .before .before .before .before .before .before .pre) in
+    let none-ends-at = (c .before .before .before .before .before .before .before .before .before .before .none-ends-at) in
+    let if1 = (c .before .before .before .before .before .before .before .before .before .if1) in
+    let take-out = (c .before .before .before .before .before .before .take-out) in
+    let add-moved = (c .before .before .before .add-moved) in
     let a = (c .before .before .before .before .before .before .before .before .before .before .before .before .args) in
     let es = edgesIn (a .edges .now) (a .m) in
     let p = a .parent .0 in
@@ -26,14 +31,14 @@ last c =
     let k = a .child .0 in
     λ e ns t.
     let few : length es ≤ 96 = edges-few (a .edges .now) (a .m) e in
-    let s = sym ((c .before .before .before .before .before .before .before .before .before .before .none-ends-at) .ensures e) ∙ (c .before .before .before .before .before .before .before .before .before .if1) .taken in
-    let o = (c .before .before .before .before .before .before .take-out) .ensures .1 e in
-    let fs = edgesIn ((c .before .before .before .before .before .before .take-out) .last .0) ((c .before .before .before .before .before .before .take-out) .result) in
-    let n : length fs ≡ (c .before .before .before .before .before .before .take-out) .result = edges-count ((c .before .before .before .before .before .before .take-out) .last .0) ((c .before .before .before .before .before .before .take-out) .result) (omega (arith, o .0, (c .before .before .before .before .before .before .take-out) .ensures .0, (c .before .before .before .before .before .before .before .before .before .before .before .before .pre))) in
-    let v = (c .before .before .before .add-moved) .ensures .1 (o .0) e ns (staying-formed ns es p path k t s few fs (o .1)) (moving-fits ns es p path k t s few ((c .before .before .before .before .before .before .take-out) .result) fs n (o .1)) (moving-pairs ns es p path k t s few) in
-    let hs = edgesIn ((c .before .before .before .add-moved) .last .0) ((c .before .before .before .add-moved) .result) in
-    let d = subst (λ (x : GEdge). Added x ((c .before .before .before .add-moved) .last .0) ((c .before .before .before .add-moved) .result) ((c .add-edge) .last .0) ((c .add-edge) .result)) ((c .before .before .edge) .ensures) ((c .add-edge) .ensures .1 (v .0) (wf-neat (graphWith ns hs) (v .1 .formed))) in
-    let u = added-edits (strong ns es p path k) ((c .before .before .before .add-moved) .last .0) ((c .before .before .before .add-moved) .result) ((c .add-edge) .last .0) ((c .add-edge) .result) d ns in
+    let s = sym (none-ends-at .ensures e) ∙ if1 .taken in
+    let o = take-out .ensures .1 e in
+    let fs = edgesIn (take-out .last .0) (take-out .result) in
+    let n : length fs ≡ take-out .result = edges-count (take-out .last .0) (take-out .result) (omega (arith, o .0, take-out .ensures .0, pre)) in
+    let v = add-moved .ensures .1 (o .0) e ns (staying-formed ns es p path k t s few fs (o .1)) (moving-fits ns es p path k t s few (take-out .result) fs n (o .1)) (moving-pairs ns es p path k t s few) in
+    let hs = edgesIn (add-moved .last .0) (add-moved .result) in
+    let d = subst (λ (x : GEdge). Added x (add-moved .last .0) (add-moved .result) ((c .add-edge) .last .0) ((c .add-edge) .result)) ((c .before .before .edge) .ensures) ((c .add-edge) .ensures .1 (v .0) (wf-neat (graphWith ns hs) (v .1 .formed))) in
+    let u = added-edits (strong ns es p path k) (add-moved .last .0) (add-moved .result) ((c .add-edge) .last .0) ((c .add-edge) .result) d ns in
     (u .0 ∙ sym (strong-moved ns es p path k t s few fs hs (o .1) (v .1)), u .2)
 
 none-ends-at-requires : tie.Need-none-ends-at-requires

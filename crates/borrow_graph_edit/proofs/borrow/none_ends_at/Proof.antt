@@ -43,9 +43,12 @@ child-requires c κs = search needs
 
 returns : tie.Need-returns Inv-loop μ-loop
 returns c =
+    let a = (c .before .before .before .before .before .before .before .before .before .args) in
+    let pre = (c .before .before .before .before .before .before .before .before .before .pre) in
+    let loop-test = (c .before .before .before .before .before .before .before .loop-test) in
     let l = (c .before .before .before .before .before .before .before .before .loop) in
-    λ e. none-found (moves ((c .before .before .before .before .before .before .before .before .before .args) .parent .0) (pathAt ((c .before .before .before .before .before .before .before .before .before .args) .path))) (λ x. eqb ((c .before .before .before .before .before .before .before .before .before .args) .child .0) (x .child)) ((c .before .before .before .before .before .before .before .before .before .args) .edges .now) ((c .before .before .before .before .before .before .before .before .before .args) .m) (omega (arith, e, (c .before .before .before .before .before .before .before .before .before .pre))) (l .i) _ (l .inv .1 e) ((c .before .before .before .before .before .before .before .loop-test) .taken) []
-    ((λ i. sym ((c .before .before .before .before .before .is-moved) .ensures) i && eqb ((c .before .before .before .before .before .before .before .before .before .args) .child .0) (sym ((c .before .before .before .child) .ensures) i)) ∙ (c .if1) .taken)
+    λ e. none-found (moves (a .parent .0) (pathAt (a .path))) (λ x. eqb (a .child .0) (x .child)) (a .edges .now) (a .m) (omega (arith, e, pre)) (l .i) _ (l .inv .1 e) (loop-test .taken) []
+    ((λ i. sym ((c .before .before .before .before .before .is-moved) .ensures) i && eqb (a .child .0) (sym ((c .before .before .before .child) .ensures) i)) ∙ (c .if1) .taken)
 
 add-i : tie.Need-add-i Inv-loop μ-loop
 add-i c = omega arith
@@ -55,16 +58,20 @@ loop-less c = omega arith
 
 loop-again : tie.Need-loop-again Inv-loop μ-loop
 loop-again c =
+    let a = (c .before .before .before .before .before .before .before .before .before .args) in
+    let pre = (c .before .before .before .before .before .before .before .before .before .pre) in
+    let loop-test = (c .before .before .before .before .before .before .before .loop-test) in
     let l = (c .before .before .before .before .before .before .before .before .loop) in (
-      omega (arith, (c .before .before .before .before .before .before .before .loop-test) .taken),
-      λ e. none-on (moves ((c .before .before .before .before .before .before .before .before .before .args) .parent .0) (pathAt ((c .before .before .before .before .before .before .before .before .before .args) .path))) (λ x. eqb ((c .before .before .before .before .before .before .before .before .before .args) .child .0) (x .child)) ((c .before .before .before .before .before .before .before .before .before .args) .edges .now) ((c .before .before .before .before .before .before .before .before .before .args) .m) (omega (arith, e, (c .before .before .before .before .before .before .before .before .before .pre))) (l .i) _ (l .inv .1 e) ((c .before .before .before .before .before .before .before .loop-test) .taken) []
-          ((λ i. sym ((c .before .before .before .before .before .is-moved) .ensures) i && eqb ((c .before .before .before .before .before .before .before .before .before .args) .child .0) (sym ((c .before .before .before .child) .ensures) i)) ∙ (c .if1) .left),
+      omega (arith, loop-test .taken),
+      λ e. none-on (moves (a .parent .0) (pathAt (a .path))) (λ x. eqb (a .child .0) (x .child)) (a .edges .now) (a .m) (omega (arith, e, pre)) (l .i) _ (l .inv .1 e) (loop-test .taken) []
+          ((λ i. sym ((c .before .before .before .before .before .is-moved) .ensures) i && eqb (a .child .0) (sym ((c .before .before .before .child) .ensures) i)) ∙ (c .if1) .left),
     )
 
 returns-2 : tie.Need-returns-2 Inv-loop μ-loop
 returns-2 c =
+    let a = (c .before .before .args) in
     let l = (c .before .loop) in
-    λ e. none-all (moves ((c .before .before .args) .parent .0) (pathAt ((c .before .before .args) .path))) (λ x. eqb ((c .before .before .args) .child .0) (x .child)) ((c .before .before .args) .edges .now) ((c .before .before .args) .m) (omega (arith, e, (c .before .before .pre))) (l .i) _ (l .inv .1 e) (omega (arith, (c .loop-test) .left))
+    λ e. none-all (moves (a .parent .0) (pathAt (a .path))) (λ x. eqb (a .child .0) (x .child)) (a .edges .now) (a .m) (omega (arith, e, (c .before .before .pre))) (l .i) _ (l .inv .1 e) (omega (arith, (c .loop-test) .left))
 
 pub none-ends-at-spec : {M : Type 1} → statement M
 none-ends-at-spec =

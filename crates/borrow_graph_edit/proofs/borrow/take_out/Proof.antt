@@ -39,13 +39,15 @@ loop-less c = omega arith
 
 loop-again : tie.Need-loop-again Inv-loop μ-loop
 loop-again c =
+    let a = (c .before .before .before .before .before .args) in
+    let loop-test = (c .before .before .before .loop-test) in
     let l = (c .before .before .before .before .loop) in (
       omega (arith, l .inv .0),
-      omega (arith, (c .before .before .before .loop-test) .taken),
+      omega (arith, loop-test .taken),
       l .inv .2,
       λ e. let v = l .inv .3 e in (
         v .0,
-        keep-off (λ x. not (moves ((c .before .before .before .before .before .args) .parent .0) (pathAt ((c .before .before .before .before .before .args) .path)) x)) (l .edges) ((c .before .before .before .before .before .args) .m) (omega (arith, v .0, l .inv .2)) (l .edges) (l .j) (l .i) _ (v .1) ((c .before .before .before .loop-test) .taken) [] (ap not (sym ((c .before .is-moved) .ensures) ∙ (c .if1) .taken)),
+        keep-off (λ x. not (moves (a .parent .0) (pathAt (a .path)) x)) (l .edges) (a .m) (omega (arith, v .0, l .inv .2)) (l .edges) (l .j) (l .i) _ (v .1) (loop-test .taken) [] (ap not (sym ((c .before .is-moved) .ensures) ∙ (c .if1) .taken)),
       ),
     )
 
@@ -72,13 +74,15 @@ loop-less-2 c = omega arith
 
 loop-again-2 : tie.Need-loop-again-2 Inv-loop μ-loop
 loop-again-2 c =
+    let a = (c .before .before .before .before .before .before .args) in
+    let loop-test = (c .before .before .before .before .loop-test) in
     let l = (c .before .before .before .before .before .loop) in (
       omega (arith, l .inv .0),
-      omega (arith, (c .before .before .before .before .loop-test) .taken),
+      omega (arith, loop-test .taken),
       l .inv .2,
       λ e. let v = l .inv .3 e in (
         simp length-set (v .0),
-        keep-here (λ x. not (moves ((c .before .before .before .before .before .before .args) .parent .0) (pathAt ((c .before .before .before .before .before .before .args) .path)) x)) (l .edges) ((c .before .before .before .before .before .before .args) .m) (omega (arith, v .0, l .inv .2)) (l .j) (l .i) _ (v .1) ((c .before .before .before .before .loop-test) .taken) (l .inv .0) [] (ap not (sym ((c .before .before .is-moved) .ensures) ∙ (c .before .if1) .left)),
+        keep-here (λ x. not (moves (a .parent .0) (pathAt (a .path)) x)) (l .edges) (a .m) (omega (arith, v .0, l .inv .2)) (l .j) (l .i) _ (v .1) (loop-test .taken) (l .inv .0) [] (ap not (sym ((c .before .before .is-moved) .ensures) ∙ (c .before .if1) .left)),
       ),
     )
 

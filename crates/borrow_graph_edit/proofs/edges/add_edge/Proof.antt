@@ -53,19 +53,25 @@ add-t18 c = search needs
 
 returns-3 : tie.Need-returns-3
 returns-3 c =
+    let pre = (c .before .before .before .before .before .before .before .before .before .before .before .before .before .pre) in
+    let parent′ = (c .before .before .before .before .before .before .before .before .before .before .before .parent) in
+    let child′ = (c .before .before .before .before .before .before .before .before .before .child) in
+    let place = (c .before .before .before .before .before .before .before .place) in
+    let if2 = (c .before .before .before .before .if2) in
+    let tagged = (c .before .before .tagged) in
     let a = (c .before .before .before .before .before .before .before .before .before .before .before .before .before .args) in
     let es = edgesIn (a .edges .now) (a .m) in (
-      omega (arith, (c .before .before .before .before .if2) .left),
+      omega (arith, if2 .left),
       λ e w.
-          let n = edges-count (a .edges .now) (a .m) (omega (arith, e, (c .before .before .before .before .before .before .before .before .before .before .before .before .before .pre))) in
-          let s = (c .before .before .before .before .before .before .before .place) .ensures .1 e .1 ∙ (λ i. length (edgesAt ((c .before .before .before .before .before .before .before .before .before .before .before .parent) .ensures i) ((c .before .before .before .before .before .before .before .before .before .child) .ensures i) es)) in
-          let b = (c .before .before .before .before .before .before .before .place) .ensures .1 e .0 ∙ (λ i. length (keep (isBefore ((c .before .before .before .before .before .before .before .before .before .before .before .parent) .ensures i) ((c .before .before .before .before .before .before .before .before .before .child) .ensures i)) es)) in
-          let y : rowOf ((c .before .before .tagged) .result) ≡ record { parent = rowOf (a .t3) .parent; child = rowOf (a .t3) .child; blurred = false; edge = rowOf (a .t3) .edge } =
-          (c .before .before .tagged) .ensures ∙ (λ i. record { parent = (c .before .before .before .before .before .before .before .before .before .before .before .parent) .ensures i; child = (c .before .before .before .before .before .before .before .before .before .child) .ensures i; blurred = false; edge = rowOf (a .t3) .edge }) in
+          let n = edges-count (a .edges .now) (a .m) (omega (arith, e, pre)) in
+          let s = place .ensures .1 e .1 ∙ (λ i. length (edgesAt (parent′ .ensures i) (child′ .ensures i) es)) in
+          let b = place .ensures .1 e .0 ∙ (λ i. length (keep (isBefore (parent′ .ensures i) (child′ .ensures i)) es)) in
+          let y : rowOf (tagged .result) ≡ record { parent = rowOf (a .t3) .parent; child = rowOf (a .t3) .child; blurred = false; edge = rowOf (a .t3) .edge } =
+          tagged .ensures ∙ (λ i. record { parent = parent′ .ensures i; child = child′ .ensures i; blurred = false; edge = rowOf (a .t3) .edge }) in
           let z = c .insert-at .ensures e in (
             z .0,
-            ap {B = Ans (List GEdge)} ok (z .1 ∙ ap (λ (g : GEdge). take ((c .before .before .before .before .before .before .before .place) .result .low) es ++ (g ∷ drop ((c .before .before .before .before .before .before .before .place) .result .low) es)) y)
-                ∙ sym (first-fits es (rowOf (a .t3)) ((c .before .before .before .before .before .before .before .place) .result .low) w (row-short (a .t3)) (omega (arith, s, (c .before .before .before .before .before .if1) .left)) b (omega (arith, n, (c .before .before .before .before .if2) .left))),
+            ap {B = Ans (List GEdge)} ok (z .1 ∙ ap (λ (g : GEdge). take (place .result .low) es ++ (g ∷ drop (place .result .low) es)) y)
+                ∙ sym (first-fits es (rowOf (a .t3)) (place .result .low) w (row-short (a .t3)) (omega (arith, s, (c .before .before .before .before .before .if1) .left)) b (omega (arith, n, if2 .left))),
             λ q. absurd (q refl),
           ),
     )

@@ -64,14 +64,17 @@ add-if1 c = search needs
 
 returns : tie.Need-returns
 returns c =
+    let pre = (c .before .before .before .before .before .before .before .before .before .before .before .before .before .pre) in
+    let between = (c .before .before .before .before .before .before .between) in
+    let insert′ = (c .before .before .before .insert) in
     let a = (c .before .before .before .before .before .before .before .before .before .before .before .before .before .args) in
     let es = edgesIn (a .edges .now) (a .m) in (
-      (c .before .before .before .before .before .before .before .before .before .before .before .before .before .pre),
+      pre,
       λ e w.
-          let n = edges-count (a .edges .now) (a .m) (omega (arith, e, (c .before .before .before .before .before .before .before .before .before .before .before .before .before .pre))) in
+          let n = edges-count (a .edges .now) (a .m) (omega (arith, e, pre)) in
           let f = found (c .before .before .before) e w in
-          let k = set-count ((c .before .before .before .insert) .last .0) ((c .before .before .before .insert) .result .set .len) (f .0) in
-          (e, more-over (rowOf (a .t3)) es (setIn ((c .before .before .before .insert) .last .0) ((c .before .before .before .insert) .result .set)) (f .1) (omega (arith, n, k, f .3, (c .before .len) .ensures, c .if1 .taken, (c .before .before .before .before .before .before .between) .ensures .0)), λ z. (refl, refl)),
+          let k = set-count (insert′ .last .0) (insert′ .result .set .len) (f .0) in
+          (e, more-over (rowOf (a .t3)) es (setIn (insert′ .last .0) (insert′ .result .set)) (f .1) (omega (arith, n, k, f .3, (c .before .len) .ensures, c .if1 .taken, between .ensures .0)), λ z. (refl, refl)),
     )
 
 replace-requires : tie.Need-replace-requires
@@ -79,20 +82,27 @@ replace-requires c κs = search needs
 
 returns-2 : tie.Need-returns-2
 returns-2 c =
+    let pre = (c .before .before .before .before .before .before .before .before .before .before .before .before .before .before .before .before .pre) in
+    let parent′ = (c .before .before .before .before .before .before .before .before .before .before .before .before .before .before .parent) in
+    let child′ = (c .before .before .before .before .before .before .before .before .before .before .before .before .child) in
+    let between = (c .before .before .before .before .before .before .before .before .before .between) in
+    let insert′ = (c .before .before .before .before .before .before .insert) in
+    let len′ = (c .before .before .before .before .len) in
+    let if1 = (c .before .before .before .if1) in
     let a = (c .before .before .before .before .before .before .before .before .before .before .before .before .before .before .before .before .args) in
     let es = edgesIn (a .edges .now) (a .m) in (
-      omega (arith, c .replace .ensures .0, (c .before .before .before .if1) .left, (c .before .before .before .before .len) .ensures),
+      omega (arith, c .replace .ensures .0, if1 .left, len′ .ensures),
       λ e w.
-          let n = edges-count (a .edges .now) (a .m) (omega (arith, e, (c .before .before .before .before .before .before .before .before .before .before .before .before .before .before .before .before .pre))) in
+          let n = edges-count (a .edges .now) (a .m) (omega (arith, e, pre)) in
           let f = found (c .before .before .before .before .before .before) e w in
-          let k = set-count ((c .before .before .before .before .before .before .insert) .last .0) ((c .before .before .before .before .before .before .insert) .result .set .len) (f .0) in
-          let t = setIn ((c .before .before .before .before .before .before .insert) .last .0) ((c .before .before .before .before .before .before .insert) .result .set) in
+          let k = set-count (insert′ .last .0) (insert′ .result .set .len) (f .0) in
+          let t = setIn (insert′ .last .0) (insert′ .result .set) in
           let z = c .replace .ensures .1 e (f .0) in
-          let y = z .1 ∙ (λ i. take ((c .before .before .before .before .before .before .before .before .before .between) .result .low) es ++ (G.tagged ((c .before .before .before .before .before .before .before .before .before .before .before .before .before .before .parent) .ensures i) ((c .before .before .before .before .before .before .before .before .before .before .before .before .child) .ensures i) (t .blurred) (t .edges) ++ drop ((c .before .before .before .before .before .before .before .before .before .between) .result .low + (c .before .before .before .before .before .before .before .before .before .between) .result .set .len) es)) in (
+          let y = z .1 ∙ (λ i. take (between .result .low) es ++ (G.tagged (parent′ .ensures i) (child′ .ensures i) (t .blurred) (t .edges) ++ drop (between .result .low + between .result .set .len) es)) in (
             z .0,
             more-fits (rowOf (a .t3)) es t (f .1) _
-                (y ∙ cut-in es (rowOf (a .t3) .parent) (rowOf (a .t3) .child) ((c .before .before .before .before .before .before .before .before .before .between) .result .low) ((c .before .before .before .before .before .before .before .before .before .between) .result .set .len) t w (f .2) (f .3))
-                (omega (arith, n, k, f .3, (c .before .before .before .before .len) .ensures, (c .before .before .before .if1) .left, (c .before .before .before .before .before .before .before .before .before .between) .ensures .0)),
+                (y ∙ cut-in es (rowOf (a .t3) .parent) (rowOf (a .t3) .child) (between .result .low) (between .result .set .len) t w (f .2) (f .3))
+                (omega (arith, n, k, f .3, len′ .ensures, if1 .left, between .ensures .0)),
             λ q. absurd (q refl),
           ),
     )

@@ -23,38 +23,47 @@ joinable-requires : tie.Need-joinable-requires
 joinable-requires c κs = search needs
 
 join-all-requires : tie.Need-join-all-requires
-join-all-requires c κs = (leb-le (and-l (leb ((c .before .before .before .before .before .before .before .args) .graph .edges) 96) (leb ((c .before .before .before .before .before .before .before .args) .other .edges) 96) (fits ((c .before .before .before)))), leb-le (and-r (leb ((c .before .before .before .before .before .before .before .args) .graph .edges) 96) (leb ((c .before .before .before .before .before .before .before .args) .other .edges) 96) (fits ((c .before .before .before)))))
+join-all-requires c κs =
+    let a = (c .before .before .before .before .before .before .before .args) in
+    let earlier = (c .before .before .before) in
+    (leb-le (and-l (leb (a .graph .edges) 96) (leb (a .other .edges) 96) (fits (earlier))), leb-le (and-r (leb (a .graph .edges) 96) (leb (a .other .edges) 96) (fits (earlier))))
 
 returns : tie.Need-returns
-returns c = λ t u.
+returns c =
+    let joinable = (c .before .before .before .before .before .before .before .joinable) in
+    let join-all = (c .before .before .join-all) in
+    λ t u.
     let a = (c .before .before .before .before .before .before .before .before .before .before .args) in
     let g = graphIn (a .names .now) (a .edges .now) (a .graph) in
     let h = graphIn (a .their-names .now) (a .their-edges .now) (a .other) in
-    let r = (c .before .before .join-all) .result in
-    let e : (wellFormed g && wellFormed h) && sameNames g h ≡ true = sym ((c .before .before .before .before .before .before .before .joinable) .ensures (a .edges .now) (a .their-edges .now) t u) ∙ and-r (leb (a .graph .edges) 96 && leb (a .other .edges) 96) ((c .before .before .before .before .before .before .before .joinable) .result) ((c .before .before .before .before .before .before .if1) .taken) in
+    let r = join-all .result in
+    let e : (wellFormed g && wellFormed h) && sameNames g h ≡ true = sym (joinable .ensures (a .edges .now) (a .their-edges .now) t u) ∙ and-r (leb (a .graph .edges) 96 && leb (a .other .edges) 96) (joinable .result) ((c .before .before .before .before .before .before .if1) .taken) in
     let n = join-neat g h e in
-    let z = (c .before .before .join-all) .ensures .1 refl (t .rows) (u .rows) (n .0) (n .1) in
-    let k : Graph = record { names = g .names; edges = edgesIn ((c .before .before .join-all) .last .0) (r .edges) } in
-    let j : joinGraphs g h ≡ ok k = join-when g h e (replacedIn ((c .before .before .join-all) .last .0) r) (z .1)
-    ∙ ap (λ (b : Ans (List GEdge)). andThen {B = Graph} b (λ fs. ok (record { names = g .names; edges = fs }))) (told-yes (r .refusal) (edgesIn ((c .before .before .join-all) .last .0) (r .edges)) ((c .if2) .taken)) in
+    let z = join-all .ensures .1 refl (t .rows) (u .rows) (n .0) (n .1) in
+    let k : Graph = record { names = g .names; edges = edgesIn (join-all .last .0) (r .edges) } in
+    let j : joinGraphs g h ≡ ok k = join-when g h e (replacedIn (join-all .last .0) r) (z .1)
+    ∙ ap (λ (b : Ans (List GEdge)). andThen {B = Graph} b (λ fs. ok (record { names = g .names; edges = fs }))) (told-yes (r .refusal) (edgesIn (join-all .last .0) (r .edges)) ((c .if2) .taken)) in
     let w = answered g k (joinGraphs g h) j in
     record {
       answer = w .0;
       left = w .1;
-      tells = record { words = t .words; rows = z .0; refs = t .refs; edges = (c .before .before .join-all) .ensures .0; formed = sym (joinGraphs-law g h k j .formed) };
+      tells = record { words = t .words; rows = z .0; refs = t .refs; edges = join-all .ensures .0; formed = sym (joinGraphs-law g h k j .formed) };
     }
 
 returns-2 : tie.Need-returns-2
-returns-2 c = λ t u.
+returns-2 c =
+    let joinable = (c .before .before .before .before .before .before .before .joinable) in
+    let join-all = (c .before .before .join-all) in
+    λ t u.
     let a = (c .before .before .before .before .before .before .before .before .before .before .args) in
     let g = graphIn (a .names .now) (a .edges .now) (a .graph) in
     let h = graphIn (a .their-names .now) (a .their-edges .now) (a .other) in
-    let r = (c .before .before .join-all) .result in
-    let e : (wellFormed g && wellFormed h) && sameNames g h ≡ true = sym ((c .before .before .before .before .before .before .before .joinable) .ensures (a .edges .now) (a .their-edges .now) t u) ∙ and-r (leb (a .graph .edges) 96 && leb (a .other .edges) 96) ((c .before .before .before .before .before .before .before .joinable) .result) ((c .before .before .before .before .before .before .if1) .taken) in
+    let r = join-all .result in
+    let e : (wellFormed g && wellFormed h) && sameNames g h ≡ true = sym (joinable .ensures (a .edges .now) (a .their-edges .now) t u) ∙ and-r (leb (a .graph .edges) 96 && leb (a .other .edges) 96) (joinable .result) ((c .before .before .before .before .before .before .if1) .taken) in
     let n = join-neat g h e in
-    let z = (c .before .before .join-all) .ensures .1 refl (t .rows) (u .rows) (n .0) (n .1) in
-    let w = told-declined (r .refusal) g (joinGraphs g h) ((c .if2) .left) (join-when g h e (replacedIn ((c .before .before .join-all) .last .0) r) (z .1)
-    ∙ ap (λ (b : Ans (List GEdge)). andThen {B = Graph} b (λ fs. ok (record { names = g .names; edges = fs }))) (told-no (r .refusal) (edgesIn ((c .before .before .join-all) .last .0) (r .edges)) ((c .if2) .left))) in
+    let z = join-all .ensures .1 refl (t .rows) (u .rows) (n .0) (n .1) in
+    let w = told-declined (r .refusal) g (joinGraphs g h) ((c .if2) .left) (join-when g h e (replacedIn (join-all .last .0) r) (z .1)
+    ∙ ap (λ (b : Ans (List GEdge)). andThen {B = Graph} b (λ fs. ok (record { names = g .names; edges = fs }))) (told-no (r .refusal) (edgesIn (join-all .last .0) (r .edges)) ((c .if2) .left))) in
     record { answer = w .0; left = w .1; tells = t }
 
 returns-3 : tie.Need-returns-3

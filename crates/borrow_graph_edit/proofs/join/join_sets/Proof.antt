@@ -42,11 +42,14 @@ loop-less : tie.Need-loop-less Inv-loop μ-loop
 loop-less c = omega arith
 
 loop-again : tie.Need-loop-again Inv-loop μ-loop
-loop-again c = λ h k.
+loop-again c =
+    let a = (c .before .before .before .before .before .before .before .before .before .args) in
+    let len′ = (c .before .before .before .before .before .before .before .before .len) in
+    λ h k.
     let l = (c .before .before .before .before .before .before .loop) in
     let q = l .inv h k in
-    let few : (c .before .before .before .before .before .before .before .before .len) .result ≤ 10 = omega (arith, (c .before .before .before .before .before .before .before .before .len) .ensures) in
-    (q .0, skip-covered (setEdges ((c .before .before .before .before .before .before .before .before .before .args) .set .now) ((c .before .before .before .before .before .before .before .before .before .args) .ours .len)) ((c .before .before .before .before .before .before .before .before .before .args) .their-set .now) ((c .before .before .before .before .before .before .before .before .len) .result) (l .i) k few (setIn (l .set) (l .s)) _ (q .1) _ ((c .before .before .before .before .before .loop-test) .taken) (sym ((c .before .covers) .ensures h) ∙ (c .if1) .taken))
+    let few : len′ .result ≤ 10 = omega (arith, len′ .ensures) in
+    (q .0, skip-covered (setEdges (a .set .now) (a .ours .len)) (a .their-set .now) (len′ .result) (l .i) k few (setIn (l .set) (l .s)) _ (q .1) _ ((c .before .before .before .before .before .loop-test) .taken) (sym ((c .before .covers) .ensures h) ∙ (c .if1) .taken))
 
 insert-requires : tie.Need-insert-requires Inv-loop μ-loop
 insert-requires c κs = search needs
@@ -58,26 +61,35 @@ loop-less-2 : tie.Need-loop-less-2 Inv-loop μ-loop
 loop-less-2 c = omega arith
 
 loop-again-2 : tie.Need-loop-again-2 Inv-loop μ-loop
-loop-again-2 c = λ h k.
+loop-again-2 c =
+    let a = (c .before .before .before .before .before .before .before .before .before .before .before .before .before .before .args) in
+    let len′ = (c .before .before .before .before .before .before .before .before .before .before .before .before .before .len) in
+    let loop-test = (c .before .before .before .before .before .before .before .before .before .before .loop-test) in
+    let insert = (c .before .before .before .insert) in
+    λ h k.
     let l = (c .before .before .before .before .before .before .before .before .before .before .before .loop) in
     let q = l .inv h k in
-    let few : (c .before .before .before .before .before .before .before .before .before .before .before .before .before .len) .result ≤ 10 = omega (arith, (c .before .before .before .before .before .before .before .before .before .before .before .before .before .len) .ensures) in
-    let z = (c .before .before .before .insert) .ensures (q .0) in (
+    let few : len′ .result ≤ 10 = omega (arith, len′ .ensures) in
+    let z = insert .ensures (q .0) in (
       z .1,
-      told-on ((c .before .before .before .insert) .result .refusal) (setIn ((c .before .before .before .insert) .last .0) ((c .before .before .before .insert) .result .set)) _ _ _ (z .0 ∙ offer-ok _ _)
-          (take-uncovered (setEdges ((c .before .before .before .before .before .before .before .before .before .before .before .before .before .before .args) .set .now) ((c .before .before .before .before .before .before .before .before .before .before .before .before .before .before .args) .ours .len)) ((c .before .before .before .before .before .before .before .before .before .before .before .before .before .before .args) .their-set .now) ((c .before .before .before .before .before .before .before .before .before .before .before .before .before .len) .result) (l .i) k few (setIn (l .set) (l .s)) _ (q .1) _ ((c .before .before .before .before .before .before .before .before .before .before .loop-test) .taken) (sym ((c .before .before .before .before .before .before .covers) .ensures h) ∙ (c .before .before .before .before .before .if1) .left)) ((c .before .if2) .taken),
+      told-on (insert .result .refusal) (setIn (insert .last .0) (insert .result .set)) _ _ _ (z .0 ∙ offer-ok _ _)
+          (take-uncovered (setEdges (a .set .now) (a .ours .len)) (a .their-set .now) (len′ .result) (l .i) k few (setIn (l .set) (l .s)) _ (q .1) _ (loop-test .taken) (sym ((c .before .before .before .before .before .before .covers) .ensures h) ∙ (c .before .before .before .before .before .if1) .left)) ((c .before .if2) .taken),
     )
 
 returns : tie.Need-returns Inv-loop μ-loop
-returns c = λ h k.
+returns c =
+    let len′ = (c .before .before .before .before .before .before .before .before .before .before .before .before .len) in
+    let loop-test = (c .before .before .before .before .before .before .before .before .before .loop-test) in
+    let insert = (c .before .before .insert) in
+    λ h k.
     let l = (c .before .before .before .before .before .before .before .before .before .before .loop) in
     let a = (c .before .before .before .before .before .before .before .before .before .before .before .before .before .args) in
     let q = l .inv h k in
-    let few : (c .before .before .before .before .before .before .before .before .before .before .before .before .len) .result ≤ 10 = omega (arith, (c .before .before .before .before .before .before .before .before .before .before .before .before .len) .ensures) in
-    let z = (c .before .before .insert) .ensures (q .0) in (
-      told-off ((c .before .before .insert) .result .refusal) (setIn ((c .before .before .insert) .last .0) ((c .before .before .insert) .result .set)) _ _ _ (z .0 ∙ offer-ok _ _)
-          (take-uncovered (setEdges (a .set .now) (a .ours .len)) (a .their-set .now) ((c .before .before .before .before .before .before .before .before .before .before .before .before .len) .result) (l .i) k few (setIn (l .set) (l .s)) _ (q .1) _ ((c .before .before .before .before .before .before .before .before .before .loop-test) .taken) (sym ((c .before .before .before .before .before .covers) .ensures h) ∙ (c .before .before .before .before .if1) .left)) ((c .if2) .left) (setIn ((c .before .before .insert) .last .0) ((c .before .before .insert) .result .set))
-          ∙ ap (λ (es : List Edge). insertAll (uncovered (setEdges (a .set .now) (a .ours .len)) es) (setIn (a .set .now) (a .ours))) (set-clip (a .their-set .now) (a .theirs .len) ((c .before .before .before .before .before .before .before .before .before .before .before .before .len) .result) k ((c .before .before .before .before .before .before .before .before .before .before .before .before .len) .ensures)),
+    let few : len′ .result ≤ 10 = omega (arith, len′ .ensures) in
+    let z = insert .ensures (q .0) in (
+      told-off (insert .result .refusal) (setIn (insert .last .0) (insert .result .set)) _ _ _ (z .0 ∙ offer-ok _ _)
+          (take-uncovered (setEdges (a .set .now) (a .ours .len)) (a .their-set .now) (len′ .result) (l .i) k few (setIn (l .set) (l .s)) _ (q .1) _ (loop-test .taken) (sym ((c .before .before .before .before .before .covers) .ensures h) ∙ (c .before .before .before .before .if1) .left)) ((c .if2) .left) (setIn (insert .last .0) (insert .result .set))
+          ∙ ap (λ (es : List Edge). insertAll (uncovered (setEdges (a .set .now) (a .ours .len)) es) (setIn (a .set .now) (a .ours))) (set-clip (a .their-set .now) (a .theirs .len) (len′ .result) k (len′ .ensures)),
       z .1,
     )
 

@@ -95,6 +95,7 @@ loop-less-2 c = omega arith
 
 loop-again-2 : tie.Need-loop-again-2 Inv-loop μ-loop
 loop-again-2 c =
+    let pre = (c .before .before .before .before .before .before .before .before .before .before .pre) in
     let l = (c .before .before .before .before .before .before .before .before .before .loop) in
     let a = (c .before .before .before .before .before .before .before .before .before .before .args) in
     let o = sym ((c .before .before .before .before .before .before .side) .ensures) ∙ ap orderingOf ((c .before .before .before .before .enum-told2) .given .1) in (
@@ -106,7 +107,7 @@ loop-again-2 c =
         λ f.
             subst (λ (b : Bool). Gathers (a .parent .0) (a .child .0) (edgesIn (a .edges .now) (a .m)) (drop (l .i + 1) (edgesIn (a .edges .now) (a .m))) (l .low) (l .size + 1) (l .overflown || b) (set (l .set) (l .size) (getD (a .edges .now) (l .i) []))) (sym ((c .before .before .is-blurred) .ensures))
             (W.gathers-equal (a .parent .0) (a .child .0) (edgesIn (a .edges .now) (a .m)) _ _ (l .low) (l .size) (l .overflown) (l .set)
-            (subst (λ (xs : List GEdge). Gathers (a .parent .0) (a .child .0) (edgesIn (a .edges .now) (a .m)) xs (l .low) (l .size) (l .overflown) (l .set)) (edges-next (a .edges .now) (a .m) _ (l .i) (omega arith) (omega (arith, e, (c .before .before .before .before .before .before .before .before .before .before .pre)))) (l .inv .3 e d .1 f)) (getD (a .edges .now) (l .i) []) refl (omega (arith, l .inv .3 e d .0)) o),
+            (subst (λ (xs : List GEdge). Gathers (a .parent .0) (a .child .0) (edgesIn (a .edges .now) (a .m)) xs (l .low) (l .size) (l .overflown) (l .set)) (edges-next (a .edges .now) (a .m) _ (l .i) (omega arith) (omega (arith, e, pre))) (l .inv .3 e d .1 f)) (getD (a .edges .now) (l .i) []) refl (omega (arith, l .inv .3 e d .0)) o),
       ),
     )
 
@@ -118,6 +119,7 @@ loop-less-3 c = omega arith
 
 loop-again-3 : tie.Need-loop-again-3 Inv-loop μ-loop
 loop-again-3 c =
+    let pre = (c .before .before .before .before .before .before .before .before .before .pre) in
     let l = (c .before .before .before .before .before .before .before .before .loop) in
     let a = (c .before .before .before .before .before .before .before .before .before .args) in
     let o = sym ((c .before .before .before .before .before .side) .ensures) ∙ ap orderingOf ((c .before .before .before .enum-told2) .given .1) in (
@@ -128,7 +130,7 @@ loop-again-3 c =
         l .inv .3 e d .0,
         λ f.
             let z = W.gathers-room (a .parent .0) (a .child .0) (edgesIn (a .edges .now) (a .m)) _ _ (l .low) (l .size) (l .overflown) (l .set)
-            (subst (λ (xs : List GEdge). Gathers (a .parent .0) (a .child .0) (edgesIn (a .edges .now) (a .m)) xs (l .low) (l .size) (l .overflown) (l .set)) (edges-next (a .edges .now) (a .m) _ (l .i) (omega arith) (omega (arith, e, (c .before .before .before .before .before .before .before .before .before .pre)))) (l .inv .3 e d .1 f)) o (l .inv .3 e d .0) (l .inv .1) f in
+            (subst (λ (xs : List GEdge). Gathers (a .parent .0) (a .child .0) (edgesIn (a .edges .now) (a .m)) xs (l .low) (l .size) (l .overflown) (l .set)) (edges-next (a .edges .now) (a .m) _ (l .i) (omega arith) (omega (arith, e, pre))) (l .inv .3 e d .1 f)) o (l .inv .3 e d .0) (l .inv .1) f in
             absurd (omega (arith, z, (c .if1) .left)),
       ),
     )

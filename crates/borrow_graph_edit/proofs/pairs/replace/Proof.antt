@@ -116,23 +116,26 @@ loop-less-2 c = omega arith
 
 loop-again-2 : tie.Need-loop-again-2 Inv-loop μ-loop
 loop-again-2 c =
+    let pre = (c .before .before .before .before .before .before .pre) in
+    let len′ = (c .before .before .before .before .len) in
+    let if1 = (c .before .if1) in
     let l = (c .before .before .before .loop) in
     let a = (c .before .before .before .before .before .before .args) in
     let es = edgesIn (a .edges .now) (a .m) in
     let ds = setEdges (a .set .now) (a .s .len) in
-    let k = (c .before .before .before .before .len) .result in (
+    let k = len′ .result in (
       omega (arith, l .inv .0),
       omega arith,
       λ e d.
           let h = l .inv .2 e d in
           let n = set-count (a .set .now) (a .s .len) d in
           let i : ℕ = l .j - k - a .low in
-          let here : a .low + a .old + i ≡ l .j - k + a .old = omega (arith, (c .before .if1) .left) in (
+          let here : a .low + a .old + i ≡ l .j - k + a .old = omega (arith, if1 .left) in (
             simp length-set (h .0),
             h .1,
-            edges-push (l .edges) _ (l .j) (l .j + 1) _ refl (omega (arith, h .0, l .inv .1, (c .before .before .before .before .before .before .pre), (c .before .before .before .before .len) .ensures))
-                ∙ ap (λ (xs : List GEdge). edgesIn (l .edges) (l .j) ++ xs) (sym (exchanged-behind es (a .parent .0) (a .child .0) (a .low) (a .old) (a .s .overflown) ds (h .1) (l .j) i _ (omega (arith, n, (c .before .before .before .before .len) .ensures, (c .before .if1) .left))
-                (ap (λ (z : ℕ). drop z es) here ∙ edges-next (a .edges .now) (a .m) [] (l .j - k + a .old) (omega (arith, (c .before .if1) .left, (c .before .before .before .before .len) .ensures, (c .before .before .before .before .before .before .pre))) (omega (arith, e, (c .before .before .before .before .before .before .pre)))
+            edges-push (l .edges) _ (l .j) (l .j + 1) _ refl (omega (arith, h .0, l .inv .1, pre, len′ .ensures))
+                ∙ ap (λ (xs : List GEdge). edgesIn (l .edges) (l .j) ++ xs) (sym (exchanged-behind es (a .parent .0) (a .child .0) (a .low) (a .old) (a .s .overflown) ds (h .1) (l .j) i _ (omega (arith, n, len′ .ensures, if1 .left))
+                (ap (λ (z : ℕ). drop z es) here ∙ edges-next (a .edges .now) (a .m) [] (l .j - k + a .old) (omega (arith, if1 .left, len′ .ensures, pre)) (omega (arith, e, pre))
                 ∙ ap (λ (z : ℕ). rowOf (getD (a .edges .now) (l .j - k + a .old) []) ∷ drop (z + 1) es) (sym here))))
                 ∙ h .2,
           ),

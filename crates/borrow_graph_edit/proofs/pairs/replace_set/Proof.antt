@@ -37,14 +37,17 @@ add-if2 c = search needs
 
 returns-2 : tie.Need-returns-2
 returns-2 c =
+    let pre = (c .before .before .before .before .before .before .before .before .before .pre) in
+    let place = (c .before .before .before .before .before .before .before .place) in
+    let len′ = (c .before .before .before .before .before .len) in
     let a = (c .before .before .before .before .before .before .before .before .before .args) in
     let es = edgesIn (a .edges .now) (a .m) in (
-      (c .before .before .before .before .before .before .before .before .before .pre),
+      pre,
       λ e d w.
-          let n = edges-count (a .edges .now) (a .m) (omega (arith, e, (c .before .before .before .before .before .before .before .before .before .pre))) in (
+          let n = edges-count (a .edges .now) (a .m) (omega (arith, e, pre)) in (
             e,
-            over-told (a .new .refusal) (setIn (a .set .now) (a .new .set)) (a .shrinking) (a .parent .0) (a .child .0) es ((c .before .before .before .before .before .before .before .place) .result .size) ((c .before .before .before .before .before .len) .result)
-                ((c .before .before .before .before .before .before .before .place) .ensures .1 e .1) ((c .before .before .before .before .before .len) .ensures ∙ sym (set-count (a .set .now) (a .new .set .len) d)) ((c .before .before .if1) .left) (omega (arith, n, c .if2 .taken, (c .before .before .before .before .before .before .before .place) .ensures .0)),
+            over-told (a .new .refusal) (setIn (a .set .now) (a .new .set)) (a .shrinking) (a .parent .0) (a .child .0) es (place .result .size) (len′ .result)
+                (place .ensures .1 e .1) (len′ .ensures ∙ sym (set-count (a .set .now) (a .new .set .len) d)) ((c .before .before .if1) .left) (omega (arith, n, c .if2 .taken, place .ensures .0)),
           ),
     )
 
@@ -53,17 +56,21 @@ replace-requires c κs = search needs
 
 returns-3 : tie.Need-returns-3
 returns-3 c =
+    let pre = (c .before .before .before .before .before .before .before .before .before .before .before .pre) in
+    let place = (c .before .before .before .before .before .before .before .before .before .place) in
+    let len′ = (c .before .before .before .before .before .before .before .len) in
+    let if2 = (c .before .before .if2) in
     let a = (c .before .before .before .before .before .before .before .before .before .before .before .args) in
     let es = edgesIn (a .edges .now) (a .m) in (
-      omega (arith, c .replace .ensures .0, (c .before .before .if2) .left, (c .before .before .before .before .before .before .before .len) .ensures),
+      omega (arith, c .replace .ensures .0, if2 .left, len′ .ensures),
       λ e d w.
-          let n = edges-count (a .edges .now) (a .m) (omega (arith, e, (c .before .before .before .before .before .before .before .before .before .before .before .pre))) in
+          let n = edges-count (a .edges .now) (a .m) (omega (arith, e, pre)) in
           let z = c .replace .ensures .1 e d in (
             z .0,
-            fits-told (a .new .refusal) (setIn (a .set .now) (a .new .set)) (a .shrinking) (a .parent .0) (a .child .0) es ((c .before .before .before .before .before .before .before .before .before .place) .result .size) ((c .before .before .before .before .before .before .before .len) .result)
-                ((c .before .before .before .before .before .before .before .before .before .place) .ensures .1 e .1) ((c .before .before .before .before .before .before .before .len) .ensures ∙ sym (set-count (a .set .now) (a .new .set .len) d)) ((c .before .before .before .before .if1) .left) _
-                (z .1 ∙ cut-in es (a .parent .0) (a .child .0) ((c .before .before .before .before .before .before .before .before .before .place) .result .low) ((c .before .before .before .before .before .before .before .before .before .place) .result .size) (setIn (a .set .now) (a .new .set)) w ((c .before .before .before .before .before .before .before .before .before .place) .ensures .1 e .0) ((c .before .before .before .before .before .before .before .before .before .place) .ensures .1 e .1))
-                (omega (arith, n, (c .before .before .if2) .left, (c .before .before .before .before .before .before .before .before .before .place) .ensures .0)),
+            fits-told (a .new .refusal) (setIn (a .set .now) (a .new .set)) (a .shrinking) (a .parent .0) (a .child .0) es (place .result .size) (len′ .result)
+                (place .ensures .1 e .1) (len′ .ensures ∙ sym (set-count (a .set .now) (a .new .set .len) d)) ((c .before .before .before .before .if1) .left) _
+                (z .1 ∙ cut-in es (a .parent .0) (a .child .0) (place .result .low) (place .result .size) (setIn (a .set .now) (a .new .set)) w (place .ensures .1 e .0) (place .ensures .1 e .1))
+                (omega (arith, n, if2 .left, place .ensures .0)),
           ),
     )
 

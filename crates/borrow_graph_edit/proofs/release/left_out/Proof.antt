@@ -39,13 +39,15 @@ loop-less c = omega arith
 
 loop-again : tie.Need-loop-again Inv-loop μ-loop
 loop-again c =
+    let a = (c .before .before .before .before .before .args) in
+    let loop-test = (c .before .before .before .loop-test) in
     let l = (c .before .before .before .before .loop) in (
       omega (arith, l .inv .0),
-      omega (arith, (c .before .before .before .loop-test) .taken),
+      omega (arith, loop-test .taken),
       l .inv .2,
       λ e. let v = l .inv .3 e in (
         v .0,
-        keep-off (apart ((c .before .before .before .before .before .args) .id .0)) (l .edges) ((c .before .before .before .before .before .args) .m) (omega (arith, v .0, l .inv .2)) (l .edges) (l .j) (l .i) _ (v .1) ((c .before .before .before .loop-test) .taken) [] (sym ((c .before .touches) .ensures) ∙ ap not ((c .if1) .taken)),
+        keep-off (apart (a .id .0)) (l .edges) (a .m) (omega (arith, v .0, l .inv .2)) (l .edges) (l .j) (l .i) _ (v .1) (loop-test .taken) [] (sym ((c .before .touches) .ensures) ∙ ap not ((c .if1) .taken)),
       ),
     )
 
@@ -72,13 +74,15 @@ loop-less-2 c = omega arith
 
 loop-again-2 : tie.Need-loop-again-2 Inv-loop μ-loop
 loop-again-2 c =
+    let a = (c .before .before .before .before .before .before .args) in
+    let loop-test = (c .before .before .before .before .loop-test) in
     let l = (c .before .before .before .before .before .loop) in (
       omega (arith, l .inv .0),
-      omega (arith, (c .before .before .before .before .loop-test) .taken),
+      omega (arith, loop-test .taken),
       l .inv .2,
       λ e. let v = l .inv .3 e in (
         simp length-set (v .0),
-        keep-here (apart ((c .before .before .before .before .before .before .args) .id .0)) (l .edges) ((c .before .before .before .before .before .before .args) .m) (omega (arith, v .0, l .inv .2)) (l .j) (l .i) _ (v .1) ((c .before .before .before .before .loop-test) .taken) (l .inv .0) [] (sym ((c .before .before .touches) .ensures) ∙ ap not ((c .before .if1) .left)),
+        keep-here (apart (a .id .0)) (l .edges) (a .m) (omega (arith, v .0, l .inv .2)) (l .j) (l .i) _ (v .1) (loop-test .taken) (l .inv .0) [] (sym ((c .before .before .touches) .ensures) ∙ ap not ((c .before .if1) .left)),
       ),
     )
 

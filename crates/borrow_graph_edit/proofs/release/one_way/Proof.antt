@@ -34,11 +34,15 @@ child-requires c κs = search needs
 
 returns-2 : tie.Need-returns-2
 returns-2 c =
-    let t = (c .before .before .before .before .before .before .before .before .before .before .before .before .before .before .before .before .before .before .before .before .args) .t in
-    let rows = (c .before .before .before .before .before .before .before .before .before .before .before .before .before .before .before .before .before .before .before .before .args) .edges .now in
-    let r = (c .before .before .before .before .before .before .before .before .before .before .splice) .result in
-    λ k xs ys a b. only-way (t .to .single) (t .from .single) (rowOf (getD rows (t .to .at) [])) (rowOf (getD rows (t .from .at) [])) (rowOf (r .row)) xs ys (a .1) (b .1) (r .fits) ((c .before .before .before .before .before .before .before .before .before .before .splice) .ensures .0) ((c .before .before .before .before .before .before .before .before .before .before .splice) .ensures .1) ((c .before .before .before .before .before .before .before .before .before .before .splice) .ensures .2)
-    ((c .before .before .before .before .before .before .before .before .parent) .result .0) ((c .before .before .before .before .before .before .child) .result .0) ((c .before .before .before .before .before .before .before .before .parent) .ensures) ((c .before .before .before .before .before .before .child) .ensures) k
+    let a′ = (c .before .before .before .before .before .before .before .before .before .before .before .before .before .before .before .before .before .before .before .before .args) in
+    let splice = (c .before .before .before .before .before .before .before .before .before .before .splice) in
+    let parent = (c .before .before .before .before .before .before .before .before .parent) in
+    let child = (c .before .before .before .before .before .before .child) in
+    let t = a′ .t in
+    let rows = a′ .edges .now in
+    let r = splice .result in
+    λ k xs ys a b. only-way (t .to .single) (t .from .single) (rowOf (getD rows (t .to .at) [])) (rowOf (getD rows (t .from .at) [])) (rowOf (r .row)) xs ys (a .1) (b .1) (r .fits) (splice .ensures .0) (splice .ensures .1) (splice .ensures .2)
+    (parent .result .0) (child .result .0) (parent .ensures) (child .ensures) k
 
 pub one-way-spec : {M : Type 1} → statement M
 one-way-spec =

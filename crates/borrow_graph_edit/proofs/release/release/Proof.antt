@@ -20,27 +20,31 @@ without-requires c κs = search needs
 
 returns : tie.Need-returns
 returns c =
+    let holds′ = (c .before .before .before .before .before .before .before .before .holds) in
+    let release-edges = (c .before .before .before .before .release-edges) in
     let a = (c .before .before .before .before .before .before .before .before .before .before .args) in
     let ns = a .names .now in
     let es = a .edges .now in
     let g = graphIn ns es (a .g) in
     let n = a .id .0 in
     λ t.
-    let y = test-yes (a .g .formed) ((c .before .before .before .before .before .before .before .before .holds) .result) (a .g .edges) (wellFormed g) (holds (g .names) n) (t .formed) ((c .before .before .before .before .before .before .before .before .holds) .ensures (t .words)) ((c .before .before .before .before .before .before .if1) .taken) in
+    let y = test-yes (a .g .formed) (holds′ .result) (a .g .edges) (wellFormed g) (holds (g .names) n) (t .formed) (holds′ .ensures (t .words)) ((c .before .before .before .before .before .before .if1) .taken) in
     let u = (c .without) .ensures (t .words) in
-    answers-named (release g n) ns es (a .g) t ((c .before .before .before .before .release-edges) .last .0) ((c .before .before .before .before .release-edges) .result) ((c .before .before .before .before .release-edges) .ensures .0) (λ h e. release-law g n h e .formed)
-    (keep (other n) (g .names)) ((c .before .before .before .before .release-edges) .ensures .1 (t .rows) (g .names) y) ((c .before .before .if2) .taken) ((c .without) .last .0) ((c .without) .result) (u .0) (u .1) (u .2)
+    answers-named (release g n) ns es (a .g) t (release-edges .last .0) (release-edges .result) (release-edges .ensures .0) (λ h e. release-law g n h e .formed)
+    (keep (other n) (g .names)) (release-edges .ensures .1 (t .rows) (g .names) y) ((c .before .before .if2) .taken) ((c .without) .last .0) ((c .without) .result) (u .0) (u .1) (u .2)
 
 returns-2 : tie.Need-returns-2
 returns-2 c =
+    let holds′ = (c .before .before .before .before .before .before .holds) in
+    let release-edges = (c .before .before .release-edges) in
     let a = (c .before .before .before .before .before .before .before .before .args) in
     let ns = a .names .now in
     let es = a .edges .now in
     let g = graphIn ns es (a .g) in
     let n = a .id .0 in
     λ t.
-    let y = test-yes (a .g .formed) ((c .before .before .before .before .before .before .holds) .result) (a .g .edges) (wellFormed g) (holds (g .names) n) (t .formed) ((c .before .before .before .before .before .before .holds) .ensures (t .words)) ((c .before .before .before .before .if1) .taken) in
-    answers-refused (release g n) ns es (a .g) t ((c .before .before .release-edges) .last .0) ((c .before .before .release-edges) .result) ((c .before .before .release-edges) .ensures .0) (keep (other n) (g .names)) ((c .before .before .release-edges) .ensures .1 (t .rows) (g .names) y) ((c .if2) .left)
+    let y = test-yes (a .g .formed) (holds′ .result) (a .g .edges) (wellFormed g) (holds (g .names) n) (t .formed) (holds′ .ensures (t .words)) ((c .before .before .before .before .if1) .taken) in
+    answers-refused (release g n) ns es (a .g) t (release-edges .last .0) (release-edges .result) (release-edges .ensures .0) (keep (other n) (g .names)) (release-edges .ensures .1 (t .rows) (g .names) y) ((c .if2) .left)
 
 returns-3 : tie.Need-returns-3
 returns-3 c =

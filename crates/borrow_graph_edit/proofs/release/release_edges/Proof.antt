@@ -12,7 +12,9 @@ splice-one-way-requires : tie.Need-splice-one-way-requires
 splice-one-way-requires c κs = search needs
 
 returns : tie.Need-returns
-returns c = ((c .splice-one-way) .ensures .0, λ e ns t. (c .splice-one-way) .ensures .1 e ns t ((c .before .before .before .one-way) .ensures ((c .before .before .if1) .taken) _ _ ((c .before .before .before .before .before .touching-edges) .ensures .2 e .0) ((c .before .before .before .before .before .touching-edges) .ensures .2 e .1)))
+returns c =
+    let touching-edges = (c .before .before .before .before .before .touching-edges) in
+    ((c .splice-one-way) .ensures .0, λ e ns t. (c .splice-one-way) .ensures .1 e ns t ((c .before .before .before .one-way) .ensures ((c .before .before .if1) .taken) _ _ (touching-edges .ensures .2 e .0) (touching-edges .ensures .2 e .1)))
 
 release-through-requires : tie.Need-release-through-requires
 release-through-requires c κs = search needs

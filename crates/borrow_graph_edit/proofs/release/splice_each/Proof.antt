@@ -59,18 +59,21 @@ loop-again c =
 
 returns : tie.Need-returns Inv-loop μ-loop
 returns c =
+    let a = (c .before .before .before .before .before .before .before .before .args) in
+    let len′ = (c .before .before .before .before .before .before .before .len) in
+    let splice-one = (c .before .before .splice-one) in
     let l = (c .before .before .before .before .before .before .loop) in
-    let rows = (c .before .before .before .before .before .before .before .before .args) .parents .now in
-    let n = (c .before .before .before .before .before .before .before .len) .result in
-    let fs = setEdges ((c .before .before .before .before .before .before .before .before .args) .children .now) ((c .before .before .before .before .before .before .before .before .args) .cs .len) in
+    let rows = a .parents .now in
+    let n = len′ .result in
+    let fs = setEdges (a .children .now) (a .cs .len) in
     λ e p k.
     let v = l .inv .1 e p k in
-    let w = (c .before .before .splice-one) .ensures (v .0) k in
+    let w = splice-one .ensures (v .0) k in
     let x = rowOf (getD rows (l .i) []) .edge in
-    let g = set-step rows n [] (l .i) (omega (arith, set-count rows n p, (c .before .before .before .before .before .loop-test) .taken, (c .before .before .before .before .before .before .before .len) .ensures)) in (
+    let g = set-step rows n [] (l .i) (omega (arith, set-count rows n p, (c .before .before .before .before .before .loop-test) .taken, len′ .ensures)) in (
       w .0,
-      told-off ((c .before .before .splice-one) .result .refusal) (setIn ((c .before .before .splice-one) .last .0) ((c .before .before .splice-one) .result .set)) _ _ _ (w .1) (each-turn x _ _ x g (setIn (l .set) (l .t)) _ fs (v .1)) ((c .if1) .left) (setIn ((c .before .before .splice-one) .last .0) ((c .before .before .splice-one) .result .set))
-          ∙ ap (λ (r : List Edge). insertAll (splices r fs) (setIn ((c .before .before .before .before .before .before .before .before .args) .set .now) ((c .before .before .before .before .before .before .before .before .args) .s))) (set-cut rows ((c .before .before .before .before .before .before .before .before .args) .ps .len) n p ((c .before .before .before .before .before .before .before .len) .ensures)),
+      told-off (splice-one .result .refusal) (setIn (splice-one .last .0) (splice-one .result .set)) _ _ _ (w .1) (each-turn x _ _ x g (setIn (l .set) (l .t)) _ fs (v .1)) ((c .if1) .left) (setIn (splice-one .last .0) (splice-one .result .set))
+          ∙ ap (λ (r : List Edge). insertAll (splices r fs) (setIn (a .set .now) (a .s))) (set-cut rows (a .ps .len) n p (len′ .ensures)),
     )
 
 returns-2 : tie.Need-returns-2 Inv-loop μ-loop

@@ -67,20 +67,24 @@ loop-again c =
 
 returns : tie.Need-returns Inv-loop μ-loop
 returns c =
+    let a′ = (c .before .before .before .before .before .before .before .before .before .args) in
+    let len′ = (c .before .before .before .before .before .before .before .before .len) in
+    let loop-test = (c .before .before .before .before .before .before .loop-test) in
+    let insert = (c .before .before .insert) in
     let l = (c .before .before .before .before .before .before .before .loop) in
-    let d = rowOf ((c .before .before .before .before .before .before .before .before .before .args) .parent .now) .edge in
-    let rows = (c .before .before .before .before .before .before .before .before .before .args) .children .now in
-    let n = (c .before .before .before .before .before .before .before .before .len) .result in
+    let d = rowOf (a′ .parent .now) .edge in
+    let rows = a′ .children .now in
+    let n = len′ .result in
     let x = rowOf (getD rows (l .i) []) .edge in
     let s = setIn (l .set) (l .t) in
     λ e k.
     let v = l .inv .1 e k in
-    let w = (c .before .before .insert) .ensures (v .0) in
-    let g = set-step rows n [] (l .i) (omega (arith, set-count rows n k, (c .before .before .before .before .before .before .loop-test) .taken, (c .before .before .before .before .before .before .before .before .len) .ensures)) in (
+    let w = insert .ensures (v .0) in
+    let g = set-step rows n [] (l .i) (omega (arith, set-count rows n k, loop-test .taken, len′ .ensures)) in (
       w .1,
-      told-off ((c .before .before .insert) .result .refusal) (setIn ((c .before .before .insert) .last .0) ((c .before .before .insert) .result .set)) _ _ _
-          (w .0 ∙ ap (λ (a : Ans Edge). offer s a) ((c .before .before .before .before .splice) .ensures .0) ∙ offer-fitting s (splice d x)) (one-turn d _ _ x g s _ (v .1)) ((c .if1) .left) (setIn ((c .before .before .insert) .last .0) ((c .before .before .insert) .result .set))
-          ∙ ap (λ (r : List Edge). insertAll (map (splice d) r) (setIn ((c .before .before .before .before .before .before .before .before .before .args) .set .now) ((c .before .before .before .before .before .before .before .before .before .args) .s))) (set-cut rows ((c .before .before .before .before .before .before .before .before .before .args) .cs .len) n k ((c .before .before .before .before .before .before .before .before .len) .ensures)),
+      told-off (insert .result .refusal) (setIn (insert .last .0) (insert .result .set)) _ _ _
+          (w .0 ∙ ap (λ (a : Ans Edge). offer s a) ((c .before .before .before .before .splice) .ensures .0) ∙ offer-fitting s (splice d x)) (one-turn d _ _ x g s _ (v .1)) ((c .if1) .left) (setIn (insert .last .0) (insert .result .set))
+          ∙ ap (λ (r : List Edge). insertAll (map (splice d) r) (setIn (a′ .set .now) (a′ .s))) (set-cut rows (a′ .cs .len) n k (len′ .ensures)),
     )
 
 returns-2 : tie.Need-returns-2 Inv-loop μ-loop

@@ -57,41 +57,51 @@ loop-less c = omega arith
 
 loop-again : tie.Need-loop-again Inv-loop μ-loop
 loop-again c =
+    let pre = (c .before .before .before .before .before .before .before .before .before .before .before .before .before .before .before .pre) in
+    let loop-test = (c .before .before .before .before .before .before .before .before .before .before .before .before .before .loop-test) in
+    let parent′ = (c .before .before .before .before .before .before .before .before .before .before .before .parent) in
+    let child′ = (c .before .before .before .before .before .before .before .before .before .child) in
+    let splice-row = (c .before .before .splice-row) in
     let a = (c .before .before .before .before .before .before .before .before .before .before .before .before .before .before .before .args) in
     let l = (c .before .before .before .before .before .before .before .before .before .before .before .before .before .before .loop) in
     let es = edgesIn (a .old .now) (a .m) in
     let new = spliceSet es (a .id .0) in
     let f = childRow es (a .id .0) in (
-      (c .before .before .splice-row) .ensures .0,
-      omega (arith, (c .before .before .before .before .before .before .before .before .before .before .before .before .before .loop-test) .taken),
+      splice-row .ensures .0,
+      omega (arith, loop-test .taken),
       λ e o k n.
           let v = l .inv .2 e o k n in
-          let w = (c .before .before .splice-row) .ensures .1 (v .0) o (v .1) n in
-          let s = edges-next (a .old .now) (a .m) [] (l .i) ((c .before .before .before .before .before .before .before .before .before .before .before .before .before .loop-test) .taken) (omega (arith, o, (c .before .before .before .before .before .before .before .before .before .before .before .before .before .before .before .pre))) in
-          let u = parent-turn (a .shrinking) new (a .id .0) (l .last .0) f (edgesIn (l .edges) (l .n)) _ _ ((c .before .before .before .before .before .before .before .before .before .before .before .parent) .result .0) ((c .before .before .before .before .before .before .before .before .before .child) .result .0) (rowOf (getD (a .old .now) (l .i) [])) _ s ((c .before .before .before .before .before .before .before .before .before .before .before .parent) .ensures) ((c .before .before .before .before .before .before .before .before .before .child) .ensures) (v .2) ((c .before .before .before .before .if1) .taken) in
-          let r = (c .before .before .splice-row) .result in
-          let fs = edgesIn ((c .before .before .splice-row) .last .0) (r .edges) in (
+          let w = splice-row .ensures .1 (v .0) o (v .1) n in
+          let s = edges-next (a .old .now) (a .m) [] (l .i) (loop-test .taken) (omega (arith, o, pre)) in
+          let u = parent-turn (a .shrinking) new (a .id .0) (l .last .0) f (edgesIn (l .edges) (l .n)) _ _ (parent′ .result .0) (child′ .result .0) (rowOf (getD (a .old .now) (l .i) [])) _ s (parent′ .ensures) (child′ .ensures) (v .2) ((c .before .before .before .before .if1) .taken) in
+          let r = splice-row .result in
+          let fs = edgesIn (splice-row .last .0) (r .edges) in (
             w .0,
-            pass-neat (a .shrinking) new (spliceSet-ok es (a .id .0) n) (f (record { parent = (c .before .before .before .before .before .before .before .before .before .before .before .parent) .result .0; child = a .id .0 })) (edgesIn (l .edges) (l .n)) fs (v .1) (sym (w .1) ∙ told-yes (r .refusal) fs ((c .if2) .taken)),
+            pass-neat (a .shrinking) new (spliceSet-ok es (a .id .0) n) (f (record { parent = parent′ .result .0; child = a .id .0 })) (edgesIn (l .edges) (l .n)) fs (v .1) (sym (w .1) ∙ told-yes (r .refusal) fs ((c .if2) .taken)),
             told-on (r .refusal) fs _ _ _ (w .1) u ((c .if2) .taken),
           ),
     )
 
 returns : tie.Need-returns Inv-loop μ-loop
 returns c =
+    let pre = (c .before .before .before .before .before .before .before .before .before .before .before .before .before .before .before .pre) in
+    let loop-test = (c .before .before .before .before .before .before .before .before .before .before .before .before .before .loop-test) in
+    let parent = (c .before .before .before .before .before .before .before .before .before .before .before .parent) in
+    let child = (c .before .before .before .before .before .before .before .before .before .child) in
+    let splice-row = (c .before .before .splice-row) in
     let a = (c .before .before .before .before .before .before .before .before .before .before .before .before .before .before .before .args) in
     let l = (c .before .before .before .before .before .before .before .before .before .before .before .before .before .before .loop) in
     let es = edgesIn (a .old .now) (a .m) in
     let new = spliceSet es (a .id .0) in
     let f = childRow es (a .id .0) in (
-      (c .before .before .splice-row) .ensures .0,
+      splice-row .ensures .0,
       λ e o k n.
           let v = l .inv .2 e o k n in
-          let w = (c .before .before .splice-row) .ensures .1 (v .0) o (v .1) n in
-          let s = edges-next (a .old .now) (a .m) [] (l .i) ((c .before .before .before .before .before .before .before .before .before .before .before .before .before .loop-test) .taken) (omega (arith, o, (c .before .before .before .before .before .before .before .before .before .before .before .before .before .before .before .pre))) in
-          let u = parent-turn (a .shrinking) new (a .id .0) (l .last .0) f (edgesIn (l .edges) (l .n)) _ _ ((c .before .before .before .before .before .before .before .before .before .before .before .parent) .result .0) ((c .before .before .before .before .before .before .before .before .before .child) .result .0) (rowOf (getD (a .old .now) (l .i) [])) _ s ((c .before .before .before .before .before .before .before .before .before .before .before .parent) .ensures) ((c .before .before .before .before .before .before .before .before .before .child) .ensures) (v .2) ((c .before .before .before .before .if1) .taken) in
-          let r = (c .before .before .splice-row) .result in
-          let fs = edgesIn ((c .before .before .splice-row) .last .0) (r .edges) in
+          let w = splice-row .ensures .1 (v .0) o (v .1) n in
+          let s = edges-next (a .old .now) (a .m) [] (l .i) (loop-test .taken) (omega (arith, o, pre)) in
+          let u = parent-turn (a .shrinking) new (a .id .0) (l .last .0) f (edgesIn (l .edges) (l .n)) _ _ (parent .result .0) (child .result .0) (rowOf (getD (a .old .now) (l .i) [])) _ s (parent .ensures) (child .ensures) (v .2) ((c .before .before .before .before .if1) .taken) in
+          let r = splice-row .result in
+          let fs = edgesIn (splice-row .last .0) (r .edges) in
           (w .0, told-off (r .refusal) fs _ _ _ (w .1) u ((c .if2) .left) fs),
     )
 
@@ -103,17 +113,21 @@ loop-less-2 c = omega arith
 
 loop-again-2 : tie.Need-loop-again-2 Inv-loop μ-loop
 loop-again-2 c =
+    let pre = (c .before .before .before .before .before .before .before .before .before .before .before .pre) in
+    let loop-test = (c .before .before .before .before .before .before .before .before .before .loop-test) in
+    let parent = (c .before .before .before .before .before .before .before .parent) in
+    let child = (c .before .before .before .before .before .child) in
     let a = (c .before .before .before .before .before .before .before .before .before .before .before .args) in
     let l = (c .before .before .before .before .before .before .before .before .before .before .loop) in
     let es = edgesIn (a .old .now) (a .m) in
     let new = spliceSet es (a .id .0) in
     let f = childRow es (a .id .0) in (
       l .inv .0,
-      omega (arith, (c .before .before .before .before .before .before .before .before .before .loop-test) .taken),
+      omega (arith, loop-test .taken),
       λ e o k n.
           let v = l .inv .2 e o k n in
-          let s = edges-next (a .old .now) (a .m) [] (l .i) ((c .before .before .before .before .before .before .before .before .before .loop-test) .taken) (omega (arith, o, (c .before .before .before .before .before .before .before .before .before .before .before .pre))) in
-          (v .0, v .1, parent-skip (a .shrinking) new (a .id .0) (l .last .0) f (edgesIn (l .edges) (l .n)) _ _ ((c .before .before .before .before .before .before .before .parent) .result .0) ((c .before .before .before .before .before .child) .result .0) (rowOf (getD (a .old .now) (l .i) [])) _ s ((c .before .before .before .before .before .before .before .parent) .ensures) ((c .before .before .before .before .before .child) .ensures) (v .2) ((c .if1) .left)),
+          let s = edges-next (a .old .now) (a .m) [] (l .i) (loop-test .taken) (omega (arith, o, pre)) in
+          (v .0, v .1, parent-skip (a .shrinking) new (a .id .0) (l .last .0) f (edgesIn (l .edges) (l .n)) _ _ (parent .result .0) (child .result .0) (rowOf (getD (a .old .now) (l .i) [])) _ s (parent .ensures) (child .ensures) (v .2) ((c .if1) .left)),
     )
 
 returns-2 : tie.Need-returns-2 Inv-loop μ-loop

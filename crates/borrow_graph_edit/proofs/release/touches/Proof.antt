@@ -17,7 +17,9 @@ child-requires : tie.Need-child-requires
 child-requires c κs = search needs
 
 returns : tie.Need-returns
-returns c = (λ i. not (eqb ((c .before .before .before .before .before .before .args) .id .0) ((c .before .before .before .before .before .parent) .ensures i) || eqb ((c .before .before .before .before .before .before .args) .id .0) ((c .before .before .before .before .child) .ensures i))) ∙ not-or (eqb ((c .before .before .before .before .before .before .args) .id .0) (rowOf ((c .before .before .before .before .before .before .args) .x .now) .parent)) (eqb ((c .before .before .before .before .before .before .args) .id .0) (rowOf ((c .before .before .before .before .before .before .args) .x .now) .child))
+returns c =
+    let a = (c .before .before .before .before .before .before .args) in
+    (λ i. not (eqb (a .id .0) ((c .before .before .before .before .before .parent) .ensures i) || eqb (a .id .0) ((c .before .before .before .before .child) .ensures i))) ∙ not-or (eqb (a .id .0) (rowOf (a .x .now) .parent)) (eqb (a .id .0) (rowOf (a .x .now) .child))
 
 pub touches-spec : {M : Type 1} → statement M
 touches-spec = tie.close (tie.spec parent-requires child-requires returns)

@@ -39,13 +39,15 @@ loop-less c = omega arith
 
 loop-again : tie.Need-loop-again Inv-loop μ-loop
 loop-again c =
+    let a = (c .before .before .before .before .before .args) in
+    let loop-test = (c .before .before .before .loop-test) in
     let l = (c .before .before .before .before .loop) in (
       omega (arith, l .inv .0),
-      omega (arith, (c .before .before .before .loop-test) .taken),
+      omega (arith, loop-test .taken),
       l .inv .2,
       λ e o. let v = l .inv .3 e o in (
         v .0,
-        keep-off (apart ((c .before .before .before .before .before .args) .id .0)) ((c .before .before .before .before .before .args) .old .now) ((c .before .before .before .before .before .args) .m) (omega (arith, o, l .inv .2)) (l .edges) (l .j) (l .i) _ (v .1) ((c .before .before .before .loop-test) .taken) [] (sym ((c .before .touches) .ensures) ∙ ap not ((c .if1) .taken)),
+        keep-off (apart (a .id .0)) (a .old .now) (a .m) (omega (arith, o, l .inv .2)) (l .edges) (l .j) (l .i) _ (v .1) (loop-test .taken) [] (sym ((c .before .touches) .ensures) ∙ ap not ((c .if1) .taken)),
       ),
     )
 
@@ -72,13 +74,15 @@ loop-less-2 c = omega arith
 
 loop-again-2 : tie.Need-loop-again-2 Inv-loop μ-loop
 loop-again-2 c =
+    let a = (c .before .before .before .before .before .before .args) in
+    let loop-test = (c .before .before .before .before .loop-test) in
     let l = (c .before .before .before .before .before .loop) in (
       omega (arith, l .inv .0),
-      omega (arith, (c .before .before .before .before .loop-test) .taken),
+      omega (arith, loop-test .taken),
       l .inv .2,
       λ e o. let v = l .inv .3 e o in (
         simp length-set (v .0),
-        keep-on (apart ((c .before .before .before .before .before .before .args) .id .0)) ((c .before .before .before .before .before .before .args) .old .now) ((c .before .before .before .before .before .before .args) .m) (omega (arith, o, l .inv .2)) (l .edges) (l .j) (l .i) _ (v .1) ((c .before .before .before .before .loop-test) .taken) [] (sym ((c .before .before .touches) .ensures) ∙ ap not ((c .before .if1) .left)) (omega (arith, v .0, l .inv .0, l .inv .2, (c .before .before .before .before .loop-test) .taken)),
+        keep-on (apart (a .id .0)) (a .old .now) (a .m) (omega (arith, o, l .inv .2)) (l .edges) (l .j) (l .i) _ (v .1) (loop-test .taken) [] (sym ((c .before .before .touches) .ensures) ∙ ap not ((c .before .if1) .left)) (omega (arith, v .0, l .inv .0, l .inv .2, loop-test .taken)),
       ),
     )
 

@@ -113,7 +113,9 @@ borrow-element-requires : tie.Need-borrow-element-requires
 borrow-element-requires c κs = search needs
 
 returns : tie.Need-returns
-returns c = stepped ((c .before .before .before .before .before .before .args) .returns) ((c .before .before .before .before .before .before .args) .d) ((c .before .before .before .before .enum-told) .given .1) ((c .pop-top) .ensures ((c .before .before .before .before .before .before .args) .locals .now))
+returns c =
+    let a = (c .before .before .before .before .before .before .args) in
+    stepped (a .returns) (a .d) ((c .before .before .before .before .enum-told) .given .1) ((c .pop-top) .ensures (a .locals .now))
 
 returns-2 : tie.Need-returns-2
 returns-2 c = stepped ((c .before .before .before .before .before .before .before .before .args) .returns) ((c .before .before .before .before .before .before .before .before .args) .d) ((c .before .before .before .before .before .before .i) .given .1) ((c .copy-loc) .ensures)
@@ -125,46 +127,73 @@ returns-4 : tie.Need-returns-4
 returns-4 c = stepped ((c .before .before .before .before .before .before .before .before .args) .returns) ((c .before .before .before .before .before .before .before .before .args) .d) ((c .before .before .before .before .before .before .i3) .given .1) ((c .st-loc) .ensures)
 
 returns-5 : tie.Need-returns-5
-returns-5 c = stepped ((c .before .before .before .before .before .before .args) .returns) ((c .before .before .before .before .before .before .args) .d) ((c .before .before .before .before .enum-told2) .given .1) ((c .freeze-ref) .ensures ((c .before .before .before .before .before .before .args) .locals .now))
+returns-5 c =
+    let a = (c .before .before .before .before .before .before .args) in
+    stepped (a .returns) (a .d) ((c .before .before .before .before .enum-told2) .given .1) ((c .freeze-ref) .ensures (a .locals .now))
 
 returns-6 : tie.Need-returns-6
-returns-6 c = stepped ((c .before .before .before .before .before .before .args) .returns) ((c .before .before .before .before .before .before .args) .d) ((c .before .before .before .before .enum-told3) .given .1) ((c .compare) .ensures ((c .before .before .before .before .before .before .args) .locals .now))
+returns-6 c =
+    let a = (c .before .before .before .before .before .before .args) in
+    stepped (a .returns) (a .d) ((c .before .before .before .before .enum-told3) .given .1) ((c .compare) .ensures (a .locals .now))
 
 returns-7 : tie.Need-returns-7
-returns-7 c = stepped ((c .before .before .before .before .before .before .args) .returns) ((c .before .before .before .before .before .before .args) .d) ((c .before .before .before .before .enum-told4) .given .1) ((c .read-ref) .ensures ((c .before .before .before .before .before .before .args) .locals .now))
+returns-7 c =
+    let a = (c .before .before .before .before .before .before .args) in
+    stepped (a .returns) (a .d) ((c .before .before .before .before .enum-told4) .given .1) ((c .read-ref) .ensures (a .locals .now))
 
 returns-8 : tie.Need-returns-8
-returns-8 c = stepped ((c .before .before .before .before .before .before .args) .returns) ((c .before .before .before .before .before .before .args) .d) ((c .before .before .before .before .enum-told5) .given .1) ((c .write-ref) .ensures ((c .before .before .before .before .before .before .args) .locals .now))
+returns-8 c =
+    let a = (c .before .before .before .before .before .before .args) in
+    stepped (a .returns) (a .d) ((c .before .before .before .before .enum-told5) .given .1) ((c .write-ref) .ensures (a .locals .now))
 
 returns-9 : tie.Need-returns-9
-returns-9 c = stepped ((c .before .before .before .before .before .before .before .args) .returns) ((c .before .before .before .before .before .before .before .args) .d) ((c .before .before .before .before .before .i4) .given .1) ((c .borrow-loc) .ensures ((c .before .before .before .before .before .before .before .args) .locals .now))
+returns-9 c =
+    let a = (c .before .before .before .before .before .before .before .args) in
+    stepped (a .returns) (a .d) ((c .before .before .before .before .before .i4) .given .1) ((c .borrow-loc) .ensures (a .locals .now))
 
 returns-10 : tie.Need-returns-10
-returns-10 c = stepped ((c .before .before .before .before .before .before .before .args) .returns) ((c .before .before .before .before .before .before .before .args) .d) ((c .before .before .before .before .before .i5) .given .1) ((c .borrow-field) .ensures ((c .before .before .before .before .before .before .before .args) .locals .now))
+returns-10 c =
+    let a = (c .before .before .before .before .before .before .before .args) in
+    stepped (a .returns) (a .d) ((c .before .before .before .before .before .i5) .given .1) ((c .borrow-field) .ensures (a .locals .now))
 
 returns-11 : tie.Need-returns-11
-returns-11 c = stepped ((c .before .before .before .before .before .before .before .args) .returns) ((c .before .before .before .before .before .before .before .args) .d) ((c .before .before .before .before .before .i6) .given .1) ((c .borrow-global) .ensures ((c .before .before .before .before .before .before .before .args) .locals .now))
+returns-11 c =
+    let a = (c .before .before .before .before .before .before .before .args) in
+    stepped (a .returns) (a .d) ((c .before .before .before .before .before .i6) .given .1) ((c .borrow-global) .ensures (a .locals .now))
 
 returns-12 : tie.Need-returns-12
-returns-12 c = stepped ((c .before .before .before .before .before .before .before .args) .returns) ((c .before .before .before .before .before .before .before .args) .d) ((c .before .before .before .before .before .i7) .given .1) ((c .move-from) .ensures ((c .before .before .before .before .before .before .before .args) .locals .now))
+returns-12 c =
+    let a = (c .before .before .before .before .before .before .before .args) in
+    stepped (a .returns) (a .d) ((c .before .before .before .before .before .i7) .given .1) ((c .move-from) .ensures (a .locals .now))
 
 returns-13 : tie.Need-returns-13
-returns-13 c = stepped ((c .before .before .before .before .before .before .before .before .before .args) .returns) ((c .before .before .before .before .before .before .before .before .before .args) .d) ((c .before .before .before .before .before .before .before .i8) .given .1) ((c .call) .ensures ((c .before .before .before .before .before .before .before .before .before .args) .locals .now))
+returns-13 c =
+    let a = (c .before .before .before .before .before .before .before .before .before .args) in
+    let i8 = (c .before .before .before .before .before .before .before .i8) in
+    stepped (a .returns) (a .d) (i8 .given .1) ((c .call) .ensures (a .locals .now))
 
 returns-14 : tie.Need-returns-14
 returns-14 c = stepped ((c .before .before .before .before .before .before .before .args) .returns) ((c .before .before .before .before .before .before .before .args) .d) ((c .before .before .before .before .before .enum-told6) .given .1) ((c .ret) .ensures)
 
 returns-15 : tie.Need-returns-15
-returns-15 c = stepped ((c .before .before .before .before .before .before .args) .returns) ((c .before .before .before .before .before .before .args) .d) ((c .before .before .before .before .i9) .given .1) ((c .values) .ensures ((c .before .before .before .before .before .before .args) .locals .now) ((c .before .before .before .before .before .before .args) .edges .now))
+returns-15 c =
+    let a = (c .before .before .before .before .before .before .args) in
+    stepped (a .returns) (a .d) ((c .before .before .before .before .i9) .given .1) ((c .values) .ensures (a .locals .now) (a .edges .now))
 
 returns-16 : tie.Need-returns-16
-returns-16 c = stepped ((c .before .before .before .before .before .before .args) .returns) ((c .before .before .before .before .before .before .args) .d) ((c .before .before .before .before .enum-told7) .given .1) ((c .move-to) .ensures ((c .before .before .before .before .before .before .args) .locals .now))
+returns-16 c =
+    let a = (c .before .before .before .before .before .before .args) in
+    stepped (a .returns) (a .d) ((c .before .before .before .before .enum-told7) .given .1) ((c .move-to) .ensures (a .locals .now))
 
 returns-17 : tie.Need-returns-17
-returns-17 c = stepped ((c .before .before .before .before .before .before .before .args) .returns) ((c .before .before .before .before .before .before .before .args) .d) ((c .before .before .before .before .before .i10) .given .1) ((c .vector-op) .ensures ((c .before .before .before .before .before .before .before .args) .locals .now))
+returns-17 c =
+    let a = (c .before .before .before .before .before .before .before .args) in
+    stepped (a .returns) (a .d) ((c .before .before .before .before .before .i10) .given .1) ((c .vector-op) .ensures (a .locals .now))
 
 returns-18 : tie.Need-returns-18
-returns-18 c = stepped ((c .before .before .before .before .before .before .before .args) .returns) ((c .before .before .before .before .before .before .before .args) .d) ((c .before .before .before .before .before .i11) .given .1) ((c .borrow-element) .ensures ((c .before .before .before .before .before .before .before .args) .locals .now))
+returns-18 c =
+    let a = (c .before .before .before .before .before .before .before .args) in
+    stepped (a .returns) (a .d) ((c .before .before .before .before .before .i11) .given .1) ((c .borrow-element) .ensures (a .locals .now))
 
 pub execute-spec : {M : Type 1} → statement M
 execute-spec =

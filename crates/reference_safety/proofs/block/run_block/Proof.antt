@@ -35,11 +35,13 @@ cast-k c = omega arith
 
 loop-holds : tie.Need-loop-holds Inv-loop μ-loop
 loop-holds c =
+    let code-len = (c .before .before .before .code-len) in
+    let lesser = (c .before .lesser) in
     let a = (c .before .before .before .before .before .before .before .args) in
     let m = (c .before .before .before .before .before .begin) in
     let q = routineOf (a .listing .now) (a .code .now) (a .routine) in
-    begins q (blockOf (a .b)) ((c .before .lesser) .result) (board (a .locals .now) (a .names .now) (a .edges .now) _ (m .result)) (stateIn (a .routine .locals) (words (a .locals .now) (a .names .now) (a .edges .now) (a .state))) (going (m .result .state .violation) (m .result .state .refusal) (m .ensures .1) (m .ensures .2)) refl (m .ensures .0)
-    (m .ensures .4 (a .locals .now) (a .names .now) (a .edges .now)) (omega (arith, (c .before .before .before .code-len) .ensures .1, code-length (decodedAt (a .listing .now)) (a .code .now) (a .routine .«code_count»), (c .before .before .before .code-len) .ensures .0, (c .before .lesser) .ensures, (c .before .before .past) .ensures))
+    begins q (blockOf (a .b)) (lesser .result) (board (a .locals .now) (a .names .now) (a .edges .now) _ (m .result)) (stateIn (a .routine .locals) (words (a .locals .now) (a .names .now) (a .edges .now) (a .state))) (going (m .result .state .violation) (m .result .state .refusal) (m .ensures .1) (m .ensures .2)) refl (m .ensures .0)
+    (m .ensures .4 (a .locals .now) (a .names .now) (a .edges .now)) (omega (arith, code-len .ensures .1, code-length (decodedAt (a .listing .now)) (a .code .now) (a .routine .«code_count»), code-len .ensures .0, lesser .ensures, (c .before .before .past) .ensures))
 
 mul-decode : tie.Need-mul-decode Inv-loop μ-loop
 mul-decode c = omega arith
@@ -61,24 +63,38 @@ loop-less c = omega arith
 
 loop-again : tie.Need-loop-again Inv-loop μ-loop
 loop-again c =
+    let code-len = (c .before .before .before .before .before .before .before .before .before .before .before .before .before .before .before .before .code-len) in
+    let lesser = (c .before .before .before .before .before .before .before .before .before .before .before .before .before .before .lesser) in
+    let loop = (c .before .before .before .before .before .before .before .before .before .before .before .before .loop) in
+    let loop-test = (c .before .before .before .before .before .before .before .before .before .before .before .loop-test) in
+    let decode = (c .before .before .before .before .before .before .before .before .before .decode) in
     let a = (c .before .before .before .before .before .before .before .before .before .before .before .before .before .before .before .before .before .before .before .before .args) in
-    let k = (c .before .before .before .before .before .before .before .before .before .before .before .before .loop) .k in
-    turns (decodedAt (a .listing .now) (getD (a .code .now) k 0)) (decodedOf ((c .before .before .before .before .before .before .before .before .before .decode) .result))
-    (next-instr (decodedAt (a .listing .now)) (a .code .now) (a .routine .«code_count») ((c .before .before .before .before .before .before .before .before .before .before .before .before .before .before .lesser) .result) k ((c .before .before .before .before .before .before .before .before .before .before .before .loop-test) .taken) (omega (arith, (c .before .before .before .before .before .before .before .before .before .before .before .before .before .before .before .before .code-len) .ensures .1, code-length (decodedAt (a .listing .now)) (a .code .now) (a .routine .«code_count»), (c .before .before .before .before .before .before .before .before .before .before .before .before .before .before .before .before .code-len) .ensures .0, (c .before .before .before .before .before .before .before .before .before .before .before .before .before .before .lesser) .ensures)))
-    ((c .before .before .before .before .before .before .before .before .before .decode) .ensures) ((c .before .before .before .before .execute) .ensures) ((c .before .before .before .before .before .before .before .before .before .before .before .before .loop) .inv) ((c .if1) .taken)
+    let k = loop .k in
+    turns (decodedAt (a .listing .now) (getD (a .code .now) k 0)) (decodedOf (decode .result))
+    (next-instr (decodedAt (a .listing .now)) (a .code .now) (a .routine .«code_count») (lesser .result) k (loop-test .taken) (omega (arith, code-len .ensures .1, code-length (decodedAt (a .listing .now)) (a .code .now) (a .routine .«code_count»), code-len .ensures .0, lesser .ensures)))
+    (decode .ensures) ((c .before .before .before .before .execute) .ensures) (loop .inv) ((c .if1) .taken)
 
 cast-t30 : tie.Need-cast-t30 Inv-loop μ-loop
-cast-t30 c = omega (arith, (c .before .before .before .before .before .before .before .before .before .before .before .loop-test) .taken, (c .before .before .before .before .before .before .before .before .before .before .before .before .before .before .before .before .code-len) .ensures .0, (c .before .before .before .before .before .before .before .before .before .before .before .before .before .before .lesser) .ensures)
+cast-t30 c =
+    let code-len = (c .before .before .before .before .before .before .before .before .before .before .before .before .before .before .before .before .code-len) in
+    let lesser = (c .before .before .before .before .before .before .before .before .before .before .before .before .before .before .lesser) in
+    let loop-test = (c .before .before .before .before .before .before .before .before .before .before .before .loop-test) in
+    omega (arith, loop-test .taken, code-len .ensures .0, lesser .ensures)
 
 returns : tie.Need-returns Inv-loop μ-loop
 returns c =
+    let code-len = (c .before .before .before .before .before .before .before .before .before .before .before .before .before .before .before .before .code-len) in
+    let lesser = (c .before .before .before .before .before .before .before .before .before .before .before .before .before .before .lesser) in
+    let loop = (c .before .before .before .before .before .before .before .before .before .before .before .before .loop) in
+    let loop-test = (c .before .before .before .before .before .before .before .before .before .before .before .loop-test) in
+    let decode = (c .before .before .before .before .before .before .before .before .before .decode) in
     let a = (c .before .before .before .before .before .before .before .before .before .before .before .before .before .before .before .before .before .before .before .before .args) in
     let m = (c .before .before .before .before .before .before .before .before .before .before .before .before .before .before .before .before .before .before .begin) in
-    let k = (c .before .before .before .before .before .before .before .before .before .before .before .before .loop) .k in
+    let k = loop .k in
     begun (routineOf (a .listing .now) (a .code .now) (a .routine)) (blockOf (a .b)) (a .locals .now) (a .names .now) (a .edges .now) (a .state) (m .result .state) (m .ensures .3) (m .ensures .4 (a .locals .now) (a .names .now) (a .edges .now))
-    (stops (decodedAt (a .listing .now) (getD (a .code .now) k 0)) (decodedOf ((c .before .before .before .before .before .before .before .before .before .decode) .result))
-    (next-instr (decodedAt (a .listing .now)) (a .code .now) (a .routine .«code_count») ((c .before .before .before .before .before .before .before .before .before .before .before .before .before .before .lesser) .result) k ((c .before .before .before .before .before .before .before .before .before .before .before .loop-test) .taken) (omega (arith, (c .before .before .before .before .before .before .before .before .before .before .before .before .before .before .before .before .code-len) .ensures .1, code-length (decodedAt (a .listing .now)) (a .code .now) (a .routine .«code_count»), (c .before .before .before .before .before .before .before .before .before .before .before .before .before .before .before .before .code-len) .ensures .0, (c .before .before .before .before .before .before .before .before .before .before .before .before .before .before .lesser) .ensures)))
-    ((c .before .before .before .before .before .before .before .before .before .decode) .ensures) ((c .before .before .before .before .execute) .ensures) ((c .before .before .before .before .before .before .before .before .before .before .before .before .loop) .inv) ((c .if1) .left))
+    (stops (decodedAt (a .listing .now) (getD (a .code .now) k 0)) (decodedOf (decode .result))
+    (next-instr (decodedAt (a .listing .now)) (a .code .now) (a .routine .«code_count») (lesser .result) k (loop-test .taken) (omega (arith, code-len .ensures .1, code-length (decodedAt (a .listing .now)) (a .code .now) (a .routine .«code_count»), code-len .ensures .0, lesser .ensures)))
+    (decode .ensures) ((c .before .before .before .before .execute) .ensures) (loop .inv) ((c .if1) .left))
 
 finish-requires : tie.Need-finish-requires Inv-loop μ-loop
 finish-requires c κs = (c .before .before .before .before .loop) .inv .goes

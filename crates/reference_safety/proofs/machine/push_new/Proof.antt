@@ -17,7 +17,9 @@ refuse-requires : tie.Need-refuse-requires
 refuse-requires c κs = search needs
 
 returns : tie.Need-returns
-returns c = λ ls es. values-runs ((c .before .before .before .before .before .before .args) .n) ((c .before .before .before .before .before .before .args) .m .depth) (tokenOf ((c .before .before .before .before .before .before .args) .token)) (ap tokenOf ((c .before .before .before .before .enum-told) .given .1)) (push-runs ((c .before .before .before .before .before .before .args) .m .depth) ((c .before .push-values) .ensures) ((c .refuse) .ensures ls _ es))
+returns c =
+    let a = (c .before .before .before .before .before .before .args) in
+    λ ls es. values-runs (a .n) (a .m .depth) (tokenOf (a .token)) (ap tokenOf ((c .before .before .before .before .enum-told) .given .1)) (push-runs (a .m .depth) ((c .before .push-values) .ensures) ((c .refuse) .ensures ls _ es))
 
 push-each-requires : tie.Need-push-each-requires
 push-each-requires c κs = search needs

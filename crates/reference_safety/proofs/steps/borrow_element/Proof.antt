@@ -20,7 +20,10 @@ pushed-requires c κs = search needs
 
 returns : tie.Need-returns
 unfolding popValues
-returns c = λ ls. under-runs ((c .before .before .before .before .before .before .before .before .before .args) .stack .now) ((c .before .before .before .before .before .before .before .before .before .args) .m .depth) ((c .before .before .before .before .before .before .pop-under) .result) (λ v us s. pushed us (vectorElementBorrow v ((c .before .before .before .before .before .before .before .before .before .args) .mutable) s)) 1 ((c .before .before .before .before .before .before .pop-under) .ensures .0) ((c .before .before .before .before .before .refuse) .ensures ls _ _) (gives ((c .before .before .vector-element-borrow) .ensures ls) ((c .pushed) .ensures ls _ _))
+returns c =
+    let a = (c .before .before .before .before .before .before .before .before .before .args) in
+    let pop-under = (c .before .before .before .before .before .before .pop-under) in
+    λ ls. under-runs (a .stack .now) (a .m .depth) (pop-under .result) (λ v us s. pushed us (vectorElementBorrow v (a .mutable) s)) 1 (pop-under .ensures .0) ((c .before .before .before .before .before .refuse) .ensures ls _ _) (gives ((c .before .before .vector-element-borrow) .ensures ls) ((c .pushed) .ensures ls _ _))
 
 pub borrow-element-spec : {M : Type 1} → statement M
 borrow-element-spec =

@@ -19,7 +19,10 @@ pushed-requires : tie.Need-pushed-requires
 pushed-requires c κs = search needs
 
 returns : tie.Need-returns
-returns c = λ ls. ref-runs ((c .before .before .before .before .before .before .before .before .before .before .args) .stack .now) ((c .before .before .before .before .before .before .before .before .before .before .args) .m .depth) ((c .before .before .before .before .before .before .before .pop-ref) .result) (λ n us s. pushed us (borrowField ((c .before .before .before .before .before .before .before .before .before .before .args) .mutable) n ((c .before .before .before .before .before .before .before .before .before .before .args) .field) s)) ((c .before .before .before .before .before .before .before .pop-ref) .ensures .0) ((c .before .before .before .before .before .before .refuse) .ensures ls _ _) (gives ((c .before .before .borrow-field) .ensures ls) ((c .pushed) .ensures ls _ _))
+returns c =
+    let a = (c .before .before .before .before .before .before .before .before .before .before .args) in
+    let pop-ref = (c .before .before .before .before .before .before .before .pop-ref) in
+    λ ls. ref-runs (a .stack .now) (a .m .depth) (pop-ref .result) (λ n us s. pushed us (borrowField (a .mutable) n (a .field) s)) (pop-ref .ensures .0) ((c .before .before .before .before .before .before .refuse) .ensures ls _ _) (gives ((c .before .before .borrow-field) .ensures ls) ((c .pushed) .ensures ls _ _))
 
 pub borrow-field-spec : {M : Type 1} → statement M
 borrow-field-spec =

@@ -20,7 +20,10 @@ pushed-requires c κs = search needs
 
 returns : tie.Need-returns
 unfolding popValues
-returns c = λ ls. rest-runs ((c .before .before .before .before .before .before .before .args) .stack .now) ((c .before .before .before .before .before .before .before .args) .m .depth) ((c .before .before .before .before .pop-values) .result) (λ us s. pushed us (moveFrom ((c .before .before .before .before .before .before .before .args) .resource) s)) 1 ((c .before .before .before .before .pop-values) .ensures .0) ((c .before .before .before .refuse) .ensures ls _ _) (gives ((c .before .before .move-from) .ensures ls) ((c .pushed) .ensures ls _ _))
+returns c =
+    let a = (c .before .before .before .before .before .before .before .args) in
+    let pop-values = (c .before .before .before .before .pop-values) in
+    λ ls. rest-runs (a .stack .now) (a .m .depth) (pop-values .result) (λ us s. pushed us (moveFrom (a .resource) s)) 1 (pop-values .ensures .0) ((c .before .before .before .refuse) .ensures ls _ _) (gives ((c .before .before .move-from) .ensures ls) ((c .pushed) .ensures ls _ _))
 
 pub move-from-spec : {M : Type 1} → statement M
 move-from-spec =

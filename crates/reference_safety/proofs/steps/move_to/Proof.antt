@@ -17,7 +17,10 @@ release-value-requires c κs = search needs
 
 returns : tie.Need-returns
 unfolding popValues
-returns c = λ ls. under-runs ((c .before .before .before .before .before .before .args) .stack .now) ((c .before .before .before .before .before .before .args) .m .depth) ((c .before .before .before .before .pop-under) .result) (λ v us s. unchanged us (releaseValue v s)) 1 ((c .before .before .before .before .pop-under) .ensures .0) ((c .before .before .before .refuse) .ensures ls _ _) (keeps ((c .before .before .before .before .before .before .args) .stack .now) ((c .before .before .before .before .pop-under) .result .depth) ((c .release-value) .ensures ls))
+returns c =
+    let a = (c .before .before .before .before .before .before .args) in
+    let pop-under = (c .before .before .before .before .pop-under) in
+    λ ls. under-runs (a .stack .now) (a .m .depth) (pop-under .result) (λ v us s. unchanged us (releaseValue v s)) 1 (pop-under .ensures .0) ((c .before .before .before .refuse) .ensures ls _ _) (keeps (a .stack .now) (pop-under .result .depth) ((c .release-value) .ensures ls))
 
 pub move-to-spec : {M : Type 1} → statement M
 move-to-spec =

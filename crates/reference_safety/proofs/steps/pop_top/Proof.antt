@@ -16,7 +16,10 @@ release-value-requires : tie.Need-release-value-requires
 release-value-requires c κs = search needs
 
 returns : tie.Need-returns
-returns c = λ ls. pop-runs ((c .before .before .before .before .before .before .args) .stack .now) ((c .before .before .before .before .before .before .args) .m .depth) ((c .before .before .before .before .pop) .result) (λ v us s. unchanged us (releaseValue v s)) ((c .before .before .before .before .pop) .ensures .0) ((c .before .before .before .refuse) .ensures ls _ _) (keeps ((c .before .before .before .before .before .before .args) .stack .now) ((c .before .before .before .before .pop) .result .depth) ((c .release-value) .ensures ls))
+returns c =
+    let a = (c .before .before .before .before .before .before .args) in
+    let pop = (c .before .before .before .before .pop) in
+    λ ls. pop-runs (a .stack .now) (a .m .depth) (pop .result) (λ v us s. unchanged us (releaseValue v s)) (pop .ensures .0) ((c .before .before .before .refuse) .ensures ls _ _) (keeps (a .stack .now) (pop .result .depth) ((c .release-value) .ensures ls))
 
 pub pop-top-spec : {M : Type 1} → statement M
 pop-top-spec = tie.close (tie.spec pop-requires refuse-requires release-value-requires returns)

@@ -16,7 +16,10 @@ ret-requires : tie.Need-ret-requires
 ret-requires c κs = search needs
 
 returns : tie.Need-returns
-returns c = many-runs ((c .before .before .before .before .before .before .before .args) .stack .now) ((c .before .before .before .before .before .before .before .args) .m .depth) ((c .before .before .before .before .before .pop-many) .result) (λ vs us s. unchanged us (R.ret vs s)) ((c .before .before .before .before .before .before .before .args) .returns) ((c .before .before .before .before .before .pop-many) .ensures .0) ((c .before .before .before .before .refuse) .ensures _ _ _) (keeps ((c .before .before .before .before .before .before .before .args) .stack .now) ((c .before .before .before .before .before .pop-many) .result .depth) ((c .ret) .ensures))
+returns c =
+    let a = (c .before .before .before .before .before .before .before .args) in
+    let pop-many = (c .before .before .before .before .before .pop-many) in
+    many-runs (a .stack .now) (a .m .depth) (pop-many .result) (λ vs us s. unchanged us (R.ret vs s)) (a .returns) (pop-many .ensures .0) ((c .before .before .before .before .refuse) .ensures _ _ _) (keeps (a .stack .now) (pop-many .result .depth) ((c .ret) .ensures))
 
 pub ret-spec : {M : Type 1} → statement M
 ret-spec = tie.close (tie.spec pop-many-requires refuse-requires ret-requires returns)

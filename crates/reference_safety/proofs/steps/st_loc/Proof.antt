@@ -16,7 +16,10 @@ st-loc-requires : tie.Need-st-loc-requires
 st-loc-requires c κs = search needs
 
 returns : tie.Need-returns
-returns c = pop-runs ((c .before .before .before .before .before .before .before .args) .stack .now) ((c .before .before .before .before .before .before .before .args) .m .depth) ((c .before .before .before .before .before .pop) .result) (λ v us s. unchanged us (stLoc ((c .before .before .before .before .before .before .before .args) .local .0) v s)) ((c .before .before .before .before .before .pop) .ensures .0) ((c .before .before .before .before .refuse) .ensures _ _ _) (keeps ((c .before .before .before .before .before .before .before .args) .stack .now) ((c .before .before .before .before .before .pop) .result .depth) ((c .st-loc) .ensures))
+returns c =
+    let a = (c .before .before .before .before .before .before .before .args) in
+    let pop = (c .before .before .before .before .before .pop) in
+    pop-runs (a .stack .now) (a .m .depth) (pop .result) (λ v us s. unchanged us (stLoc (a .local .0) v s)) (pop .ensures .0) ((c .before .before .before .before .refuse) .ensures _ _ _) (keeps (a .stack .now) (pop .result .depth) ((c .st-loc) .ensures))
 
 pub st-loc-spec : {M : Type 1} → statement M
 st-loc-spec = tie.close (tie.spec pop-requires refuse-requires st-loc-requires returns)

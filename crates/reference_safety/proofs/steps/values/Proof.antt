@@ -16,7 +16,10 @@ push-new-requires : tie.Need-push-new-requires
 push-new-requires c κs = search needs
 
 returns : tie.Need-returns
-returns c = λ ls es. rest-runs ((c .before .before .before .before .before .before .before .args) .stack .now) ((c .before .before .before .before .before .before .before .args) .m .depth) ((c .before .before .before .before .pop-values) .result) (λ us s. pushNew ((c .before .before .before .before .before .before .before .args) .pushes) (tokenOf ((c .before .before .before .before .before .before .before .args) .token)) us s) ((c .before .before .before .before .before .before .before .args) .takes) ((c .before .before .before .before .pop-values) .ensures .0) ((c .before .before .before .refuse) .ensures ls _ es) ((c .push-new) .ensures ls es)
+returns c =
+    let a = (c .before .before .before .before .before .before .before .args) in
+    let pop-values = (c .before .before .before .before .pop-values) in
+    λ ls es. rest-runs (a .stack .now) (a .m .depth) (pop-values .result) (λ us s. pushNew (a .pushes) (tokenOf (a .token)) us s) (a .takes) (pop-values .ensures .0) ((c .before .before .before .refuse) .ensures ls _ es) ((c .push-new) .ensures ls es)
 
 pub values-spec : {M : Type 1} → statement M
 values-spec = tie.close (tie.spec pop-values-requires refuse-requires push-new-requires returns)

@@ -21,7 +21,10 @@ push-new-requires : tie.Need-push-new-requires
 push-new-requires c κs = search needs
 
 returns : tie.Need-returns
-returns c = λ ls. under-runs ((c .before .before .before .before .before .before .before .before .before .before .args) .stack .now) ((c .before .before .before .before .before .before .before .before .before .before .args) .m .depth) ((c .before .before .before .before .before .before .before .pop-under) .result) (λ v us s. then (vectorOp v ((c .before .before .before .before .before .before .before .before .before .before .args) .mutable) s) (λ q. pushNew ((c .before .before .before .before .before .before .before .before .before .before .args) .pushes) (tokenOf ((c .before .before .before .before .before .before .before .before .before .before .args) .token)) us q)) ((c .before .before .before .before .before .before .before .before .before .before .args) .takes) ((c .before .before .before .before .before .before .before .pop-under) .ensures .0) ((c .before .before .before .before .before .before .refuse) .ensures ls _ _) (does-runs ((c .before .before .before .vector-op) .ensures ls) ((c .push-new) .ensures ls _))
+returns c =
+    let a = (c .before .before .before .before .before .before .before .before .before .before .args) in
+    let pop-under = (c .before .before .before .before .before .before .before .pop-under) in
+    λ ls. under-runs (a .stack .now) (a .m .depth) (pop-under .result) (λ v us s. then (vectorOp v (a .mutable) s) (λ q. pushNew (a .pushes) (tokenOf (a .token)) us q)) (a .takes) (pop-under .ensures .0) ((c .before .before .before .before .before .before .refuse) .ensures ls _ _) (does-runs ((c .before .before .before .vector-op) .ensures ls) ((c .push-new) .ensures ls _))
 
 pub vector-op-spec : {M : Type 1} → statement M
 vector-op-spec =

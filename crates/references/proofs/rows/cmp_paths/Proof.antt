@@ -24,9 +24,11 @@ turn : (c : tie.Else1 Inv-loop μ-loop) →
     let i = (c .before .before .loop) .i in
     comparePaths (labelIn (getD p (2 + i) 0) ∷ drop (i + 1) (pathIn p (countIn p))) (labelIn (getD q (2 + i) 0) ∷ drop (i + 1) (pathIn q (countIn q))) ≡ comparePaths (pathIn p (countIn p)) (pathIn q (countIn q))
 turn c =
-    let p = (c .before .before .before .before .before .args) .x .now in
-    let q = (c .before .before .before .before .before .args) .y .now in
-    both-on comparePaths p q (countIn p) (countIn q) ((c .before .before .loop) .i) _ ((c .before .before .loop) .inv) (omega (arith, (c .before .before .before .before .labels) .ensures .0, path-length p (countIn p))) (omega (arith, (c .before .before .before .labels2) .ensures .0, path-length q (countIn q)))
+    let a = (c .before .before .before .before .before .args) in
+    let loop = (c .before .before .loop) in
+    let p = a .x .now in
+    let q = a .y .now in
+    both-on comparePaths p q (countIn p) (countIn q) (loop .i) _ (loop .inv) (omega (arith, (c .before .before .before .before .labels) .ensures .0, path-length p (countIn p))) (omega (arith, (c .before .before .before .labels2) .ensures .0, path-length q (countIn q)))
 
 labels-requires : tie.Need-labels-requires Inv-loop μ-loop
 labels-requires c κs = search needs
@@ -39,9 +41,11 @@ loop-holds c = refl
 
 returns : tie.Need-returns Inv-loop μ-loop
 returns c =
-    let p = (c .before .before .before .before .before .args) .x .now in
-    let q = (c .before .before .before .before .before .args) .y .now in
-    sym (paths-longer _ _) ∙ first-on comparePaths p q (countIn p) (countIn q) ((c .before .before .loop) .i) _ ((c .before .before .loop) .inv) (omega (arith, (c .before .before .before .before .labels) .ensures .0, path-length p (countIn p))) (omega (arith, (c .before .before .before .labels2) .ensures .0, path-length q (countIn q)))
+    let a = (c .before .before .before .before .before .args) in
+    let loop = (c .before .before .loop) in
+    let p = a .x .now in
+    let q = a .y .now in
+    sym (paths-longer _ _) ∙ first-on comparePaths p q (countIn p) (countIn q) (loop .i) _ (loop .inv) (omega (arith, (c .before .before .before .before .labels) .ensures .0, path-length p (countIn p))) (omega (arith, (c .before .before .before .labels2) .ensures .0, path-length q (countIn q)))
 
 label-requires : tie.Need-label-requires Inv-loop μ-loop
 label-requires c κs = search needs
@@ -62,19 +66,26 @@ loop-less : tie.Need-loop-less Inv-loop μ-loop
 loop-less c = omega arith
 
 loop-again : tie.Need-loop-again Inv-loop μ-loop
-loop-again c = sym (paths-equal _ _ _ _ (rw ((c .before .before .before .label) .ensures, (c .before .before .label2) .ensures) at ((c .before .if2) .left)) (rw ((c .before .before .before .label) .ensures, (c .before .before .label2) .ensures) at ((c .if3) .left))) ∙ turn (c .before .before .before .before)
+loop-again c =
+    let label = (c .before .before .before .label) in
+    let label2 = (c .before .before .label2) in
+    sym (paths-equal _ _ _ _ (rw (label .ensures, label2 .ensures) at ((c .before .if2) .left)) (rw (label .ensures, label2 .ensures) at ((c .if3) .left))) ∙ turn (c .before .before .before .before)
 
 returns-4 : tie.Need-returns-4 Inv-loop μ-loop
 returns-4 c =
-    let p = (c .before .before .before .before .before .args) .x .now in
-    let q = (c .before .before .before .before .before .args) .y .now in
-    sym (paths-prefix _ _) ∙ second-on comparePaths p q (countIn p) (countIn q) ((c .before .before .loop) .i) _ ((c .before .before .loop) .inv) (omega (arith, (c .before .before .before .before .labels) .ensures .0, path-length p (countIn p))) (omega (arith, (c .before .before .before .labels2) .ensures .0, path-length q (countIn q)))
+    let a = (c .before .before .before .before .before .args) in
+    let loop = (c .before .before .loop) in
+    let p = a .x .now in
+    let q = a .y .now in
+    sym (paths-prefix _ _) ∙ second-on comparePaths p q (countIn p) (countIn q) (loop .i) _ (loop .inv) (omega (arith, (c .before .before .before .before .labels) .ensures .0, path-length p (countIn p))) (omega (arith, (c .before .before .before .labels2) .ensures .0, path-length q (countIn q)))
 
 returns-5 : tie.Need-returns-5 Inv-loop μ-loop
 returns-5 c =
-    let p = (c .before .before .before .before .before .args) .x .now in
-    let q = (c .before .before .before .before .before .args) .y .now in
-    sym paths-end ∙ both-over comparePaths p q (countIn p) (countIn q) ((c .before .before .loop) .i) _ ((c .before .before .loop) .inv) (omega (arith, (c .before .before .before .before .labels) .ensures .0, path-length p (countIn p))) (omega (arith, (c .before .before .before .labels2) .ensures .0, path-length q (countIn q)))
+    let a = (c .before .before .before .before .before .args) in
+    let loop = (c .before .before .loop) in
+    let p = a .x .now in
+    let q = a .y .now in
+    sym paths-end ∙ both-over comparePaths p q (countIn p) (countIn q) (loop .i) _ (loop .inv) (omega (arith, (c .before .before .before .before .labels) .ensures .0, path-length p (countIn p))) (omega (arith, (c .before .before .before .labels2) .ensures .0, path-length q (countIn q)))
 
 pub cmp-paths-spec : {M : Type 1} → statement M
 cmp-paths-spec =

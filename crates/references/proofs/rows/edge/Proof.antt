@@ -30,8 +30,11 @@ array-write-out-3 c = search needs
 
 returns : tie.Need-returns
 returns c =
-    let r : List ℕ = (c .before .before .before .ends) .result ∷ (c .before .marks) .result ∷ (c .number-of) .result ∷ 0 ∷ 0 ∷ 0 ∷ 0 ∷ 0 ∷ 0 ∷ 0 ∷ [] in
-    row-made r _ _ ((c .before .before .len-of) .result) _ _ _ ((c .before .before .before .ends) .ensures .0) ((c .before .before .before .ends) .ensures .1) ((c .before .marks) .ensures) (omega (arith, (c .before .before .len-of) .ensures)) (path-one ((c .before .before .before .before .args) .path) r ((c .before .before .len-of) .result) ((c .number-of) .result) ((c .before .before .len-of) .ensures .0) ((c .number-of) .ensures .0) ((c .number-of) .ensures .1) refl)
+    let ends = (c .before .before .before .ends) in
+    let len-of = (c .before .before .len-of) in
+    let marks = (c .before .marks) in
+    let r : List ℕ = ends .result ∷ marks .result ∷ (c .number-of) .result ∷ 0 ∷ 0 ∷ 0 ∷ 0 ∷ 0 ∷ 0 ∷ 0 ∷ [] in
+    row-made r _ _ (len-of .result) _ _ _ (ends .ensures .0) (ends .ensures .1) (marks .ensures) (omega (arith, len-of .ensures)) (path-one ((c .before .before .before .before .args) .path) r (len-of .result) ((c .number-of) .result) (len-of .ensures .0) ((c .number-of) .ensures .0) ((c .number-of) .ensures .1) refl)
 
 pub edge-spec : {M : Type 1} → statement M
 edge-spec =

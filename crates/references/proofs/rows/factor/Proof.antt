@@ -26,10 +26,12 @@ remade-requires c κs = omega (arith, (c .before .lesser) .ensures, (c .before .
 
 returns : tie.Need-returns
 returns c =
-    let y = (c .before .before .before .before .before .args) .y .now in
-    let k : (c .before .before .lesser) .result ≡ min (length (pathAt ((c .before .before .before .before .before .args) .path))) (countIn y) = omega (arith, (c .before .before .lesser) .ensures, (c .before .before .before .before .len-of) .ensures, (c .before .before .before .labels) .ensures .0, path-length y (countIn y)) in
-    let p = ap (λ (j : ℕ). drop j (pathIn y (countIn y))) k ∙ drop-within y (length (pathAt ((c .before .before .before .before .before .args) .path))) (countIn y) in
-    (c .remade) .ensures .0 ∙ (λ i. record { parent = (c .before .before .before .before .before .args) .child .0; child = (c .before .child) .ensures i; blurred = false; edge = record { strong = rowOf y .edge .strong; path = p i } })
+    let a = (c .before .before .before .before .before .args) in
+    let lesser = (c .before .before .lesser) in
+    let y = a .y .now in
+    let k : lesser .result ≡ min (length (pathAt (a .path))) (countIn y) = omega (arith, lesser .ensures, (c .before .before .before .before .len-of) .ensures, (c .before .before .before .labels) .ensures .0, path-length y (countIn y)) in
+    let p = ap (λ (j : ℕ). drop j (pathIn y (countIn y))) k ∙ drop-within y (length (pathAt (a .path))) (countIn y) in
+    (c .remade) .ensures .0 ∙ (λ i. record { parent = a .child .0; child = (c .before .child) .ensures i; blurred = false; edge = record { strong = rowOf y .edge .strong; path = p i } })
 
 pub factor-spec : {M : Type 1} → statement M
 factor-spec =

@@ -23,9 +23,11 @@ turn : (c : tie.Else1 Inv-loop μ-loop) →
     let i = (c .before .before .loop) .i in
     prefix (labelIn (getD p (2 + i) 0) ∷ drop (i + 1) (pathIn p (countIn p))) (labelIn (getD q (2 + i) 0) ∷ drop (i + 1) (pathIn q (countIn q))) ≡ prefix (pathIn p (countIn p)) (pathIn q (countIn q))
 turn c =
-    let p = (c .before .before .before .before .before .args) .x .now in
-    let q = (c .before .before .before .before .before .args) .y .now in
-    both-on prefix p q (countIn p) (countIn q) ((c .before .before .loop) .i) _ ((c .before .before .loop) .inv) (omega (arith, (c .before .before .before .before .labels) .ensures .0, path-length p (countIn p))) (omega (arith, (c .before .before .before .labels2) .ensures .0, path-length q (countIn q)))
+    let a = (c .before .before .before .before .before .args) in
+    let loop = (c .before .before .loop) in
+    let p = a .x .now in
+    let q = a .y .now in
+    both-on prefix p q (countIn p) (countIn q) (loop .i) _ (loop .inv) (omega (arith, (c .before .before .before .before .labels) .ensures .0, path-length p (countIn p))) (omega (arith, (c .before .before .before .labels2) .ensures .0, path-length q (countIn q)))
 
 labels-requires : tie.Need-labels-requires Inv-loop μ-loop
 labels-requires c κs = search needs
@@ -39,9 +41,11 @@ loop-holds c = refl
 returns : tie.Need-returns Inv-loop μ-loop
 unfolding prefix
 returns c =
-    let p = (c .before .before .before .before .before .args) .x .now in
-    let q = (c .before .before .before .before .before .args) .y .now in
-    first-on prefix p q (countIn p) (countIn q) ((c .before .before .loop) .i) _ ((c .before .before .loop) .inv) (omega (arith, (c .before .before .before .before .labels) .ensures .0, path-length p (countIn p))) (omega (arith, (c .before .before .before .labels2) .ensures .0, path-length q (countIn q)))
+    let a = (c .before .before .before .before .before .args) in
+    let loop = (c .before .before .loop) in
+    let p = a .x .now in
+    let q = a .y .now in
+    first-on prefix p q (countIn p) (countIn q) (loop .i) _ (loop .inv) (omega (arith, (c .before .before .before .before .labels) .ensures .0, path-length p (countIn p))) (omega (arith, (c .before .before .before .labels2) .ensures .0, path-length q (countIn q)))
 
 label-requires : tie.Need-label-requires Inv-loop μ-loop
 label-requires c κs = search needs

@@ -22,8 +22,12 @@ label-requires c κs = search needs
 
 returns : tie.Need-returns
 returns c =
-    let e : (c .before .labels) .result ≡ countIn ((c .before .before .before .before .args) .x .now) = (c .before .labels) .ensures .0 ∙ path-length ((c .before .before .before .before .args) .x .now) _ in
-    (λ i. (eqb ((c .before .before .before .len-of) .result) 0 || eqb (e i) 0) || eqb ((c .before .before .number-of) .result) ((c .label) .ensures i)) ∙ meets-by ((c .before .before .before .before .args) .at) ((c .before .before .before .before .args) .x .now) ((c .before .before .before .len-of) .result) ((c .before .before .number-of) .result) _ ((c .before .before .before .len-of) .ensures .0) ((c .before .before .number-of) .ensures .0)
+    let a = (c .before .before .before .before .args) in
+    let len-of = (c .before .before .before .len-of) in
+    let number-of = (c .before .before .number-of) in
+    let labels = (c .before .labels) in
+    let e : labels .result ≡ countIn (a .x .now) = labels .ensures .0 ∙ path-length (a .x .now) _ in
+    (λ i. (eqb (len-of .result) 0 || eqb (e i) 0) || eqb (number-of .result) ((c .label) .ensures i)) ∙ meets-by (a .at) (a .x .now) (len-of .result) (number-of .result) _ (len-of .ensures .0) (number-of .ensures .0)
 
 pub meets-spec : {M : Type 1} → statement M
 meets-spec =

@@ -36,14 +36,17 @@ array-write-out-2 c = search needs
 
 returns : tie.Need-returns
 returns c =
+    let labels = (c .before .before .before .before .labels) in
+    let copy-labels = (c .before .before .before .copy-labels) in
+    let ends = (c .before .before .ends) in
     let a = (c .before .before .before .before .before .args) in
     let x = a .x .now in
-    let n = (c .before .before .before .before .labels) .result in
-    let r = (c .before .before .before .copy-labels) .result in
-    let e : n ≡ countIn x = (c .before .before .before .before .labels) .ensures .0 ∙ path-length x _ in
+    let n = labels .result in
+    let r = copy-labels .result in
+    let e : n ≡ countIn x = labels .ensures .0 ∙ path-length x _ in
     let z : n - a .k ≡ 0 + (n - a .k) = omega arith in
-    let q : pathIn r (n - a .k) ≡ drop (a .k) (pathIn x (countIn x)) = ap (pathIn r) z ∙ (c .before .before .before .copy-labels) .ensures .0 ∙ ap (λ (l : List ℕ). l ++ drop (a .k) (pathIn x n)) (path-none (replicate 10 0)) ∙ ap (λ (m : ℕ). drop (a .k) (pathIn x m)) e in
-    (row-tagged r ((c .before .before .ends) .result) ((c .marks) .result) _ _ (n - a .k) _ _ _ (omega (arith, (c .before .before .before .copy-labels) .ensures .2)) ((c .before .before .ends) .ensures .0) ((c .before .before .ends) .ensures .1) ((c .marks) .ensures ∙ ap (λ (s : Bool). bit (a .blurred) * 32 + bit s * 16 + (n - a .k)) ((c .before .is-strong) .ensures)) (omega (arith, (c .before .before .before .before .labels) .ensures .1)) q, simp length-set ((c .before .before .before .copy-labels) .ensures .2))
+    let q : pathIn r (n - a .k) ≡ drop (a .k) (pathIn x (countIn x)) = ap (pathIn r) z ∙ copy-labels .ensures .0 ∙ ap (λ (l : List ℕ). l ++ drop (a .k) (pathIn x n)) (path-none (replicate 10 0)) ∙ ap (λ (m : ℕ). drop (a .k) (pathIn x m)) e in
+    (row-tagged r (ends .result) ((c .marks) .result) _ _ (n - a .k) _ _ _ (omega (arith, copy-labels .ensures .2)) (ends .ensures .0) (ends .ensures .1) ((c .marks) .ensures ∙ ap (λ (s : Bool). bit (a .blurred) * 32 + bit s * 16 + (n - a .k)) ((c .before .is-strong) .ensures)) (omega (arith, labels .ensures .1)) q, simp length-set (copy-labels .ensures .2))
 
 pub remade-spec : {M : Type 1} → statement M
 remade-spec =

@@ -78,20 +78,28 @@ array-write-out c = search needs
 
 returns-3 : tie.Need-returns-3
 returns-3 c =
-    let x = (c .before .before .before .before .before .before .before .before .before .before .before .args) .x .now in
-    let y = (c .before .before .before .before .before .before .before .before .before .before .before .args) .y .now in
-    let w = (c .before .before .before .before .before .before .before .remade) .ensures .0 in
-    let s : (c .before .before .before .before .before .before .before .before .is-strong) .result ≡ true = not-false _ (c .before .before .before .before .before .before .if1 .left) in
-    let n = (c .before .before .before .before .before .labels) .result in
-    let m = (c .before .before .before .before .labels2) .result in
+    let a = (c .before .before .before .before .before .before .before .before .before .before .before .args) in
+    let parent′ = (c .before .before .before .before .before .before .before .before .before .before .parent) in
+    let child′ = (c .before .before .before .before .before .before .before .before .before .child) in
+    let is-strong = (c .before .before .before .before .before .before .before .before .is-strong) in
+    let remade = (c .before .before .before .before .before .before .before .remade) in
+    let labels = (c .before .before .before .before .before .labels) in
+    let labels2 = (c .before .before .before .before .labels2) in
+    let if2 = (c .before .before .before .if2) in
+    let x = a .x .now in
+    let y = a .y .now in
+    let w = remade .ensures .0 in
+    let s : is-strong .result ≡ true = not-false _ (c .before .before .before .before .before .before .if1 .left) in
+    let n = labels .result in
+    let m = labels2 .result in
     let r = (c .before .before .copy-labels) in
-    let h : length (rowOf x .edge .path ++ rowOf y .edge .path) ≤ 8 = simp length-append (omega (arith, (c .before .before .before .before .before .labels) .ensures .0, (c .before .before .before .before .labels2) .ensures .0, (c .before .before .before .if2) .left)) in
-    let e : m ≡ countIn y = (c .before .before .before .before .labels2) .ensures .0 ∙ path-length y _ in
-    let q = r .ensures .0 ∙ ap (λ (k : ℕ). pathIn ((c .before .before .before .before .before .before .before .remade) .result) n ++ pathIn y k) e in
-    let g = row-joined ((c .before .before .before .before .before .before .before .remade) .result) (r .result) ((c .marks) .result) n m (rowOf y .edge .strong) _ (rowOf y .edge .path) w ((c .before .before .before .before .before .labels) .ensures .0) (omega (arith, (c .before .before .before .if2) .left)) q (r .ensures .1) (r .ensures .2) ((c .marks) .ensures ∙ ap (λ (b : Bool). bit false * 32 + bit b * 16 + (n + m)) ((c .before .is-strong2) .ensures)) in (
-      ap (λ (g : GEdge). ok (g .edge)) g ∙ fitting-short (record { strong = rowOf y .edge .strong; path = rowOf x .edge .path ++ rowOf y .edge .path }) h ∙ ap fitting (splice-strong (rowOf x .edge) (rowOf y .edge) (sym ((c .before .before .before .before .before .before .before .before .is-strong) .ensures) ∙ s)),
-      ap (λ (g : GEdge). g .parent) g ∙ (c .before .before .before .before .before .before .before .before .before .before .parent) .ensures,
-      ap (λ (g : GEdge). g .child) g ∙ (c .before .before .before .before .before .before .before .before .before .child) .ensures,
+    let h : length (rowOf x .edge .path ++ rowOf y .edge .path) ≤ 8 = simp length-append (omega (arith, labels .ensures .0, labels2 .ensures .0, if2 .left)) in
+    let e : m ≡ countIn y = labels2 .ensures .0 ∙ path-length y _ in
+    let q = r .ensures .0 ∙ ap (λ (k : ℕ). pathIn (remade .result) n ++ pathIn y k) e in
+    let g = row-joined (remade .result) (r .result) ((c .marks) .result) n m (rowOf y .edge .strong) _ (rowOf y .edge .path) w (labels .ensures .0) (omega (arith, if2 .left)) q (r .ensures .1) (r .ensures .2) ((c .marks) .ensures ∙ ap (λ (b : Bool). bit false * 32 + bit b * 16 + (n + m)) ((c .before .is-strong2) .ensures)) in (
+      ap (λ (g : GEdge). ok (g .edge)) g ∙ fitting-short (record { strong = rowOf y .edge .strong; path = rowOf x .edge .path ++ rowOf y .edge .path }) h ∙ ap fitting (splice-strong (rowOf x .edge) (rowOf y .edge) (sym (is-strong .ensures) ∙ s)),
+      ap (λ (g : GEdge). g .parent) g ∙ parent′ .ensures,
+      ap (λ (g : GEdge). g .child) g ∙ child′ .ensures,
     )
 
 pub splice-spec : {M : Type 1} → statement M

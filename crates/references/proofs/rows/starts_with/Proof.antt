@@ -22,8 +22,12 @@ label-requires c κs = search needs
 
 returns : tie.Need-returns
 returns c =
-    let e : (c .before .labels) .result ≡ countIn ((c .before .before .before .before .args) .x .now) = (c .before .labels) .ensures .0 ∙ path-length ((c .before .before .before .before .args) .x .now) _ in
-    (λ i. eqb ((c .before .before .before .len-of) .result) 0 || (ltb 0 (e i) && eqb ((c .before .before .number-of) .result) ((c .label) .ensures i))) ∙ starts-by ((c .before .before .before .before .args) .path) ((c .before .before .before .before .args) .x .now) ((c .before .before .before .len-of) .result) ((c .before .before .number-of) .result) _ ((c .before .before .before .len-of) .ensures .0) ((c .before .before .number-of) .ensures .0)
+    let a = (c .before .before .before .before .args) in
+    let len-of = (c .before .before .before .len-of) in
+    let number-of = (c .before .before .number-of) in
+    let labels = (c .before .labels) in
+    let e : labels .result ≡ countIn (a .x .now) = labels .ensures .0 ∙ path-length (a .x .now) _ in
+    (λ i. eqb (len-of .result) 0 || (ltb 0 (e i) && eqb (number-of .result) ((c .label) .ensures i))) ∙ starts-by (a .path) (a .x .now) (len-of .result) (number-of .result) _ (len-of .ensures .0) (number-of .ensures .0)
 
 pub starts-with-spec : {M : Type 1} → statement M
 starts-with-spec =
