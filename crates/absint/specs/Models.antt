@@ -18,7 +18,7 @@ use Rattle.meaning.specs.Verify.{Answered, runOf, keptBy}
 use Rattle.meaning.specs.Laws.Fit.{Does, Reached, propagateOn, lowestBy}
 use Rattle.listing.specs.Models.{routineOf}
 use Rattle.listing.specs.declared.Routine as D
-use Rattle.abstract_state.specs.Models.{words, Fits, stateOf}
+use Rattle.abstract_state.specs.Models.{Words, words, Fits, stateOf}
 use Rattle.absint.specs.declared.kept.Start.{Start}
 use Rattle.absint.specs.declared.run_state.BlockPostcondition.{BlockPostcondition}
 use Rattle.absint.specs.declared.run_state.RunState.{RunState}
@@ -64,11 +64,26 @@ pub record Started (r : RunState) : Type 0 where
   pub visits : r .visits ≡ 0
   pub turns : r .turns ≡ 0
 
--- the kept state k of a routine with l locals, or word that there is none, stands in these arrays as a block starts from it
+-- the kept state k of a routine with l locals stands in these words as a block starts from it
+pub record From (k : Option State) (l : ℕ) (x : Words) : Type 0 where
+  pub fits : Fits x
+  pub kept : k ≡ some (stateOf x)
+  pub locals : x .state .«num_locals» ≡ l
+
+-- the same, or word that there is none
 pub record StartsFrom (k : Option State) (l : ℕ) (ls ns : List ℕ) (es : List (List ℕ)) (r : Start) : Type 0 where
-  pub fits : Fits (words ls ns es (r .state))
-  pub kept : cond (r .present) (some (stateOf (words ls ns es (r .state)))) none ≡ k
-  pub locals : r .state .«num_locals» ≡ l
+  pub there : r .present ≡ true → From k l (words ls ns es (r .state))
+  pub absent : r .present ≡ false → k ≡ none
+
+-- each kept state has the form that the blocks of a run hand on, so that its graph is well formed
+abbrev pub Sound : ℕ → List ℕ → Type 0
+Sound l ws = (j : ℕ) (k : State) → keptOf l ws j ≡ some k → Strong l k
+
+-- a state that is handed on, in a run whose kept states these are
+pub record Sent (l : ℕ) (ws : List ℕ) (x : Words) : Type 0 where
+  pub fits : Fits x
+  pub sound : Sound l ws
+  pub strong : Strong l (stateOf x)
 
 -- the end state s of block b goes to the successor with entry e
 pub record PropagatedTo (bs : List M.Block) (l : ℕ) (b : M.Block) (s : State) (e : ℕ) (ws ws′ : List ℕ) (t r : RunState) : Type 0 where
@@ -101,10 +116,11 @@ module _ (s cs : List ℕ) (d : D.Routine) where
   pub record Ready (ws : List ℕ) (t : RunState) : Type 0 where
     pub promise : promised theRoutine ≡ true
     pub blocks : d .«block_count» ≤ maxBlocks
+    pub count : length (theRoutine .blocks) ≡ d .«block_count»
     pub area : areaWords ≤ length ws
     pub going : t .stopped ≡ false
     pub within : t .next < d .«block_count»
-    pub strong : (k : State) → keptOf (d .locals) ws (t .next) ≡ some k → Strong (d .locals) k
+    pub sound : Sound (d .locals) ws
     pub few : t .turns < 1048576
     pub fewer : t .visits ≤ t .turns
 

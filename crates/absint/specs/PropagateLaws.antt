@@ -4,20 +4,22 @@ use native.Mathlib.Omega.{arith}
 use mathlib.Core.Path.{_≡_, refl, sym, ap, _∙_, subst}
 use mathlib.Core.Logic.{_≢_}
 use mathlib.Core.Bool.{Bool, true, false, _&&_, cond}
-use mathlib.Core.Option.{Option, none, some}
+use mathlib.Core.Option.{Option, none, some, Option·none-ne-some, Option·some-injective}
 use mathlib.Core.List.{List, [], _∷_}
 use borrow.Author.Tests.{le-leb, lt-ltb}
-use lib.Dec.{leb}
+use lib.Dec.{leb, eqb}
 use lib.ListN.{length, take, set}
 use Rattle.meaning.specs.Limits.{areaWords}
 use Rattle.meaning.specs.Answers.{ok, refuse}
-use Rattle.meaning.specs.Area.{keptOf, Stored}
+use Rattle.meaning.specs.Area.{keptOf, Stored, hasBlock}
 use Rattle.meaning.specs.AbstractState.{State, join, changed}
+use Rattle.meaning.specs.Laws.Base.{decide, eqb-eq, eqb-ne}
+use Rattle.meaning.specs.Laws.Forms.{Strong}
 use Rattle.meaning.specs.Loop as M
 use Rattle.meaning.specs.Loop.{Status, fine, Next, at, stopped, position, toSuccessor}
 use Rattle.meaning.specs.Laws.Fit as F
 use Rattle.meaning.specs.Laws.Fit.{Does, propagateOn}
-use Rattle.absint.specs.Models.{statusesOf, nextOf, SameCounts, PropagatedTo, Propagated}
+use Rattle.absint.specs.Models.{statusesOf, nextOf, SameCounts, Sound, PropagatedTo, Propagated}
 use Rattle.absint.specs.declared.run_state.RunState.{RunState}
 
 pub same : (t : RunState) → SameCounts t t
@@ -30,6 +32,15 @@ going t e = ap (λ (b : Bool). cond b (stopped (t .number) (t .place .0)) (at (t
 pub stored-here : (l b : ℕ) (s : State) (ws ws′ : List ℕ) → areaWords ≤ length ws → b < 16 → Stored l s b ws ws′ → keptOf l ws′ b ≡ some s
 stored-here l b s ws ws′ h k w =
     w .kept ∙ ap {B = Option State} (λ (x : Bool). cond x (some s) none) ((λ i. le-leb areaWords (length ws) h i && lt-ltb b 16 k i))
+
+-- what is stored has the form, so all that is kept still has it
+pub stored-sound : (m l b : ℕ) (s : State) (ws ws′ : List ℕ) → m ≡ l → Stored m s b ws ws′ → Sound l ws → Strong l s → Sound l ws′
+stored-sound m l b s ws ws′ r w h k j x e =
+    decide (eqb j b) (λ y. here (hasBlock (length ws) b) (sym (w .kept) ∙ ap (λ (n : ℕ). keptOf n ws′ b) r ∙ ap (keptOf l ws′) (sym (eqb-eq y)) ∙ e)) (λ n. h j x (sym (w .others l j (eqb-ne n)) ∙ e))
+  where
+    here : (y : Bool) → cond y (some s) none ≡ some x → Strong l x
+    here true q = subst (Strong l) (Option·some-injective s x q) k
+    here false q = absurd (Option·none-ne-some x q)
 
 module _ (bs : List M.Block) (l : ℕ) (b : M.Block) (s : State) (e : ℕ) (ws : List ℕ) (t : RunState) where
   pub propagated-stopped : t .stopped ≡ true → PropagatedTo bs l b s e ws ws t t

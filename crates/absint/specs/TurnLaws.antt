@@ -24,6 +24,7 @@ use Rattle.meaning.specs.EntryPoints.{Running}
 use Rattle.meaning.specs.Laws.Base.{and-l, leb-le}
 use Rattle.meaning.specs.Lists.{all}
 use Rattle.meaning.specs.Blocks.{Routine, exec, runBlock, instrsOf}
+use Rattle.meaning.specs.Laws.Forms.{Strong}
 use Rattle.meaning.specs.Laws.Promised.{promised, withinFrame, retsPlaced as placed-rets}
 use Rattle.meaning.specs.Laws.Block.{exec-keeps}
 use Rattle.meaning.specs.Loop as M
@@ -98,7 +99,7 @@ block-at xs n i w h k = go xs n i (omega (arith, w, h)) k
 
 -- ---- one turn
 
-module _ (s cs : List ℕ) (d : D.Routine) (count : length (routineOf s cs d .blocks) ≡ d .«block_count») (ws : List ℕ) (t : RunState) (p : Ready s cs d ws t) where
+module _ (s cs : List ℕ) (d : D.Routine) (ws : List ℕ) (t : RunState) (p : Ready s cs d ws t) where
   abbrev q : Routine
   q = routineOf s cs d
 
@@ -106,7 +107,7 @@ module _ (s cs : List ℕ) (d : D.Routine) (count : length (routineOf s cs d .bl
   i = t .next
 
   inside : i < length (q .blocks)
-  inside = omega (arith, count, p .within)
+  inside = omega (arith, p .count, p .within)
 
   at-next : (x : Run State) → At s cs d x ws t → Reached State join changed (exec q) (q .blocks) x (keptOf (d .locals) ws) (statusesOf t) (at i) (t .visits)
   at-next x a = subst (λ (n : Next). Reached State join changed (exec q) (q .blocks) x (keptOf (d .locals) ws) (statusesOf t) n (t .visits)) (going t (p .going)) a
@@ -130,7 +131,7 @@ module _ (s cs : List ℕ) (d : D.Routine) (count : length (routineOf s cs d .bl
 
   module _ (k : State) (old : keptOf (d .locals) ws i ≡ some k) (sts : length (statusesOf t) ≡ 16) where
     room : length (q .blocks) ≤ length (statusesOf t)
-    room = let z : d .«block_count» ≤ 16 = p .blocks in omega (arith, count, sts, z)
+    room = let z : d .«block_count» ≤ 16 = p .blocks in let c = p .count in omega (arith, c, sts, z)
 
     pub turned-violated : (r : RunState) (c o : ℕ) → exec q i k ≡ Result.violated c o → statusesOf r ≡ set (statusesOf t) i (failed c o) → nextOf r ≡ at (suc i) → r .visits ≡ suc (t .visits) → r .turns ≡ t .turns + 1 → Turned s cs d ws ws t r
     turned-violated r c o e a b v m =
@@ -176,9 +177,9 @@ module _ (s cs : List ℕ) (d : D.Routine) (count : length (routineOf s cs d .bl
           beyond = h .beyond;
         }
 
-    -- the end state has L locals too
-    pub ended-count : (e : State) → exec q i k ≡ Result.ended e → length (e .locals) ≡ d .locals
-    ended-count e ran = exec-keeps q (p .promise) i k e ran (p .strong k old) .form .count
+    -- the end state has the form too
+    pub ended-strong : (e : State) → exec q i k ≡ Result.ended e → Strong (d .locals) e
+    ended-strong e ran = exec-keeps q (p .promise) i k e ran (p .sound i k old)
 
 -- ---- the whole run
 
@@ -246,10 +247,11 @@ module _ (s cs : List ℕ) (d : D.Routine) (promise : promised (routineOf s cs d
           record {
             promise = promise;
             blocks = few;
+            count = count;
             area = area;
             going = on;
             within = m;
-            strong = λ k e. RunLaws.kept-strong r promise (t .turns) (t .next) k (sym (g .here .fits .kept (t .next)) ∙ e);
+            sound = λ j k e. RunLaws.kept-strong r promise (t .turns) j k (sym (g .here .fits .kept j) ∙ e);
             few = most-few (d .«block_count») (d .locals) (t .turns) few small (subst (λ (n : ℕ). t .turns < mostVisits n (d .locals)) count bound);
             fewer = g .fewer;
           }

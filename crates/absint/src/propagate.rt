@@ -1,6 +1,6 @@
 // A block's end state goes to its successors.
-//   propagate      "propagate postcondition of this block to successor blocks"   absint.rs 116
-//   propagate_to   the body of that loop, for one successor   absint.rs 118 to 154
+//   propagate                    "propagate postcondition of this block to successor blocks"   absint.rs 116
+//   propagate_to, propagate_at   the body of that loop, for one successor   absint.rs 118 to 154
 use crate::kept::start_from;
 use crate::run_state::RunState;
 use absint_area::store;
@@ -9,17 +9,21 @@ use abstract_state::state::LOCALS;
 use abstract_state_join::join::join;
 use file_format::CodeOffset;
 use listing::Block;
+use meaning::EDGE_WORDS;
 use meaning::MAX_BLOCKS;
 use meaning::MAX_EDGES;
 use meaning::MAX_NAMES;
 ghost use mathlib.Core.Path.{_≡_};
-ghost use Prim.Native.Nat.{_≤_};
+ghost use mathlib.Core.Bool.{false};
+ghost use mathlib.Core.List.{List};
+ghost use Prim.Native.Nat.{_≤_, _<_};
 ghost use lib.ListN.{length};
 ghost use Rattle.meaning.specs.Limits.{maxBlocks, areaWords};
+ghost use Rattle.meaning.specs.Loop as L;
 ghost use Rattle.meaning.specs.Loop.{position};
 ghost use Rattle.listing.specs.Models.{blockOf, blocksIn};
-ghost use Rattle.abstract_state.specs.Models.{words, Fits, stateOf};
-ghost use Rattle.absint.specs.Models.{PropagatedTo, Propagated};
+ghost use Rattle.abstract_state.specs.Models.{words, stateOf};
+ghost use Rattle.absint.specs.Models.{Sound, Sent, PropagatedTo, Propagated};
 
 // Where the block with this entry is listed; n, if there is none.
 fn position_of(blocks: [Block; MAX_BLOCKS], n: usize, e: CodeOffset) -> usize
@@ -37,7 +41,48 @@ fn position_of(blocks: [Block; MAX_BLOCKS], n: usize, e: CodeOffset) -> usize
     i
 }
 
-// The end state s of block b, to the successor with entry e.
+// The end state s of block b, to the successor with entry e, which is listed at j. A join works on both graphs, so it gets copies of ours.
+fn propagate_at(
+    area: &mut [u32],
+    b: Block,
+    e: CodeOffset,
+    j: usize,
+    locals: &[u32; LOCALS],
+    names: &[u32; MAX_NAMES],
+    edges: &[[u32; EDGE_WORDS]; MAX_EDGES],
+    s: AbstractState,
+    t: RunState,
+) -> RunState
+    requires { ⌜ (t .stopped ≡ false) × (j < maxBlocks) × (areaWords ≤ length (now area)) × Sent (s .«num_locals») (now area) (words (now locals) (now names) (now edges) s) ⌝ }
+    ensures { λ r. ⌜ ((bs : List L.Block) → j ≡ position bs (e .0) → j < length bs → length bs ≤ maxBlocks →
+        PropagatedTo bs (s .«num_locals») (blockOf b) (stateOf (words (now (locals .entry)) (now (names .entry)) (now (edges .entry)) s)) (e .0) (now (area .entry)) (now (area .exit)) t r)
+        × Sound (s .«num_locals») (now (area .exit)) ⌝ }
+{
+    let mut ls = [0u32; LOCALS];
+    let mut ns = [0u32; MAX_NAMES];
+    let mut es = [[0u32; EDGE_WORDS]; MAX_EDGES];
+    let k = start_from(area, j, s.num_locals, &mut ls, &mut ns, &mut es);
+    if !k.present {
+        store(area, j, locals, names, edges, s);
+        return t.clear(j);
+    }
+    let mut n2 = *names;
+    let mut e2 = *edges;
+    let old = k.state;
+    let x = join(&mut ls, &mut ns, &mut es, old, locals, &mut n2, &mut e2, s);
+    if x.refusal != 0 {
+        let place = b.exit;
+        return t.stop(x.refusal, place);
+    }
+    if x.changed {
+        let new = x.state;
+        store(area, j, &ls, &ns, &es, new);
+        return t.revisit(j, e.0 <= b.entry.0);
+    }
+    t
+}
+
+// To the successor with entry e. Nothing is done where the run has stopped, or where no block has that entry.
 fn propagate_to(
     area: &mut [u32],
     blocks: [Block; MAX_BLOCKS],
@@ -46,12 +91,13 @@ fn propagate_to(
     e: CodeOffset,
     locals: &[u32; LOCALS],
     names: &[u32; MAX_NAMES],
-    edges: &[[u32; 10]; MAX_EDGES],
+    edges: &[[u32; EDGE_WORDS]; MAX_EDGES],
     s: AbstractState,
     t: RunState,
 ) -> RunState
-    requires { ⌜ (n ≤ maxBlocks) × (areaWords ≤ length (now area)) × Fits (words (now locals) (now names) (now edges) s) ⌝ }
-    ensures { λ r. ⌜ PropagatedTo (blocksIn blocks n) (s .«num_locals») (blockOf b) (stateOf (words (now (locals .entry)) (now (names .entry)) (now (edges .entry)) s)) (e .0) (now (area .entry)) (now (area .exit)) t r ⌝ }
+    requires { ⌜ (n ≤ maxBlocks) × (areaWords ≤ length (now area)) × Sent (s .«num_locals») (now area) (words (now locals) (now names) (now edges) s) ⌝ }
+    ensures { λ r. ⌜ PropagatedTo (blocksIn blocks n) (s .«num_locals») (blockOf b) (stateOf (words (now (locals .entry)) (now (names .entry)) (now (edges .entry)) s)) (e .0) (now (area .entry)) (now (area .exit)) t r
+        × Sound (s .«num_locals») (now (area .exit)) ⌝ }
 {
     if t.stopped {
         return t;
@@ -60,49 +106,7 @@ fn propagate_to(
     if n <= j {
         return t;
     }
-    let mut kept_locals = [0u32; LOCALS];
-    let mut kept_names = [0u32; MAX_NAMES];
-    let mut kept_edges = [[0u32; 10]; MAX_EDGES];
-    let k = start_from(
-        area,
-        j,
-        s.num_locals,
-        &mut kept_locals,
-        &mut kept_names,
-        &mut kept_edges,
-    );
-    if k.present {
-        let mut their_names = *names;
-        let mut their_edges = *edges;
-        let old = k.state;
-        let x = join(
-            &mut kept_locals,
-            &mut kept_names,
-            &mut kept_edges,
-            old,
-            locals,
-            &mut their_names,
-            &mut their_edges,
-            s,
-        );
-        if x.refusal != 0 {
-            let place = b.exit;
-            return t.stop(x.refusal, place);
-        }
-        if x.changed {
-            let new = x.state;
-            store(area, j, &kept_locals, &kept_names, &kept_edges, new);
-            let mut u = t.clear(j);
-            if e.0 <= b.entry.0 {
-                u.next = j;
-                return u;
-            }
-            return u;
-        }
-        return t;
-    }
-    store(area, j, locals, names, edges, s);
-    t.clear(j)
+    propagate_at(area, b, e, j, locals, names, edges, s, t)
 }
 
 // To its successors as listed: a block without any has returned, and its state goes to nobody.
@@ -113,11 +117,11 @@ pub(crate) fn propagate(
     b: Block,
     locals: &[u32; LOCALS],
     names: &[u32; MAX_NAMES],
-    edges: &[[u32; 10]; MAX_EDGES],
+    edges: &[[u32; EDGE_WORDS]; MAX_EDGES],
     s: AbstractState,
     t: RunState,
 ) -> RunState
-    requires { ⌜ (n ≤ maxBlocks) × (areaWords ≤ length (now area)) × Fits (words (now locals) (now names) (now edges) s) × (1 ≤ b .count) ⌝ }
+    requires { ⌜ (n ≤ maxBlocks) × (areaWords ≤ length (now area)) × Sent (s .«num_locals») (now area) (words (now locals) (now names) (now edges) s) × (1 ≤ b .count) ⌝ }
     ensures { λ r. ⌜ Propagated (blocksIn blocks n) (s .«num_locals») (blockOf b) (stateOf (words (now (locals .entry)) (now (names .entry)) (now (edges .entry)) s)) (now (area .entry)) (now (area .exit)) t r ⌝ }
 {
     let first = b.first;

@@ -4,10 +4,11 @@
 use file_format::CodeOffset;
 use meaning::MAX_BLOCKS;
 ghost use mathlib.Core.Path.{_≡_};
-ghost use Prim.Native.Nat.{_<_};
+ghost use mathlib.Core.Bool.{false, cond};
+ghost use Prim.Native.Nat.{_+_, _<_};
 ghost use lib.ListN.{length, set};
 ghost use Rattle.meaning.specs.Limits.{maxBlocks};
-ghost use Rattle.meaning.specs.Loop.{fine, failed, stopped};
+ghost use Rattle.meaning.specs.Loop.{fine, failed, at, stopped};
 ghost use Rattle.absint.specs.Models.{statusOf, statusesOf, nextOf, Started, SameCounts};
 
 // Code and offset are free where the block has not failed.
@@ -49,6 +50,17 @@ impl RunState {
         }
     }
 
+    // To the block listed after this one.
+    pub(crate) fn onward(self) -> Self
+        requires { ⌜ (self .next < maxBlocks) × (self .turns < 1048576) ⌝ }
+        ensures { λ r. ⌜ (self .stopped ≡ false → nextOf r ≡ at (self .next + 1)) × (statusesOf r ≡ statusesOf self) × (r .visits ≡ self .visits) × (r .turns ≡ self .turns + 1) ⌝ }
+    {
+        let mut t = self;
+        t.next = self.next + 1;
+        t.turns = self.turns + 1;
+        t
+    }
+
     pub(crate) fn stop(self, number: u8, place: CodeOffset) -> Self
         ensures { λ r. ⌜ (nextOf r ≡ stopped number (place .0)) × (statusesOf r ≡ statusesOf self) × SameCounts self r × (length (statusesOf self) ≡ maxBlocks) ⌝ }
     {
@@ -68,6 +80,18 @@ impl RunState {
         t
     }
 
+    pub(crate) fn fail(self, j: usize, code: u8, offset: CodeOffset) -> Self
+        requires { ⌜ j < maxBlocks ⌝ }
+        ensures { λ r. ⌜ (nextOf r ≡ nextOf self) × (statusesOf r ≡ set (statusesOf self) j (failed code (offset .0))) × SameCounts self r × (length (statusesOf self) ≡ maxBlocks) ⌝ }
+    {
+        let x = BlockPostcondition {
+            failed: true,
+            code,
+            offset,
+        };
+        self.mark(j, x)
+    }
+
     // An error vanishes.
     pub(crate) fn clear(self, j: usize) -> Self
         requires { ⌜ j < maxBlocks ⌝ }
@@ -79,5 +103,17 @@ impl RunState {
             offset: CodeOffset(0),
         };
         self.mark(j, x)
+    }
+
+    // A block whose kept state has changed: its error vanishes, and where it lies back it is next.
+    pub(crate) fn revisit(self, j: usize, back: bool) -> Self
+        requires { ⌜ (j < maxBlocks) × (self .stopped ≡ false) ⌝ }
+        ensures { λ r. ⌜ (nextOf r ≡ at (cond back j (self .next))) × (statusesOf r ≡ set (statusesOf self) j fine) × SameCounts self r × (length (statusesOf self) ≡ maxBlocks) ⌝ }
+    {
+        let mut t = self.clear(j);
+        if back {
+            t.next = j;
+        }
+        t
     }
 }

@@ -1,6 +1,6 @@
 -- The models, element by element.
 use Prim.Native.Nat.{ℕ, _+_, _*_, _/_, _%_, _≤_, _<_, min}
-use mathlib.Core.Path.{_≡_, refl, sym, ap, _∙_}
+use mathlib.Core.Path.{_≡_, refl, ap, _∙_}
 use mathlib.Core.Bool.{Bool, cond}
 use mathlib.Core.List.{List, []}
 use mathlib.Core.Option.{Option, none, some}
@@ -8,7 +8,7 @@ use native.Mathlib.Omega.{arith}
 use lib.Dec.{eqb}
 use lib.ListN.{length, getD}
 use Rattle.meaning.specs.Lists.{upTo}
-use Rattle.meaning.specs.Area.{localIn, nameIn, labelIn, edgeIn, wordAt, unkept}
+use Rattle.meaning.specs.Area.{localIn, nameIn, labelIn, edgeIn, unkept}
 use Rattle.meaning.specs.Laws.Area.{upTo-same, upTo-front, Filled, filled-front, local-word, IsLocal, aboveLocal}
 use Rattle.meaning.specs.BorrowGraph.{Name, GEdge}
 use Rattle.meaning.specs.AbstractState as S

@@ -10,11 +10,12 @@ mod read;
 mod write;
 
 use abstract_state::state::AbstractState;
+use abstract_state::state::LOCALS;
 use meaning::AREA_WORDS;
 use meaning::BLOCK_WORDS;
+use meaning::EDGE_WORDS;
 use meaning::MAX_BLOCKS;
 use meaning::MAX_EDGES;
-use meaning::MAX_LOCALS;
 use meaning::MAX_NAMES;
 ghost use mathlib.Core.Path.{_≡_};
 ghost use Prim.Native.Nat.{_≤_};
@@ -27,14 +28,10 @@ ghost use Rattle.absint_area.specs.Models.{loadedIn};
 // A local's part of a word is below LOCAL_END.
 const LOCAL_END: u32 = 262144;
 
-const LOCALS: usize = MAX_LOCALS as usize;
-
-// Where in a block's words the names and the edges start, and how many words an edge has.
+// Where in a block's words the names and the edges start.
 const REFS_AT: usize = LOCALS;
 
 const EDGES_AT: usize = 64;
-
-const EDGE_WORDS: usize = 10;
 
 // Whether a block has a state to start from, and how many names and edges that one has.
 pub struct Kept {

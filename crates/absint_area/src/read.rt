@@ -1,10 +1,10 @@
 // What a block's words say, read: only those of what is held.
-use crate::EDGE_WORDS;
 use crate::EDGES_AT;
 use crate::Kept;
 use crate::LOCAL_END;
-use crate::LOCALS;
 use crate::REFS_AT;
+use abstract_state::state::LOCALS;
+use meaning::EDGE_WORDS;
 use meaning::MAX_EDGES;
 use meaning::MAX_NAMES;
 use meaning::lesser;
@@ -13,7 +13,7 @@ ghost use mathlib.Core.List.{[]};
 ghost use Prim.Native.Nat.{_+_, _*_, _≤_};
 ghost use lib.ListN.{length};
 ghost use Rattle.meaning.specs.Limits.{maxLocals, maxNames, maxEdges, blockWords};
-ghost use Rattle.meaning.specs.Area.{localIn, nameIn, edgeIn, decode, wordAt, wordsFrom};
+ghost use Rattle.meaning.specs.Area.{localIn, nameIn, edgeIn, decode, wordAt, wordsFrom, edgeWords};
 ghost use Rattle.meaning.specs.Laws.Area.{Filled};
 ghost use Rattle.references.specs.Models.{rowOf};
 ghost use Rattle.absint_area.specs.Models.{loadedIn};
@@ -54,7 +54,7 @@ fn get_row(ws: &[u32], at: usize) -> [u32; EDGE_WORDS]
 }
 
 fn get_edges(ws: &[u32], at: usize, n: usize, edges: &mut [[u32; EDGE_WORDS]; MAX_EDGES])
-    requires { ⌜ (at + 960 ≤ length (now ws)) × (n ≤ maxEdges) ⌝ }
+    requires { ⌜ (at + edgeWords * maxEdges ≤ length (now ws)) × (n ≤ maxEdges) ⌝ }
     ensures { λ _. ⌜ (length (now (edges .entry)) ≡ maxEdges → Filled rowOf [] (λ i. edgeIn (wordAt (now (ws .entry))) (at + 10 * i)) maxEdges n (now (edges .exit))) ⌝ }
 {
     let mut i: usize = 0;

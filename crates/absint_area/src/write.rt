@@ -1,22 +1,22 @@
 // A state's words, written: only those of what it holds.
-use crate::EDGE_WORDS;
 use crate::EDGES_AT;
 use crate::LOCAL_END;
-use crate::LOCALS;
 use crate::REFS_AT;
 use abstract_state::state::AbstractState;
+use abstract_state::state::LOCALS;
 use meaning::AREA_WORDS;
 use meaning::BLOCK_WORDS;
+use meaning::EDGE_WORDS;
 use meaning::MAX_BLOCKS;
 use meaning::MAX_EDGES;
 use meaning::MAX_NAMES;
 use meaning::lesser;
 ghost use mathlib.Core.Path.{_≡_};
 ghost use mathlib.Core.Option.{some};
-ghost use Prim.Native.Nat.{_+_, _≤_};
+ghost use Prim.Native.Nat.{_+_, _*_, _≤_};
 ghost use lib.ListN.{length};
 ghost use Rattle.meaning.specs.Limits.{maxLocals, maxNames, maxEdges, maxBlocks, areaWords, blockWords};
-ghost use Rattle.meaning.specs.Area.{edgeIn, decode, wordAt, wordsFrom, unkept};
+ghost use Rattle.meaning.specs.Area.{edgeIn, decode, wordAt, wordsFrom, unkept, edgeWords};
 ghost use Rattle.meaning.specs.Laws.Area.{Frame, Written, WrittenEdges, IsLocal, IsName, IsZero, aboveLocal};
 ghost use Rattle.references.specs.Models.{rowOf};
 ghost use Rattle.abstract_state.specs.Models.{words, stateOf};
@@ -97,7 +97,7 @@ fn put_row(ws: &mut [u32], at: usize, x: &[u32; EDGE_WORDS])
 }
 
 fn put_edges(ws: &mut [u32], at: usize, edges: &[[u32; EDGE_WORDS]; MAX_EDGES], n: usize)
-    requires { ⌜ (at + 960 ≤ length (now ws)) × (n ≤ maxEdges) ⌝ }
+    requires { ⌜ (at + edgeWords * maxEdges ≤ length (now ws)) × (n ≤ maxEdges) ⌝ }
     ensures { λ _. ⌜ WrittenEdges (rowAt (now (edges .entry))) at maxEdges n (now (ws .entry)) (now (ws .exit)) ⌝ }
 {
     let mut i: usize = 0;

@@ -22,6 +22,7 @@ use crate::words::local_word;
 use borrow_graph::graph::Answer;
 use borrow_graph::graph::YesOrNo;
 use file_format::LocalIndex;
+use meaning::EDGE_WORDS;
 use meaning::MAX_EDGES;
 use meaning::MAX_LOCALS;
 use meaning::MAX_NAMES;
@@ -178,7 +179,7 @@ fn on_graph(state: AbstractState, a: Answer) -> AbstractState
 
 pub fn add_copy(
     names: &[u32; MAX_NAMES],
-    edges: &mut [[u32; 10]; MAX_EDGES],
+    edges: &mut [[u32; EDGE_WORDS]; MAX_EDGES],
     state: AbstractState,
     parent: RefID,
     child: RefID,
@@ -199,7 +200,7 @@ pub fn add_copy(
 
 pub fn add_borrow(
     names: &[u32; MAX_NAMES],
-    edges: &mut [[u32; 10]; MAX_EDGES],
+    edges: &mut [[u32; EDGE_WORDS]; MAX_EDGES],
     state: AbstractState,
     parent: RefID,
     child: RefID,
@@ -220,7 +221,7 @@ pub fn add_borrow(
 
 pub fn add_field_borrow(
     names: &[u32; MAX_NAMES],
-    edges: &mut [[u32; 10]; MAX_EDGES],
+    edges: &mut [[u32; EDGE_WORDS]; MAX_EDGES],
     state: AbstractState,
     parent: RefID,
     field: u16,
@@ -236,7 +237,7 @@ pub fn add_field_borrow(
 
 pub fn add_local_borrow(
     names: &[u32; MAX_NAMES],
-    edges: &mut [[u32; 10]; MAX_EDGES],
+    edges: &mut [[u32; EDGE_WORDS]; MAX_EDGES],
     state: AbstractState,
     local: LocalIndex,
     child: RefID,
@@ -252,7 +253,7 @@ pub fn add_local_borrow(
 
 pub fn add_resource_borrow(
     names: &[u32; MAX_NAMES],
-    edges: &mut [[u32; 10]; MAX_EDGES],
+    edges: &mut [[u32; EDGE_WORDS]; MAX_EDGES],
     state: AbstractState,
     resource: u16,
     child: RefID,
@@ -268,7 +269,7 @@ pub fn add_resource_borrow(
 
 pub fn release(
     names: &mut [u32; MAX_NAMES],
-    edges: &mut [[u32; 10]; MAX_EDGES],
+    edges: &mut [[u32; EDGE_WORDS]; MAX_EDGES],
     state: AbstractState,
     id: RefID,
 ) -> AbstractState

@@ -18,6 +18,7 @@ use crate::core::frame_root;
 use crate::state::AbstractState;
 use borrow_graph::graph::YesOrNo;
 use file_format::LocalIndex;
+use meaning::EDGE_WORDS;
 use meaning::MAX_EDGES;
 use meaning::MAX_NAMES;
 use paths::Label;
@@ -45,7 +46,7 @@ pub fn is_mutable(names: &[u32; MAX_NAMES], state: AbstractState, id: RefID) -> 
 // An empty-path borrow.
 pub fn has_full_borrows(
     names: &[u32; MAX_NAMES],
-    edges: &[[u32; 10]; MAX_EDGES],
+    edges: &[[u32; EDGE_WORDS]; MAX_EDGES],
     state: AbstractState,
     id: RefID,
 ) -> YesOrNo
@@ -61,7 +62,7 @@ pub fn has_full_borrows(
 
 pub fn has_consistent_borrows(
     names: &[u32; MAX_NAMES],
-    edges: &[[u32; 10]; MAX_EDGES],
+    edges: &[[u32; EDGE_WORDS]; MAX_EDGES],
     state: AbstractState,
     id: RefID,
     at: LabelFilter,
@@ -78,7 +79,7 @@ pub fn has_consistent_borrows(
 
 pub fn has_consistent_mutable_borrows(
     names: &[u32; MAX_NAMES],
-    edges: &[[u32; 10]; MAX_EDGES],
+    edges: &[[u32; EDGE_WORDS]; MAX_EDGES],
     state: AbstractState,
     id: RefID,
     at: LabelFilter,
@@ -96,7 +97,7 @@ pub fn has_consistent_mutable_borrows(
 // Of a mutable reference: nothing is borrowed from it.
 pub fn is_writable(
     names: &[u32; MAX_NAMES],
-    edges: &[[u32; 10]; MAX_EDGES],
+    edges: &[[u32; EDGE_WORDS]; MAX_EDGES],
     state: AbstractState,
     id: RefID,
 ) -> YesOrNo
@@ -112,7 +113,7 @@ pub fn is_writable(
 // Of a mutable reference: nothing is mutably borrowed from it.
 pub fn is_freezable(
     names: &[u32; MAX_NAMES],
-    edges: &[[u32; 10]; MAX_EDGES],
+    edges: &[[u32; EDGE_WORDS]; MAX_EDGES],
     state: AbstractState,
     id: RefID,
     at: LabelFilter,
@@ -128,7 +129,7 @@ pub fn is_freezable(
 
 pub fn is_readable(
     names: &[u32; MAX_NAMES],
-    edges: &[[u32; 10]; MAX_EDGES],
+    edges: &[[u32; EDGE_WORDS]; MAX_EDGES],
     state: AbstractState,
     id: RefID,
     at: LabelFilter,
@@ -145,7 +146,7 @@ pub fn is_readable(
 
 pub fn is_local_borrowed(
     names: &[u32; MAX_NAMES],
-    edges: &[[u32; 10]; MAX_EDGES],
+    edges: &[[u32; EDGE_WORDS]; MAX_EDGES],
     state: AbstractState,
     local: LocalIndex,
 ) -> YesOrNo
@@ -158,7 +159,7 @@ pub fn is_local_borrowed(
 
 pub fn is_local_mutably_borrowed(
     names: &[u32; MAX_NAMES],
-    edges: &[[u32; 10]; MAX_EDGES],
+    edges: &[[u32; EDGE_WORDS]; MAX_EDGES],
     state: AbstractState,
     local: LocalIndex,
 ) -> YesOrNo
@@ -171,7 +172,7 @@ pub fn is_local_mutably_borrowed(
 
 pub fn is_global_borrowed(
     names: &[u32; MAX_NAMES],
-    edges: &[[u32; 10]; MAX_EDGES],
+    edges: &[[u32; EDGE_WORDS]; MAX_EDGES],
     state: AbstractState,
     resource: u16,
 ) -> YesOrNo
@@ -184,7 +185,7 @@ pub fn is_global_borrowed(
 
 pub fn is_global_mutably_borrowed(
     names: &[u32; MAX_NAMES],
-    edges: &[[u32; 10]; MAX_EDGES],
+    edges: &[[u32; EDGE_WORDS]; MAX_EDGES],
     state: AbstractState,
     resource: u16,
 ) -> YesOrNo
@@ -198,7 +199,7 @@ pub fn is_global_mutably_borrowed(
 // Nothing is borrowed from the frame.
 pub fn is_frame_safe_to_destroy(
     names: &[u32; MAX_NAMES],
-    edges: &[[u32; 10]; MAX_EDGES],
+    edges: &[[u32; EDGE_WORDS]; MAX_EDGES],
     state: AbstractState,
 ) -> YesOrNo
     ensures { λ r. ⌜ ((ls : List ℕ) → Fits (words ls (now (names .entry)) (now (edges .entry)) state) → toldOf r ≡ ofName (graphIn (now (names .entry)) (now (edges .entry)) (state .«borrow_graph»)) (state .«num_locals») (not (borrowed (graphIn (now (names .entry)) (now (edges .entry)) (state .«borrow_graph»)) (state .«num_locals») none))) ⌝ }

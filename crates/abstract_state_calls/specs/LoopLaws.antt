@@ -5,7 +5,7 @@ use mathlib.Core.Bool.{Bool, true, false, _&&_}
 use mathlib.Core.List.{List, [], _∷_}
 use lib.Dec.{eqb}
 use lib.ListN.{drop}
-use Rattle.meaning.specs.Answers.{Ans, ok, guard, Outcome, done, violated, refused, then, fails, needs}
+use Rattle.meaning.specs.Answers.{ok, guard, Outcome, done, violated, refused, then, fails, needs}
 use Rattle.meaning.specs.BorrowGraph.{Graph, wellFormed, held}
 use Rattle.meaning.specs.BorrowGraph as L
 use Rattle.meaning.specs.EntryPoints.{needsName, Running}

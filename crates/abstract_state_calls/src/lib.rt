@@ -35,9 +35,11 @@ use abstract_state::state::Operands;
 use abstract_state::words::value_of;
 use abstract_state::words::value_word;
 use borrow_graph::graph::YesOrNo;
+use meaning::EDGE_WORDS;
 use meaning::MAX_EDGES;
 use meaning::MAX_NAMES;
 use meaning::MAX_OPERANDS;
+use meaning::ROOM;
 use meaning::lesser;
 ghost use mathlib.Core.Path.{_≡_};
 ghost use mathlib.Core.List.{List, [], _∷_, map};
@@ -60,12 +62,12 @@ pub struct Called {
 // The acquired numbers come in any order, with repeats; the tokens are 0 a value, 1 a reference, 2 a mutable reference.
 pub fn call(
     names: &mut [u32; MAX_NAMES],
-    edges: &mut [[u32; 10]; MAX_EDGES],
+    edges: &mut [[u32; EDGE_WORDS]; MAX_EDGES],
     state: AbstractState,
     arguments: Operands,
-    acquired: [u16; 16],
+    acquired: [u16; ROOM],
     acquired_count: usize,
-    tokens: [u8; 16],
+    tokens: [u8; ROOM],
     token_count: usize,
 ) -> Called
     ensures { λ r. ⌜ ((ls : List ℕ) → (Fits (words ls (now (names .entry)) (now (edges .entry)) state) → Fits (words ls (now (names .exit)) (now (edges .exit)) (r .state))) × (Fits (words ls (now (names .entry)) (now (edges .entry)) state) → answersOf (words ls (now (names .exit)) (now (edges .exit)) (r .state)) (operandsOf (r .values)) ≡ then (outcomeOf (words ls (now (names .entry)) (now (edges .entry)) state)) (R.call (operandsOf arguments) (take «acquired_count» acquired) (map tokenAs (take «token_count» tokens))))) ⌝ }
@@ -84,7 +86,7 @@ pub fn call(
 pub fn ret(
     locals: &[u32; LOCALS],
     names: &mut [u32; MAX_NAMES],
-    edges: &mut [[u32; 10]; MAX_EDGES],
+    edges: &mut [[u32; EDGE_WORDS]; MAX_EDGES],
     state: AbstractState,
     values: Operands,
 ) -> AbstractState
@@ -99,7 +101,7 @@ pub fn ret(
 // Nothing of the frame may be borrowed when it ends.
 fn fail_frame(
     names: &[u32; MAX_NAMES],
-    edges: &[[u32; 10]; MAX_EDGES],
+    edges: &[[u32; EDGE_WORDS]; MAX_EDGES],
     state: AbstractState,
 ) -> AbstractState
     ensures { λ r. ⌜ ((ls : List ℕ) → Does framed (words ls (now (names .entry)) (now (edges .entry)) state) (words ls (now (names .entry)) (now (edges .entry)) r)) ⌝ }
@@ -118,14 +120,14 @@ fn fail_frame(
 // A call fails on a borrow of any number that it acquires.
 fn fail_acquired(
     names: &[u32; MAX_NAMES],
-    edges: &[[u32; 10]; MAX_EDGES],
+    edges: &[[u32; EDGE_WORDS]; MAX_EDGES],
     state: AbstractState,
-    acquired: [u16; 16],
+    acquired: [u16; ROOM],
     count: usize,
 ) -> AbstractState
     ensures { λ r. ⌜ ((ls : List ℕ) → Does (acquiring (take count acquired)) (words ls (now (names .entry)) (now (edges .entry)) state) (words ls (now (names .entry)) (now (edges .entry)) r)) ⌝ }
 {
-    let n = lesser(count, 16);
+    let n = lesser(count, ROOM);
     let mut s = state;
     let mut i: usize = 0;
     while i < n {
@@ -137,7 +139,7 @@ fn fail_acquired(
 
 fn fail_global(
     names: &[u32; MAX_NAMES],
-    edges: &[[u32; 10]; MAX_EDGES],
+    edges: &[[u32; EDGE_WORDS]; MAX_EDGES],
     state: AbstractState,
     resource: u16,
 ) -> AbstractState
@@ -159,7 +161,7 @@ fn ask_root(names: &[u32; MAX_NAMES], state: AbstractState) -> AbstractState
 // References go to a callee or to the caller: the violation, where a mutable one is borrowed.
 fn hand_over(
     names: &[u32; MAX_NAMES],
-    edges: &[[u32; 10]; MAX_EDGES],
+    edges: &[[u32; EDGE_WORDS]; MAX_EDGES],
     state: AbstractState,
     values: Operands,
     code: u8,
@@ -180,7 +182,7 @@ fn hand_over(
 
 fn hand_value(
     names: &[u32; MAX_NAMES],
-    edges: &[[u32; 10]; MAX_EDGES],
+    edges: &[[u32; EDGE_WORDS]; MAX_EDGES],
     state: AbstractState,
     v: AbstractValue,
     code: u8,
@@ -207,9 +209,9 @@ fn hand_value(
 
 fn return_values(
     names: &mut [u32; MAX_NAMES],
-    edges: &mut [[u32; 10]; MAX_EDGES],
+    edges: &mut [[u32; EDGE_WORDS]; MAX_EDGES],
     state: AbstractState,
-    tokens: [u8; 16],
+    tokens: [u8; ROOM],
     count: usize,
     mutable: Ids,
     all: Ids,
@@ -233,7 +235,7 @@ fn return_values(
 // The value that a token stands for. A mutable reference borrows from the mutable arguments, another one from all.
 fn return_value(
     names: &mut [u32; MAX_NAMES],
-    edges: &mut [[u32; 10]; MAX_EDGES],
+    edges: &mut [[u32; EDGE_WORDS]; MAX_EDGES],
     state: AbstractState,
     token: u8,
     mutable: Ids,
@@ -250,7 +252,7 @@ fn return_value(
 
 fn return_ref(
     names: &mut [u32; MAX_NAMES],
-    edges: &mut [[u32; 10]; MAX_EDGES],
+    edges: &mut [[u32; EDGE_WORDS]; MAX_EDGES],
     state: AbstractState,
     mutable: bool,
     parents: Ids,

@@ -2,17 +2,14 @@
 use Prim.Native.Nat.{ℕ, zero, suc, _+_, _-_, _≤_, _<_, min}
 use native.Mathlib.Omega.{arith}
 use native.Mathlib.Numerals.{add-one}
-use mathlib.Core.Path.{_≡_, refl, sym, ap, _∙_, subst}
-use mathlib.Core.Bool.{Bool, true, false, _&&_, _||_, cond}
-use mathlib.Core.List.{List, [], _∷_, _++_, map}
-use lib.Dec.{eqb, leb, ltb}
-use lib.ListN.{length, take, drop, getD, length-append, length-map, length-take, drop-of-length-le}
-use lib.Seq.{append-snoc}
-use Rattle.meaning.specs.Answers.{Ans, ok, andThen, leaves}
-use Rattle.meaning.specs.Lists.{all}
-use Rattle.meaning.specs.Laws.Base.{decide, and-l, and-r, and-i, andThen-ok, leb-le, le-leb, leb-gt, eqb-eq}
+use mathlib.Core.Path.{_≡_, refl, sym, ap, _∙_}
+use mathlib.Core.Bool.{Bool, true, false, cond}
+use mathlib.Core.List.{List, [], _∷_, map}
+use lib.Dec.{eqb, leb}
+use lib.ListN.{length, take, drop, getD, length-map, length-take, drop-of-length-le}
+use Rattle.meaning.specs.Laws.Base.{decide, leb-le, leb-gt}
 use Rattle.meaning.specs.Laws.Array.{front-map-step}
-use Rattle.meaning.specs.BorrowGraph.{Name, Graph, holds, ascending, wellFormed, inOrder, putName, newName}
+use Rattle.meaning.specs.BorrowGraph.{Name, Graph, wellFormed}
 use Rattle.meaning.specs.AbstractState as S
 use Rattle.meaning.specs.AbstractState.{Token, ofValue, ofRef, firstLocals, firstNames, firstState}
 use Rattle.meaning.specs.EntryPoints.{Running}

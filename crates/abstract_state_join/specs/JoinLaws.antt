@@ -118,6 +118,10 @@ acted-theirs n k r act l g h e f =
     go true = refl
     go false = refl
 
+-- the local that was written is the step's
+pub written : (n : ℕ) (l l′ : S.Local) (g h : Graph) (z : Ans Step) → l′ ≡ l → told n (record { local = l; ours = g; theirs = h }) ≡ z → told n (record { local = l′; ours = g; theirs = h }) ≡ z
+written n l l′ g h z e f = ap (λ (y : S.Local). told {A = Step} n (record { local = y; ours = g; theirs = h })) e ∙ f
+
 pub idle-step : (m : Meeting) (g h : Graph) → m .idle ≡ true → ok (record { local = localOf (m .local); ours = g; theirs = h }) ≡ stepBy m g h
 idle-step m g h e = ap (λ (b : Bool). cond b (ok (record { local = localOf (m .local); ours = g; theirs = h })) (acted (localOf (m .local)) (m .action) g h)) (sym e)
 
@@ -182,10 +186,17 @@ module _ (ls ls₂ : List ℕ) (n m i w : ℕ) (g h : Graph) (j : Ans S.Parts) (
   pub goes-on : k ≡ 0 → andThen (joinLocals (drop (i + 1) (localsIn (set ls i w) n)) (drop (i + 1) (localsIn ls₂ m)) g′ h′) (after (map localIn (take (i + 1) (set ls i w)))) ≡ j
   goes-on z =
       ap (λ (zs : List S.Local). andThen (joinLocals zs (drop (i + 1) (localsIn ls₂ m)) g′ h′) (after (map localIn (take (i + 1) (set ls i w))))) (unread ls n i w)
-      ∙ turn-on (drop i (localsIn ls n)) (drop i (localsIn ls₂ m)) (localIn (getD ls i 0)) (localIn (getD ls₂ i 0)) (drop (i + 1) (localsIn ls n)) (drop (i + 1) (localsIn ls₂ m)) g h (map localIn (take i ls)) j (local-next ls n n l (omega arith) i hi) (local-next ls₂ m m l₂ (omega arith) i hj) inv k (record { local = localIn w; ours = g′; theirs = h′ }) e z _ (front-next ls i w (omega arith))
+      ∙ turn-on (drop i (localsIn ls n)) (drop i (localsIn ls₂ m)) (localIn (getD ls i 0)) (localIn (getD ls₂ i 0))
+      (drop (i + 1) (localsIn ls n)) (drop (i + 1) (localsIn ls₂ m)) g h (map localIn (take i ls)) j
+      (local-next ls n n l (omega arith) i hi) (local-next ls₂ m m l₂ (omega arith) i hj)
+      inv k (record { local = localIn w; ours = g′; theirs = h′ }) e z _ (front-next ls i w (omega arith))
 
   pub ends : (k ≡ 0 → ⊥) → (p : S.Parts) → told k p ≡ j
-  ends z p = turn-off (drop i (localsIn ls n)) (drop i (localsIn ls₂ m)) (localIn (getD ls i 0)) (localIn (getD ls₂ i 0)) (drop (i + 1) (localsIn ls n)) (drop (i + 1) (localsIn ls₂ m)) g h (map localIn (take i ls)) j (local-next ls n n l (omega arith) i hi) (local-next ls₂ m m l₂ (omega arith) i hj) inv k (record { local = localIn w; ours = g′; theirs = h′ }) e z p
+  ends z p =
+      turn-off (drop i (localsIn ls n)) (drop i (localsIn ls₂ m)) (localIn (getD ls i 0)) (localIn (getD ls₂ i 0))
+      (drop (i + 1) (localsIn ls n)) (drop (i + 1) (localsIn ls₂ m)) g h (map localIn (take i ls)) j
+      (local-next ls n n l (omega arith) i hi) (local-next ls₂ m m l₂ (omega arith) i hj)
+      inv k (record { local = localIn w; ours = g′; theirs = h′ }) e z p
 
 one-left : (as′ bs : List S.Local) (g h : Graph) → (length as′ ≡ 0) ⊎ (length bs ≡ 0) → (length as′ ≡ length bs → ⊥) → joinLocals as′ bs g h ≡ refuse 9
 unfolding joinLocals

@@ -66,10 +66,10 @@ acted l Refuse g h = refuse 15
 abbrev pub stepBy : Meeting → Graph → Graph → Ans Step
 stepBy m g h = cond (m .idle) (ok (record { local = localOf (m .local); ours = g; theirs = h })) (acted (localOf (m .local)) (m .action) g h)
 
--- The action on the two graphs, in their arrays.
-pub record Acts (action : Action) (ns : List ℕ) (es : List (List ℕ)) (g : BorrowGraph) (ns₂ : List ℕ) (es₂ : List (List ℕ)) (h : BorrowGraph)
+-- A step with the local l, on the two graphs in their arrays.
+pub record Acts (l : S.Local) (step-of : Graph → Graph → Ans Step) (ns : List ℕ) (es : List (List ℕ)) (g : BorrowGraph) (ns₂ : List ℕ) (es₂ : List (List ℕ)) (h : BorrowGraph)
     (ns′ : List ℕ) (es′ : List (List ℕ)) (ns₂′ : List ℕ) (es₂′ : List (List ℕ)) (r : Parts) : Type 0 where
-  pub step : (l : S.Local) → told {A = Step} (r .refusal) (record { local = l; ours = graphIn ns′ es′ (r .ours); theirs = graphIn ns₂′ es₂′ (r .theirs) }) ≡ acted l action (graphIn ns es g) (graphIn ns₂ es₂ h)
+  pub step : told {A = Step} (r .refusal) (record { local = l; ours = graphIn ns′ es′ (r .ours); theirs = graphIn ns₂′ es₂′ (r .theirs) }) ≡ step-of (graphIn ns es g) (graphIn ns₂ es₂ h)
   pub ours : Tells ns′ es′ (r .ours)
   pub theirs : Tells ns₂′ es₂′ (r .theirs)
 

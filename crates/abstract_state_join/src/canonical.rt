@@ -17,6 +17,7 @@ use abstract_state::words::local_word;
 use borrow_graph::remap::IdMap;
 use borrow_graph::remap::IdPair;
 use borrow_graph::remap::renamed;
+use meaning::EDGE_WORDS;
 use meaning::MAX_EDGES;
 use meaning::MAX_NAMES;
 use references::RefID;
@@ -58,7 +59,7 @@ fn is_named(locals: &[u32; LOCALS], n: u8, id: RefID) -> bool
 
 // The local at the index holds a name below the index, and some local holds the index as its name.
 fn crossed(locals: &[u32; LOCALS], n: u8, x: Local, i: usize) -> bool
-    requires { ⌜ i < 16 ⌝ }
+    requires { ⌜ i < maxLocals ⌝ }
     ensures { λ r. ⌜ (length (now (locals .entry)) ≡ maxLocals → r ≡ S.crossed (localsIn (now (locals .entry)) n) i (localOf x)) ⌝ }
 {
     let v = value_of(x);
@@ -128,7 +129,7 @@ fn id_map(locals: &[u32; LOCALS], n: u8, root: RefID) -> IdMap
 
 // The local with the index for the name of its reference, if it holds one.
 fn own_name(x: Local, i: usize) -> Local
-    requires { ⌜ i < 16 ⌝ }
+    requires { ⌜ i < maxLocals ⌝ }
     ensures { λ r. ⌜ localOf r ≡ ownName i (localOf x) ⌝ }
 {
     let v = value_of(x);
@@ -159,7 +160,7 @@ fn own_names(locals: &mut [u32; LOCALS], n: u8)
 pub fn construct_canonical_state(
     locals: &mut [u32; LOCALS],
     names: &mut [u32; MAX_NAMES],
-    edges: &mut [[u32; 10]; MAX_EDGES],
+    edges: &mut [[u32; EDGE_WORDS]; MAX_EDGES],
     state: AbstractState,
 ) -> AbstractState
     ensures { λ r. ⌜ Does canonicalEnd (words (now (locals .entry)) (now (names .entry)) (now (edges .entry)) state) (words (now (locals .exit)) (now (names .exit)) (now (edges .exit)) r) ⌝ }

@@ -8,6 +8,7 @@ use abstract_state::state::Local;
 use abstract_state::words::local_word;
 use borrow_graph::graph::BorrowGraph;
 use meaning::MAX_NAMES;
+use meaning::ROOM;
 use meaning::lesser;
 use references::RefID;
 use references::words::name_word;
@@ -24,8 +25,8 @@ ghost use Rattle.abstract_state.specs.Models.{localOf, localsIn, words, Fits, a
 ghost use Rattle.abstract_state_join.specs.Models.{firstRunning, firstAt};
 
 // The local at an index: the parameter that stands there, if there is one.
-fn first_local(params: [u8; 16], count: usize, i: usize) -> Local
-    requires { ⌜ i < 16 ⌝ }
+fn first_local(params: [u8; ROOM], count: usize, i: usize) -> Local
+    requires { ⌜ i < maxLocals ⌝ }
     ensures { λ r. ⌜ localOf r ≡ firstAt i (drop i (map tokenAs (take count params))) ⌝ }
 {
     if i < count {
@@ -43,8 +44,8 @@ fn first_local(params: [u8; 16], count: usize, i: usize) -> Local
     absent()
 }
 
-fn first_locals(locals: &mut [u32; LOCALS], n: usize, params: [u8; 16], count: usize)
-    requires { ⌜ n ≤ 16 ⌝ }
+fn first_locals(locals: &mut [u32; LOCALS], n: usize, params: [u8; ROOM], count: usize)
+    requires { ⌜ n ≤ maxLocals ⌝ }
     ensures { λ _. ⌜ (length (now (locals .entry)) ≡ maxLocals → (localsIn (now (locals .exit)) n ≡ firstLocals 0 n (map tokenAs (take count params))) × (length (now (locals .exit)) ≡ maxLocals)) ⌝ }
 {
     let mut i: usize = 0;
@@ -57,8 +58,8 @@ fn first_locals(locals: &mut [u32; LOCALS], n: usize, params: [u8; 16], count: u
 }
 
 // The names of the references among the parameters, and the root's, ascending.
-fn first_names(names: &mut [u32; MAX_NAMES], n: usize, params: [u8; 16], count: usize) -> usize
-    requires { ⌜ n ≤ 16 ⌝ }
+fn first_names(names: &mut [u32; MAX_NAMES], n: usize, params: [u8; ROOM], count: usize) -> usize
+    requires { ⌜ n ≤ maxLocals ⌝ }
     ensures { λ r. ⌜ (r ≤ maxNames) × (length (now (names .entry)) ≡ maxNames → (namesIn (now (names .exit)) r ≡ firstNames 0 n (map tokenAs (take count params))) × (length (now (names .exit)) ≡ maxNames)) ⌝ }
 {
     let k = lesser(n, count);
@@ -85,12 +86,12 @@ pub fn new(
     locals: &mut [u32; LOCALS],
     names: &mut [u32; MAX_NAMES],
     num_locals: u8,
-    params: [u8; 16],
+    params: [u8; ROOM],
     count: usize,
 ) -> AbstractState
     ensures { λ r. ⌜ ((es : List (List ℕ)) → length (now (locals .entry)) ≡ maxLocals → length (now (names .entry)) ≡ maxNames → length es ≡ maxEdges →
         Fits (words (now (locals .exit)) (now (names .exit)) es r)
-        × (answerOf (words (now (locals .exit)) (now (names .exit)) es r) ≡ answer (firstRunning (min «num_locals» 16) (map tokenAs (take count params))) nonRef)) ⌝ }
+        × (answerOf (words (now (locals .exit)) (now (names .exit)) es r) ≡ answer (firstRunning (min «num_locals» maxLocals) (map tokenAs (take count params))) nonRef)) ⌝ }
 {
     let n = locals::count(num_locals);
     first_locals(locals, n, params, count);

@@ -4,7 +4,7 @@
 //   join          688 `join`
 //   join_         634 `join_`
 //   join_locals   its loop over the locals, 642 to 670
-//   meet, act     one turn of that loop: what is asked, and what is done
+//   meet, turn    one turn of that loop: what is asked, and what is done
 //   same_locals   `locals_unchanged`, 692
 use crate::locals::absent;
 use crate::locals::count;
@@ -18,6 +18,7 @@ use abstract_state::words::local_word;
 use borrow_graph::cover::leq;
 use borrow_graph::graph::BorrowGraph;
 use borrow_graph_edit::release::release;
+use meaning::EDGE_WORDS;
 use meaning::MAX_EDGES;
 use meaning::MAX_NAMES;
 use meaning::lesser;
@@ -26,12 +27,13 @@ ghost use mathlib.Core.Path.{_≡_};
 ghost use lib.ListN.{length};
 ghost use Rattle.meaning.specs.Limits.{maxLocals, maxNames, maxEdges};
 ghost use Rattle.meaning.specs.BorrowGraph.{Graph};
+ghost use Rattle.meaning.specs.Answers.{ok};
 ghost use Rattle.meaning.specs.AbstractState as S;
 ghost use Rattle.meaning.specs.AbstractState.{joinLocal, eqLocal, eqLocals};
 ghost use Rattle.meaning.specs.EntryPoints as R;
 ghost use Rattle.borrow_graph.specs.Models.{Tells};
 ghost use Rattle.abstract_state.specs.Models.{operandOf, localOf, localsIn, words, Fits, stateOf};
-ghost use Rattle.abstract_state_join.specs.Models.{stepBy, Acts, LocalsJoin, Merges, Joins, changedBy};
+ghost use Rattle.abstract_state_join.specs.Models.{acted, stepBy, Acts, LocalsJoin, Merges, Joins, changedBy};
 
 // What the join of two locals does to the graphs.
 pub(crate) enum Action {
@@ -149,16 +151,16 @@ fn meet(a: Local, b: Local) -> Meeting
 
 fn act(
     names: &mut [u32; MAX_NAMES],
-    edges: &mut [[u32; 10]; MAX_EDGES],
+    edges: &mut [[u32; EDGE_WORDS]; MAX_EDGES],
     ours: BorrowGraph,
-    their_names: &mut [u32; MAX_NAMES],
-    their_edges: &mut [[u32; 10]; MAX_EDGES],
+    names2: &mut [u32; MAX_NAMES],
+    edges2: &mut [[u32; EDGE_WORDS]; MAX_EDGES],
     theirs: BorrowGraph,
     action: Action,
 ) -> Parts
-    ensures { λ r. ⌜ (Tells (now (names .entry)) (now (edges .entry)) ours → Tells (now («their_names» .entry)) (now («their_edges» .entry)) theirs →
-        Acts action (now (names .entry)) (now (edges .entry)) ours (now («their_names» .entry)) (now («their_edges» .entry)) theirs
-        (now (names .exit)) (now (edges .exit)) (now («their_names» .exit)) (now («their_edges» .exit)) r) ⌝ }
+    ensures { λ r. ⌜ ((l : S.Local) → Tells (now (names .entry)) (now (edges .entry)) ours → Tells (now (names2 .entry)) (now (edges2 .entry)) theirs →
+        Acts l (acted l action) (now (names .entry)) (now (edges .entry)) ours (now (names2 .entry)) (now (edges2 .entry)) theirs
+        (now (names .exit)) (now (edges .exit)) (now (names2 .exit)) (now (edges2 .exit)) r) ⌝ }
 {
     match action {
         Action::ReleaseOurs(id) => {
@@ -171,7 +173,7 @@ fn act(
             }
         }
         Action::ReleaseTheirs(id) => {
-            let a = release(their_names, their_edges, theirs, id);
+            let a = release(names2, edges2, theirs, id);
             let g = a.graph;
             Parts {
                 refusal: a.refusal,
@@ -187,20 +189,43 @@ fn act(
     }
 }
 
+// What the meeting of two locals does to the graphs.
+fn turn(
+    names: &mut [u32; MAX_NAMES],
+    edges: &mut [[u32; EDGE_WORDS]; MAX_EDGES],
+    names2: &mut [u32; MAX_NAMES],
+    edges2: &mut [[u32; EDGE_WORDS]; MAX_EDGES],
+    p: Parts,
+    x: Meeting,
+) -> Parts
+    requires { ⌜ p .refusal ≡ 0 ⌝ }
+    ensures { λ r. ⌜ (Tells (now (names .entry)) (now (edges .entry)) (p .ours) → Tells (now (names2 .entry)) (now (edges2 .entry)) (p .theirs) →
+        Acts (localOf (x .local)) (stepBy x) (now (names .entry)) (now (edges .entry)) (p .ours) (now (names2 .entry)) (now (edges2 .entry)) (p .theirs)
+        (now (names .exit)) (now (edges .exit)) (now (names2 .exit)) (now (edges2 .exit)) r) ⌝ }
+{
+    if x.idle {
+        return p;
+    }
+    let ours = p.ours;
+    let theirs = p.theirs;
+    let action = x.action;
+    act(names, edges, ours, names2, edges2, theirs, action)
+}
+
 // Local by local, ascending. Document 01 leaves open what different numbers of locals give: 9, behind the others.
 fn join_locals(
     locals: &mut [u32; LOCALS],
     names: &mut [u32; MAX_NAMES],
-    edges: &mut [[u32; 10]; MAX_EDGES],
+    edges: &mut [[u32; EDGE_WORDS]; MAX_EDGES],
     s: AbstractState,
-    their_locals: &[u32; LOCALS],
-    their_names: &mut [u32; MAX_NAMES],
-    their_edges: &mut [[u32; 10]; MAX_EDGES],
+    locals2: &[u32; LOCALS],
+    names2: &mut [u32; MAX_NAMES],
+    edges2: &mut [[u32; EDGE_WORDS]; MAX_EDGES],
     o: AbstractState,
 ) -> Parts
-    ensures { λ r. ⌜ (Fits (words (now (locals .entry)) (now (names .entry)) (now (edges .entry)) s) → Fits (words (now («their_locals» .entry)) (now («their_names» .entry)) (now («their_edges» .entry)) o) →
-        LocalsJoin (words (now (locals .entry)) (now (names .entry)) (now (edges .entry)) s) (words (now («their_locals» .entry)) (now («their_names» .entry)) (now («their_edges» .entry)) o)
-        (now (locals .exit)) (now (names .exit)) (now (edges .exit)) (now («their_names» .exit)) (now («their_edges» .exit)) r) ⌝ }
+    ensures { λ r. ⌜ (Fits (words (now (locals .entry)) (now (names .entry)) (now (edges .entry)) s) → Fits (words (now (locals2 .entry)) (now (names2 .entry)) (now (edges2 .entry)) o) →
+        LocalsJoin (words (now (locals .entry)) (now (names .entry)) (now (edges .entry)) s) (words (now (locals2 .entry)) (now (names2 .entry)) (now (edges2 .entry)) o)
+        (now (locals .exit)) (now (names .exit)) (now (edges .exit)) (now (names2 .exit)) (now (edges2 .exit)) r) ⌝ }
 {
     let n = count(s.num_locals);
     let m = count(o.num_locals);
@@ -209,78 +234,77 @@ fn join_locals(
     let theirs = o.borrow_graph;
     let mut p = Parts {
         refusal: 0,
-        ours: ours,
-        theirs: theirs,
+        ours,
+        theirs,
     };
     let mut i: usize = 0;
     while i < k {
-        let a = local_of(locals[i]);
-        let b = local_of(their_locals[i]);
-        let x = meet(a, b);
-        let l = x.local;
-        let w = local_word(l);
-        locals[i] = w;
-        if x.idle {
-            i += 1;
-        } else {
-            let action = x.action;
-            let g = p.ours;
-            let h = p.theirs;
-            p = act(names, edges, g, their_names, their_edges, h, action);
-            if p.refusal != 0 {
-                return p;
-            }
-            i += 1;
+        let x = meet(local_of(locals[i]), local_of(locals2[i]));
+        locals[i] = local_word(x.local);
+        p = turn(names, edges, names2, edges2, p, x);
+        if p.refusal != 0 {
+            return p;
         }
+        i += 1;
     }
-    if n == m {
-        return p;
+    if n != m {
+        p.refusal = 9;
     }
-    p.refusal = 9;
     p
 }
 
 fn join_(
     locals: &mut [u32; LOCALS],
     names: &mut [u32; MAX_NAMES],
-    edges: &mut [[u32; 10]; MAX_EDGES],
+    edges: &mut [[u32; EDGE_WORDS]; MAX_EDGES],
     s: AbstractState,
-    their_locals: &[u32; LOCALS],
-    their_names: &mut [u32; MAX_NAMES],
-    their_edges: &mut [[u32; 10]; MAX_EDGES],
+    locals2: &[u32; LOCALS],
+    names2: &mut [u32; MAX_NAMES],
+    edges2: &mut [[u32; EDGE_WORDS]; MAX_EDGES],
     o: AbstractState,
 ) -> Answer
-    ensures { λ r. ⌜ (Fits (words (now (locals .entry)) (now (names .entry)) (now (edges .entry)) s) → Fits (words (now («their_locals» .entry)) (now («their_names» .entry)) (now («their_edges» .entry)) o) →
-        Merges (words (now (locals .entry)) (now (names .entry)) (now (edges .entry)) s) (words (now («their_locals» .entry)) (now («their_names» .entry)) (now («their_edges» .entry)) o) (r .refusal)
+    ensures { λ r. ⌜ (Fits (words (now (locals .entry)) (now (names .entry)) (now (edges .entry)) s) → Fits (words (now (locals2 .entry)) (now (names2 .entry)) (now (edges2 .entry)) o) →
+        Merges (words (now (locals .entry)) (now (names .entry)) (now (edges .entry)) s) (words (now (locals2 .entry)) (now (names2 .entry)) (now (edges2 .entry)) o) (r .refusal)
         (words (now (locals .exit)) (now (names .exit)) (now (edges .exit)) (r .state))
-        × (length (now («their_names» .exit)) ≡ maxNames) × (length (now («their_edges» .exit)) ≡ maxEdges)) ⌝ }
+        × (length (now (names2 .exit)) ≡ maxNames) × (length (now (edges2 .exit)) ≡ maxEdges)) ⌝ }
 {
-    let p = join_locals(
-        locals,
-        names,
-        edges,
-        s,
-        their_locals,
-        their_names,
-        their_edges,
-        o,
-    );
+    let p = join_locals(locals, names, edges, s, locals2, names2, edges2, o);
     let ours = p.ours;
     let theirs = p.theirs;
-    let mut t = s;
-    if p.refusal != 0 {
-        return Answer {
-            refusal: p.refusal,
-            state: t,
-        };
+    let refusal = p.refusal;
+    if refusal != 0 {
+        return Answer { refusal, state: s };
     }
-    let a = borrow_graph_edit::join::join(names, edges, ours, their_names, their_edges, theirs);
+    let a = borrow_graph_edit::join::join(names, edges, ours, names2, edges2, theirs);
     let g = a.graph;
+    let mut t = s;
     t.borrow_graph = g;
-    Answer {
-        refusal: a.refusal,
-        state: t,
+    let refusal = a.refusal;
+    Answer { refusal, state: t }
+}
+
+// Whether t, which came out of a join into s, is another state than s.
+fn changed(
+    locals: &[u32; LOCALS],
+    names: &[u32; MAX_NAMES],
+    edges: &[[u32; EDGE_WORDS]; MAX_EDGES],
+    s: AbstractState,
+    locals2: &[u32; LOCALS],
+    names2: &[u32; MAX_NAMES],
+    edges2: &[[u32; EDGE_WORDS]; MAX_EDGES],
+    t: AbstractState,
+) -> bool
+    ensures { λ r. ⌜ (Fits (words (now (locals .entry)) (now (names .entry)) (now (edges .entry)) s) → Fits (words (now (locals2 .entry)) (now (names2 .entry)) (now (edges2 .entry)) t) → s .«num_locals» ≡ t .«num_locals» →
+        (o : S.State) → S.join (stateOf (words (now (locals .entry)) (now (names .entry)) (now (edges .entry)) s)) o ≡ ok (stateOf (words (now (locals2 .entry)) (now (names2 .entry)) (now (edges2 .entry)) t)) →
+        r ≡ S.changed (stateOf (words (now (locals .entry)) (now (names .entry)) (now (edges .entry)) s)) (stateOf (words (now (locals2 .entry)) (now (names2 .entry)) (now (edges2 .entry)) t))) ⌝ }
+{
+    if !same_locals(locals, locals2, s.num_locals) {
+        return true;
     }
+    let g = s.borrow_graph;
+    let h = t.borrow_graph;
+    let c = leq(names, edges, g, names2, edges2, h);
+    (c.refusal != 0) | !c.yes
 }
 
 // Changed: the locals differ, or our graph as it was does not cover the joined one. Our arrays are copied for that question, and put back
@@ -288,36 +312,27 @@ fn join_(
 pub fn join(
     locals: &mut [u32; LOCALS],
     names: &mut [u32; MAX_NAMES],
-    edges: &mut [[u32; 10]; MAX_EDGES],
+    edges: &mut [[u32; EDGE_WORDS]; MAX_EDGES],
     s: AbstractState,
-    their_locals: &[u32; LOCALS],
-    their_names: &mut [u32; MAX_NAMES],
-    their_edges: &mut [[u32; 10]; MAX_EDGES],
+    locals2: &[u32; LOCALS],
+    names2: &mut [u32; MAX_NAMES],
+    edges2: &mut [[u32; EDGE_WORDS]; MAX_EDGES],
     o: AbstractState,
 ) -> Joined
-    ensures { λ r. ⌜ (Fits (words (now (locals .entry)) (now (names .entry)) (now (edges .entry)) s) → Fits (words (now («their_locals» .entry)) (now («their_names» .entry)) (now («their_edges» .entry)) o) →
-        Joins (words (now (locals .entry)) (now (names .entry)) (now (edges .entry)) s) (words (now («their_locals» .entry)) (now («their_names» .entry)) (now («their_edges» .entry)) o) (r .refusal)
+    ensures { λ r. ⌜ (Fits (words (now (locals .entry)) (now (names .entry)) (now (edges .entry)) s) → Fits (words (now (locals2 .entry)) (now (names2 .entry)) (now (edges2 .entry)) o) →
+        Joins (words (now (locals .entry)) (now (names .entry)) (now (edges .entry)) s) (words (now (locals2 .entry)) (now (names2 .entry)) (now (edges2 .entry)) o) (r .refusal)
         (words (now (locals .exit)) (now (names .exit)) (now (edges .exit)) (r .state))
-        × (r .changed ≡ changedBy (stateOf (words (now (locals .entry)) (now (names .entry)) (now (edges .entry)) s)) (S.join (stateOf (words (now (locals .entry)) (now (names .entry)) (now (edges .entry)) s)) (stateOf (words (now («their_locals» .entry)) (now («their_names» .entry)) (now («their_edges» .entry)) o))))
-        × (length (now («their_names» .exit)) ≡ maxNames) × (length (now («their_edges» .exit)) ≡ maxEdges)) ⌝ }
+        × (r .changed ≡ changedBy (stateOf (words (now (locals .entry)) (now (names .entry)) (now (edges .entry)) s)) (S.join (stateOf (words (now (locals .entry)) (now (names .entry)) (now (edges .entry)) s)) (stateOf (words (now (locals2 .entry)) (now (names2 .entry)) (now (edges2 .entry)) o))))
+        × (length (now (names2 .exit)) ≡ maxNames) × (length (now (edges2 .exit)) ≡ maxEdges)) ⌝ }
 {
-    let old_locals = *locals;
-    let old_names = *names;
-    let old_edges = *edges;
-    let a = join_(
-        locals,
-        names,
-        edges,
-        s,
-        their_locals,
-        their_names,
-        their_edges,
-        o,
-    );
+    let ls = *locals;
+    let ns = *names;
+    let es = *edges;
+    let a = join_(locals, names, edges, s, locals2, names2, edges2, o);
     if a.refusal != 0 {
-        *locals = old_locals;
-        *names = old_names;
-        *edges = old_edges;
+        *locals = ls;
+        *names = ns;
+        *edges = es;
         return Joined {
             refusal: a.refusal,
             changed: false,
@@ -325,19 +340,9 @@ pub fn join(
         };
     }
     let t = a.state;
-    if same_locals(&old_locals, locals, s.num_locals) {
-        let g = s.borrow_graph;
-        let h = t.borrow_graph;
-        let c = leq(&old_names, &old_edges, g, names, edges, h);
-        return Joined {
-            refusal: 0,
-            changed: (c.refusal != 0) | !c.yes,
-            state: t,
-        };
-    }
     Joined {
         refusal: 0,
-        changed: true,
+        changed: changed(&ls, &ns, &es, s, locals, names, edges, t),
         state: t,
     }
 }

@@ -5,13 +5,14 @@ use meaning::MAX_LOCALS;
 use meaning::lesser;
 ghost use mathlib.Core.Path.{_≡_};
 ghost use Prim.Native.Nat.{min};
+ghost use Rattle.meaning.specs.Limits.{maxLocals};
 ghost use Rattle.meaning.specs.AbstractState as S;
 ghost use Rattle.abstract_state.specs.Models.{operandOf, localOf};
 ghost use Rattle.abstract_state_join.specs.Models.{heldBy};
 
 // How many locals a state has: a number beyond 16 reads as 16.
 pub(crate) fn count(num_locals: u8) -> usize
-    ensures { λ r. ⌜ r ≡ min «num_locals» 16 ⌝ }
+    ensures { λ r. ⌜ r ≡ min «num_locals» maxLocals ⌝ }
 {
     lesser(num_locals as usize, MAX_LOCALS as usize)
 }

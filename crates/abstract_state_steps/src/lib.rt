@@ -58,6 +58,7 @@ use abstract_state::state::Local;
 use borrow_graph::graph::YesOrNo;
 use file_format::LocalIndex;
 use file_format::SignatureToken;
+use meaning::EDGE_WORDS;
 use meaning::MAX_EDGES;
 use meaning::MAX_NAMES;
 use paths::Label;
@@ -102,7 +103,7 @@ fn value_for_ref(names: &mut [u32; MAX_NAMES], state: AbstractState, mutable: bo
 
 pub fn release_value(
     names: &mut [u32; MAX_NAMES],
-    edges: &mut [[u32; 10]; MAX_EDGES],
+    edges: &mut [[u32; EDGE_WORDS]; MAX_EDGES],
     state: AbstractState,
     value: AbstractValue,
 ) -> AbstractState
@@ -117,7 +118,7 @@ pub fn release_value(
 pub fn copy_loc(
     locals: &[u32; LOCALS],
     names: &mut [u32; MAX_NAMES],
-    edges: &mut [[u32; 10]; MAX_EDGES],
+    edges: &mut [[u32; EDGE_WORDS]; MAX_EDGES],
     state: AbstractState,
     i: LocalIndex,
 ) -> AbstractState
@@ -142,7 +143,7 @@ pub fn copy_loc(
 // The copy of a reference.
 fn copy_ref(
     names: &mut [u32; MAX_NAMES],
-    edges: &mut [[u32; 10]; MAX_EDGES],
+    edges: &mut [[u32; EDGE_WORDS]; MAX_EDGES],
     state: AbstractState,
     id: RefID,
 ) -> AbstractState
@@ -159,7 +160,7 @@ fn copy_ref(
 pub fn move_loc(
     locals: &mut [u32; LOCALS],
     names: &[u32; MAX_NAMES],
-    edges: &[[u32; 10]; MAX_EDGES],
+    edges: &[[u32; EDGE_WORDS]; MAX_EDGES],
     state: AbstractState,
     i: LocalIndex,
 ) -> AbstractState
@@ -192,7 +193,7 @@ pub fn move_loc(
 pub fn st_loc(
     locals: &mut [u32; LOCALS],
     names: &mut [u32; MAX_NAMES],
-    edges: &mut [[u32; 10]; MAX_EDGES],
+    edges: &mut [[u32; EDGE_WORDS]; MAX_EDGES],
     state: AbstractState,
     i: LocalIndex,
     new: AbstractValue,
@@ -223,7 +224,7 @@ pub fn st_loc(
 
 pub fn freeze_ref(
     names: &mut [u32; MAX_NAMES],
-    edges: &mut [[u32; 10]; MAX_EDGES],
+    edges: &mut [[u32; EDGE_WORDS]; MAX_EDGES],
     state: AbstractState,
     id: RefID,
 ) -> AbstractState
@@ -242,7 +243,7 @@ pub fn freeze_ref(
 
 pub fn comparison(
     names: &mut [u32; MAX_NAMES],
-    edges: &mut [[u32; 10]; MAX_EDGES],
+    edges: &mut [[u32; EDGE_WORDS]; MAX_EDGES],
     state: AbstractState,
     v1: AbstractValue,
     v2: AbstractValue,
@@ -269,7 +270,7 @@ pub fn comparison(
 
 fn compare_refs(
     names: &mut [u32; MAX_NAMES],
-    edges: &mut [[u32; 10]; MAX_EDGES],
+    edges: &mut [[u32; EDGE_WORDS]; MAX_EDGES],
     state: AbstractState,
     id1: RefID,
     id2: RefID,
@@ -288,7 +289,7 @@ fn compare_refs(
 // The violation, where the reference is not readable.
 fn violate_if_unreadable(
     names: &[u32; MAX_NAMES],
-    edges: &[[u32; 10]; MAX_EDGES],
+    edges: &[[u32; EDGE_WORDS]; MAX_EDGES],
     state: AbstractState,
     id: RefID,
     at: LabelFilter,
@@ -310,7 +311,7 @@ fn violate_if_unreadable(
 
 pub fn read_ref(
     names: &mut [u32; MAX_NAMES],
-    edges: &mut [[u32; 10]; MAX_EDGES],
+    edges: &mut [[u32; EDGE_WORDS]; MAX_EDGES],
     state: AbstractState,
     id: RefID,
 ) -> AbstractState
@@ -324,7 +325,7 @@ pub fn read_ref(
 
 pub fn write_ref(
     names: &mut [u32; MAX_NAMES],
-    edges: &mut [[u32; 10]; MAX_EDGES],
+    edges: &mut [[u32; EDGE_WORDS]; MAX_EDGES],
     state: AbstractState,
     id: RefID,
 ) -> AbstractState
@@ -339,7 +340,7 @@ pub fn write_ref(
 
 pub fn borrow_loc(
     names: &mut [u32; MAX_NAMES],
-    edges: &mut [[u32; 10]; MAX_EDGES],
+    edges: &mut [[u32; EDGE_WORDS]; MAX_EDGES],
     state: AbstractState,
     mutable: bool,
     i: LocalIndex,
@@ -363,7 +364,7 @@ pub fn borrow_loc(
 
 pub fn borrow_field(
     names: &mut [u32; MAX_NAMES],
-    edges: &mut [[u32; 10]; MAX_EDGES],
+    edges: &mut [[u32; EDGE_WORDS]; MAX_EDGES],
     state: AbstractState,
     mutable: bool,
     id: RefID,
@@ -382,7 +383,7 @@ pub fn borrow_field(
 // A mutable borrow fails on an empty-path borrow; another one, where the field is not readable.
 fn violate_if_field_borrowed(
     names: &[u32; MAX_NAMES],
-    edges: &[[u32; 10]; MAX_EDGES],
+    edges: &[[u32; EDGE_WORDS]; MAX_EDGES],
     state: AbstractState,
     mutable: bool,
     id: RefID,
@@ -401,7 +402,7 @@ fn violate_if_field_borrowed(
 
 pub fn borrow_global(
     names: &mut [u32; MAX_NAMES],
-    edges: &mut [[u32; 10]; MAX_EDGES],
+    edges: &mut [[u32; EDGE_WORDS]; MAX_EDGES],
     state: AbstractState,
     mutable: bool,
     resource: u16,
@@ -426,7 +427,7 @@ pub fn borrow_global(
 
 pub fn move_from(
     names: &[u32; MAX_NAMES],
-    edges: &[[u32; 10]; MAX_EDGES],
+    edges: &[[u32; EDGE_WORDS]; MAX_EDGES],
     state: AbstractState,
     resource: u16,
 ) -> AbstractState
@@ -440,7 +441,7 @@ pub fn move_from(
 // A mutable vector step wants a mutable reference with no borrow.
 fn vector_test(
     names: &[u32; MAX_NAMES],
-    edges: &[[u32; 10]; MAX_EDGES],
+    edges: &[[u32; EDGE_WORDS]; MAX_EDGES],
     state: AbstractState,
     mutable: bool,
     id: RefID,
@@ -460,7 +461,7 @@ fn vector_test(
 
 pub fn vector_op(
     names: &mut [u32; MAX_NAMES],
-    edges: &mut [[u32; 10]; MAX_EDGES],
+    edges: &mut [[u32; EDGE_WORDS]; MAX_EDGES],
     state: AbstractState,
     vector: AbstractValue,
     mutable: bool,
@@ -478,7 +479,7 @@ pub fn vector_op(
 
 pub fn vector_element_borrow(
     names: &mut [u32; MAX_NAMES],
-    edges: &mut [[u32; 10]; MAX_EDGES],
+    edges: &mut [[u32; EDGE_WORDS]; MAX_EDGES],
     state: AbstractState,
     vector: AbstractValue,
     mutable: bool,

@@ -7,6 +7,7 @@
 use crate::graph::BorrowGraph;
 use crate::graph::YesOrNo;
 use crate::refs::holds;
+use meaning::EDGE_WORDS;
 use meaning::MAX_EDGES;
 use meaning::MAX_NAMES;
 use meaning::lesser;
@@ -41,7 +42,7 @@ pub fn holds_all(names: &[u32; MAX_NAMES], n: usize, names2: &[u32; MAX_NAMES], 
 }
 
 // Whether y covers x, an edge of the same pair.
-pub(crate) fn covers_at(x: &[u32; 10], y: &[u32; 10]) -> bool
+pub(crate) fn covers_at(x: &[u32; EDGE_WORDS], y: &[u32; EDGE_WORDS]) -> bool
     ensures { λ r. ⌜ r ≡ coversAt (rowOf (now (x .entry))) (rowOf (now (y .entry))) ⌝ }
 {
     let p = parent(x);
@@ -56,9 +57,9 @@ pub(crate) fn covers_at(x: &[u32; 10], y: &[u32; 10]) -> bool
 
 // Whether each edge of the other list is covered by one of its own pair here: `j` seeks it for the edge at `i`.
 pub(crate) fn cover(
-    edges: &[[u32; 10]; MAX_EDGES],
+    edges: &[[u32; EDGE_WORDS]; MAX_EDGES],
     m: usize,
-    edges2: &[[u32; 10]; MAX_EDGES],
+    edges2: &[[u32; EDGE_WORDS]; MAX_EDGES],
     k: usize,
 ) -> bool
     ensures { λ r. ⌜ (length (now (edges .entry)) ≡ maxEdges → length (now (edges2 .entry)) ≡ maxEdges → r ≡ all (coveredIn (edgesIn (now (edges .entry)) m)) (edgesIn (now (edges2 .entry)) k)) ⌝ }
@@ -84,10 +85,10 @@ pub(crate) fn cover(
 // 9 where the other has a name that this one lacks.
 pub fn leq(
     names: &[u32; MAX_NAMES],
-    edges: &[[u32; 10]; MAX_EDGES],
+    edges: &[[u32; EDGE_WORDS]; MAX_EDGES],
     g: BorrowGraph,
     names2: &[u32; MAX_NAMES],
-    edges2: &[[u32; 10]; MAX_EDGES],
+    edges2: &[[u32; EDGE_WORDS]; MAX_EDGES],
     h: BorrowGraph,
 ) -> YesOrNo
     ensures { λ r. ⌜ (Tells (now (names .entry)) (now (edges .entry)) g → Tells (now (names2 .entry)) (now (edges2 .entry)) h → toldOf r ≡ covering (graphIn (now (names .entry)) (now (edges .entry)) g) (graphIn (now (names2 .entry)) (now (edges2 .entry)) h)) ⌝ }

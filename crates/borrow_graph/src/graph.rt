@@ -16,6 +16,7 @@ use crate::refs::is_mutable_in;
 use crate::refs::pair_ok;
 use crate::refs::place;
 use crate::refs::put_at;
+use meaning::EDGE_WORDS;
 use meaning::MAX_EDGE_SET_SIZE;
 use meaning::MAX_EDGES;
 use meaning::MAX_NAMES;
@@ -89,7 +90,7 @@ pub fn new() -> BorrowGraph
 }
 
 // How many edges of its pair there have been with x, which follows y as number `count` of its pair; 0 where x may not follow.
-pub(crate) fn link(y: &[u32; 10], count: usize, x: &[u32; 10]) -> usize
+pub(crate) fn link(y: &[u32; EDGE_WORDS], count: usize, x: &[u32; EDGE_WORDS]) -> usize
     ensures { λ r. ⌜ r ≡ cond (C.link count (rowOf (now (y .entry))) (rowOf (now (x .entry)))) (nextCount count (rowOf (now (y .entry))) (rowOf (now (x .entry)))) 0 ⌝ }
 {
     let p = parent(x);
@@ -121,7 +122,7 @@ pub(crate) fn link(y: &[u32; 10], count: usize, x: &[u32; 10]) -> usize
 pub(crate) fn well_formed(
     names: &[u32; MAX_NAMES],
     n: usize,
-    edges: &[[u32; 10]; MAX_EDGES],
+    edges: &[[u32; EDGE_WORDS]; MAX_EDGES],
     m: usize,
 ) -> bool
     ensures { λ r. ⌜ (length (now (names .entry)) ≡ maxNames → length (now (edges .entry)) ≡ maxEdges → r ≡ wellFormed (record { names = namesIn (now (names .entry)) n; edges = edgesIn (now (edges .entry)) m })) ⌝ }
@@ -131,7 +132,7 @@ pub(crate) fn well_formed(
         return false;
     }
     // what stands before the first edge: no edge joins a name to itself
-    let mut last = [0u32; 10];
+    let mut last = [0u32; EDGE_WORDS];
     let mut count: usize = 0;
     let mut i: usize = 0;
     while i < k {
@@ -154,7 +155,7 @@ pub(crate) fn well_formed(
 pub fn measure(
     names: &[u32; MAX_NAMES],
     n: usize,
-    edges: &[[u32; 10]; MAX_EDGES],
+    edges: &[[u32; EDGE_WORDS]; MAX_EDGES],
     m: usize,
 ) -> BorrowGraph
     ensures { λ r. ⌜ (length (now (names .entry)) ≡ maxNames → length (now (edges .entry)) ≡ maxEdges → Tells (now (names .entry)) (now (edges .entry)) r × (graphIn (now (names .entry)) (now (edges .entry)) r ≡ record { names = namesIn (now (names .entry)) n; edges = edgesIn (now (edges .entry)) m })) ⌝ }

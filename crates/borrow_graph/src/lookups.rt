@@ -10,6 +10,7 @@ use crate::graph::BorrowedBy;
 use crate::graph::Found;
 use crate::refs::holds;
 use crate::refs::is_mutable_in;
+use meaning::EDGE_WORDS;
 use meaning::MAX_EDGES;
 use meaning::MAX_NAMES;
 use meaning::lesser;
@@ -43,7 +44,7 @@ pub(crate) fn add(
     found: BorrowedBy,
     names: &[u32; MAX_NAMES],
     n: usize,
-    x: &[u32; 10],
+    x: &[u32; EDGE_WORDS],
     at: LabelFilter,
 ) -> BorrowedBy
     ensures { λ r. ⌜ (r .refusal ≡ found .refusal) × (length (now (names .entry)) ≡ maxNames → borrowsOf r ≡ addBorrow (namesIn (now (names .entry)) n) (filterOf at) (borrowsOf found) (rowOf (now (x .entry)))) ⌝ }
@@ -63,7 +64,7 @@ pub(crate) fn add(
 pub(crate) fn borrows(
     names: &[u32; MAX_NAMES],
     n: usize,
-    edges: &[[u32; 10]; MAX_EDGES],
+    edges: &[[u32; EDGE_WORDS]; MAX_EDGES],
     m: usize,
     id: RefID,
     at: LabelFilter,
@@ -92,7 +93,7 @@ pub(crate) fn borrows(
 
 pub fn borrowed_by(
     names: &[u32; MAX_NAMES],
-    edges: &[[u32; 10]; MAX_EDGES],
+    edges: &[[u32; EDGE_WORDS]; MAX_EDGES],
     g: BorrowGraph,
     id: RefID,
     at: LabelFilter,
@@ -125,10 +126,10 @@ impl Ends {
 
 // The edges that are looked up go into `out`; how many there are.
 pub(crate) fn select(
-    edges: &[[u32; 10]; MAX_EDGES],
+    edges: &[[u32; EDGE_WORDS]; MAX_EDGES],
     m: usize,
     ends: Ends,
-    out: &mut [[u32; 10]; MAX_EDGES],
+    out: &mut [[u32; EDGE_WORDS]; MAX_EDGES],
 ) -> usize
     ensures { λ r. ⌜ (length (now (edges .entry)) ≡ maxEdges → length (now (out .entry)) ≡ maxEdges → (edgesIn (now (out .exit)) r ≡ keep (λ x. M.picks ends (x .parent) (x .child)) (edgesIn (now (edges .entry)) m)) × (length (now (out .exit)) ≡ maxEdges) × (r ≤ maxEdges)) ⌝ }
 {
@@ -153,11 +154,11 @@ pub(crate) fn select(
 // The edges at a name.
 pub(crate) fn edges_at(
     names: &[u32; MAX_NAMES],
-    edges: &[[u32; 10]; MAX_EDGES],
+    edges: &[[u32; EDGE_WORDS]; MAX_EDGES],
     g: BorrowGraph,
     id: RefID,
     ends: Ends,
-    out: &mut [[u32; 10]; MAX_EDGES],
+    out: &mut [[u32; EDGE_WORDS]; MAX_EDGES],
 ) -> Found
     ensures { λ r. ⌜ (Tells (now (names .entry)) (now (edges .entry)) g → length (now (out .entry)) ≡ maxEdges → told (r .refusal) (edgesIn (now (out .exit)) (r .len)) ≡ ofName (graphIn (now (names .entry)) (now (edges .entry)) g) (id .0) (keep (λ x. M.picks ends (x .parent) (x .child)) (edgesIn (now (edges .entry)) (g .edges)))) ⌝ }
 {
@@ -171,10 +172,10 @@ pub(crate) fn edges_at(
 
 pub fn out_edges(
     names: &[u32; MAX_NAMES],
-    edges: &[[u32; 10]; MAX_EDGES],
+    edges: &[[u32; EDGE_WORDS]; MAX_EDGES],
     g: BorrowGraph,
     id: RefID,
-    out: &mut [[u32; 10]; MAX_EDGES],
+    out: &mut [[u32; EDGE_WORDS]; MAX_EDGES],
 ) -> Found
     ensures { λ r. ⌜ (Tells (now (names .entry)) (now (edges .entry)) g → length (now (out .entry)) ≡ maxEdges → told (r .refusal) (edgesIn (now (out .exit)) (r .len)) ≡ outEdges (graphIn (now (names .entry)) (now (edges .entry)) g) (id .0)) ⌝ }
 {
@@ -184,10 +185,10 @@ pub fn out_edges(
 
 pub fn in_edges(
     names: &[u32; MAX_NAMES],
-    edges: &[[u32; 10]; MAX_EDGES],
+    edges: &[[u32; EDGE_WORDS]; MAX_EDGES],
     g: BorrowGraph,
     id: RefID,
-    out: &mut [[u32; 10]; MAX_EDGES],
+    out: &mut [[u32; EDGE_WORDS]; MAX_EDGES],
 ) -> Found
     ensures { λ r. ⌜ (Tells (now (names .entry)) (now (edges .entry)) g → length (now (out .entry)) ≡ maxEdges → told (r .refusal) (edgesIn (now (out .exit)) (r .len)) ≡ inEdges (graphIn (now (names .entry)) (now (edges .entry)) g) (id .0)) ⌝ }
 {
@@ -197,11 +198,11 @@ pub fn in_edges(
 
 // 9 where the pair has no edge.
 pub fn between_edges(
-    edges: &[[u32; 10]; MAX_EDGES],
+    edges: &[[u32; EDGE_WORDS]; MAX_EDGES],
     g: BorrowGraph,
     parent: RefID,
     child: RefID,
-    out: &mut [[u32; 10]; MAX_EDGES],
+    out: &mut [[u32; EDGE_WORDS]; MAX_EDGES],
 ) -> Found
     ensures { λ r. ⌜ ((ns : List ℕ) → Tells ns (now (edges .entry)) g → length (now (out .entry)) ≡ maxEdges → told (r .refusal) (edgesIn (now (out .exit)) (r .len)) ≡ betweenEdges (graphIn ns (now (edges .entry)) g) (parent .0) (child .0)) ⌝ }
 {

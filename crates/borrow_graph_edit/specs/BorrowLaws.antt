@@ -36,7 +36,8 @@ module _ (ns : List Name) (es : List GEdge) (c : ℕ) (path : List ℕ) (moved :
       let a = added-left (shift c path y) rows n rows′ r d ns in
       let b = graphWith ns (edgesIn rows n) in
       let f = graphWith ns (edgesIn rows′ (r .edges)) in
-      let t : length (edgesIn rows′ (r .edges)) ≤ suc (length (edgesIn rows n)) = shifted-length b c path y (map (shift c path) ys) (addAll (map (shift c path) moved) (graphWith ns es)) (g .formed) h f z p a in
+      let t : length (edgesIn rows′ (r .edges)) ≤ suc (length (edgesIn rows n)) =
+      shifted-length b c path y (map (shift c path) ys) (addAll (map (shift c path) moved) (graphWith ns es)) (g .formed) h f z p a in
       let u : length (edgesIn rows′ (r .edges)) ≡ r .edges = edges-count rows′ (r .edges) (omega (arith, d .0, l)) in
       record {
         full = d .0;

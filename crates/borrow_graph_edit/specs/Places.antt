@@ -1,42 +1,20 @@
 -- Rows changed in place: a pair's first edge put in.
-use Prim.Native.Nat.{ℕ, suc, _+_, _≤_, _<_}
+use Prim.Native.Nat.{ℕ, _+_, _≤_, _<_}
 use native.Mathlib.Omega.{arith}
-use mathlib.Core.Path.{_≡_, refl, sym, ap, _∙_, subst}
-use mathlib.Core.Bool.{true, false}
-use mathlib.Core.List.{List, [], _∷_, _++_, map, append-nil}
-use lib.ListN.{length, take, drop, getD, set, length-take, drop-of-length-le}
+use mathlib.Core.Path.{_≡_, refl, sym, ap, _∙_}
+use mathlib.Core.Bool.{false}
+use mathlib.Core.List.{List, [], _∷_, _++_}
+use lib.ListN.{length, take, drop}
 use Rattle.meaning.specs.Answers.{Ans, ok, refuse, andThen}
 use Rattle.meaning.specs.Lists.{keep}
-use Rattle.meaning.specs.References.{Edge, EdgeSet, insert}
-use Rattle.meaning.specs.BorrowGraph.{GEdge, isBefore, setAt, setTo}
+use Rattle.meaning.specs.References.{EdgeSet}
+use Rattle.meaning.specs.BorrowGraph.{GEdge, isBefore, setTo}
 use Rattle.meaning.specs.Refinement.Pairs.{edgesAt, fewEdges}
 use Rattle.meaning.specs.Laws.Pair.{Neat, length-setTo}
 use Rattle.meaning.specs.Laws.Cut.{setTo-cut}
 use Rattle.meaning.specs.Laws.Put.{insert-first}
-use Rattle.meaning.specs.Laws.Array.{shift-on, fill-in}
 use borrow.Author.Tests.{le-leb, lt-leb}
-use Rattle.references.specs.Models.{rowOf, edgesIn}
-use Rattle.references.specs.ModelLaws.{edges-made}
 use Rattle.borrow_graph_edit.specs.Models.{addRow}
-
--- ---- the rows with a free place j among the first m
-
-abbrev pub around : List (List ℕ) → ℕ → ℕ → List GEdge
-around l j m = map rowOf (take j l ++ drop (suc j) (take m l))
-
-pub room-start : (l : List (List ℕ)) (m : ℕ) → around l m (m + 1) ≡ edgesIn l m
-room-start l m =
-    let a : drop (suc m) (take (m + 1) l) ≡ [] = drop-of-length-le (take (m + 1) l) {i = suc m} (simp length-take (omega arith)) in
-    ap (λ (r : List (List ℕ)). map rowOf (take m l ++ r)) a ∙ ap (map rowOf) (append-nil (take m l)) ∙ sym (edges-made l m)
-
-pub room-on : (l : List (List ℕ)) (d : List ℕ) (k j m : ℕ) → j ≡ suc k → j < length l → j < m → around (set l j (getD l k d)) k m ≡ around l j m
-room-on l d k j m e h n =
-    ap (map rowOf) (subst (λ (i : ℕ). take k (set l i (getD l k d)) ++ drop (suc k) (take m (set l i (getD l k d))) ≡ take i l ++ drop (suc i) (take m l)) (sym e)
-    (shift-on l d k m (subst (λ (i : ℕ). i < length l) e h) (subst (λ (i : ℕ). i < m) e n)))
-
-pub room-end : (l : List (List ℕ)) (k m : ℕ) (x : List ℕ) (xs : List GEdge) → k < length l → k < m → around l k m ≡ xs
-    → edgesIn (set l k x) m ≡ take k xs ++ (rowOf x ∷ drop k xs)
-room-end l k m x xs h n e = edges-made (set l k x) m ∙ fill-in rowOf l k m x h n ∙ ap (λ (ys : List GEdge). take k ys ++ (rowOf x ∷ drop k ys)) e
 
 -- ---- the first edge of a pair
 

@@ -12,7 +12,7 @@ use Rattle.meaning.specs.References.{Edge, EdgeSet, insert, offer}
 use Rattle.meaning.specs.BorrowGraph.{GEdge, isBefore, tagged, setAt, setTo}
 use Rattle.meaning.specs.Refinement.Pairs.{edgesAt, replaceOne, fewEdges}
 use Rattle.meaning.specs.Laws.Pair.{Neat, length-setTo}
-use Rattle.meaning.specs.Laws.Cut.{setTo-cut, cut-le}
+use Rattle.meaning.specs.Laws.Cut.{setTo-cut}
 use Rattle.meaning.specs.Laws.Base.{refuse≢ok}
 use Rattle.meaning.specs.Laws.Put.{insert-short}
 use Rattle.meaning.specs.Laws.Listing.{upTo-length}

@@ -2,11 +2,11 @@
 use Prim.Native.Nat.{ℕ, _+_, _%_, _≤_, _<_, min}
 use native.Mathlib.Omega.{arith}
 use mathlib.Core.Path.{_≡_, refl, sym, ap, _∙_}
-use mathlib.Core.Bool.{Bool, true, false, not, _&&_, _||_, cond}
+use mathlib.Core.Bool.{Bool, true, false, not, _&&_, cond}
 use mathlib.Core.List.{List, [], _∷_, _++_, map, append-nil}
 use lib.ListN.{length, take, drop, getD, set, length-take}
 use Rattle.meaning.specs.Answers.{Ans, ok, andThen}
-use Rattle.meaning.specs.Lists.{any, all, keep}
+use Rattle.meaning.specs.Lists.{all, keep}
 use Rattle.meaning.specs.References.{Edge, EdgeSet, insert}
 use Rattle.meaning.specs.BorrowGraph.{GEdge, splice}
 use Rattle.meaning.specs.Laws.Graph.{insertAll}
@@ -16,36 +16,29 @@ use Rattle.meaning.specs.Area.{labelIn}
 use Rattle.meaning.specs.Laws.Array.{front-all}
 use Rattle.meaning.specs.Laws.Listing.{upTo-length}
 use Rattle.references.specs.Models.{rowOf, edgesIn, setEdges}
+use Rattle.borrow_graph.specs.ArrayLaws.{keep-in, keep-out}
 use Rattle.references.specs.ModelLaws.{edges-next, edges-over, edges-push, edges-past}
 
--- of the first i of m rows those that pass are the first j of `out`
-module _ (q : GEdge → Bool) (rows : List (List ℕ)) (m : ℕ) (n : m ≤ length rows) (out : List (List ℕ)) (j i : ℕ) (xs : List GEdge) (e : edgesIn out j ++ keep q (drop i (edgesIn rows m)) ≡ xs) where
+-- rows kept in place: of the first i of m those that pass are the first j
+module _ (q : GEdge → Bool) (rows : List (List ℕ)) (m : ℕ) (n : m ≤ length rows) (j i : ℕ) (xs : List GEdge) (e : edgesIn rows j ++ keep q (drop i (edgesIn rows m)) ≡ xs) where
   module _ (k : i < m) (d : List ℕ) where
-    abbrev here : GEdge
-    here = rowOf (getD rows i d)
+    abbrev here : List ℕ
+    here = getD rows i d
 
     abbrev rest : List GEdge
     rest = drop (i + 1) (edgesIn rows m)
 
-    turn : (b : Bool) → q here ≡ b → edgesIn out j ++ cond b (here ∷ keep q rest) (keep q rest) ≡ xs
-    turn b h = ap (λ (c : Bool). edgesIn out j ++ cond c (here ∷ keep q rest) (keep q rest)) (sym h) ∙ ap (λ (l : List GEdge). edgesIn out j ++ keep q l) (sym (edges-next rows m d i k n)) ∙ e
+    pub keep-off : q (rowOf here) ≡ false → edgesIn rows j ++ keep q rest ≡ xs
+    keep-off h = keep-out q (rowOf here) rest (drop i (edgesIn rows m)) (edgesIn rows j) xs (edges-next rows m d i k n) e h
 
-    pub keep-off : q here ≡ false → edgesIn out j ++ keep q rest ≡ xs
-    keep-off h = turn false h
+    pub keep-on : q (rowOf here) ≡ true → j ≤ i → edgesIn (set rows j here) (j + 1) ++ keep q (drop (i + 1) (edgesIn (set rows j here) m)) ≡ xs
+    keep-on h l =
+        ap (λ (r : List GEdge). edgesIn (set rows j here) (j + 1) ++ keep q r) (edges-past rows here j (i + 1) m (omega arith))
+        ∙ edges-push rows here j (j + 1) (keep q rest) refl (omega arith)
+        ∙ keep-in q (rowOf here) rest (drop i (edgesIn rows m)) (edgesIn rows j) xs (edges-next rows m d i k n) e h
 
-    pub keep-on : q here ≡ true → j < length out → edgesIn (set out j (getD rows i d)) (j + 1) ++ keep q rest ≡ xs
-    keep-on h l = edges-push out (getD rows i d) j (j + 1) (keep q rest) refl l ∙ turn true h
-
-  pub keep-all : m ≤ i → edgesIn out j ≡ xs
-  keep-all k = sym (ap (λ (l : List GEdge). edgesIn out j ++ keep q l) (edges-over rows m i k n) ∙ append-nil (edgesIn out j)) ∙ e
-
--- the same where they are kept in place
-pub keep-here : (q : GEdge → Bool) (rows : List (List ℕ)) (m : ℕ) → m ≤ length rows → (j i : ℕ) (xs : List GEdge) → edgesIn rows j ++ keep q (drop i (edgesIn rows m)) ≡ xs
-    → i < m → j ≤ i → (d : List ℕ) → q (rowOf (getD rows i d)) ≡ true
-    → edgesIn (set rows j (getD rows i d)) (j + 1) ++ keep q (drop (i + 1) (edgesIn (set rows j (getD rows i d)) m)) ≡ xs
-keep-here q rows m n j i xs e k l d h =
-    ap (λ (r : List GEdge). edgesIn (set rows j (getD rows i d)) (j + 1) ++ keep q r) (edges-past rows (getD rows i d) j (i + 1) m (omega arith))
-    ∙ keep-on q rows m n rows j i xs e k d h (omega arith)
+  pub keep-all : m ≤ i → edgesIn rows j ≡ xs
+  keep-all k = sym (ap (λ (l : List GEdge). edgesIn rows j ++ keep q l) (edges-over rows m i k n) ∙ append-nil (edgesIn rows j)) ∙ e
 
 -- at first none is kept
 pub keep-none : (rows : List (List ℕ)) (ys : List GEdge) → edgesIn rows 0 ++ ys ≡ ys
@@ -73,23 +66,6 @@ row-short r =
     omega arith
 
 -- ---- a search
-
-module _ (q : GEdge → Bool) (rows : List (List ℕ)) (m : ℕ) (n : m ≤ length rows) (i : ℕ) (b : Bool) (e : any q (drop i (edgesIn rows m)) ≡ b) where
-  module _ (k : i < m) (d : List ℕ) where
-    abbrev later : Bool
-    later = any q (drop (i + 1) (edgesIn rows m))
-
-    any-turn : (a : Bool) → q (rowOf (getD rows i d)) ≡ a → a || later ≡ b
-    any-turn a h = ap (λ (c : Bool). c || later) (sym h) ∙ ap (λ (l : List GEdge). any q l) (sym (edges-next rows m d i k n)) ∙ e
-
-    pub any-found : q (rowOf (getD rows i d)) ≡ true → true ≡ b
-    any-found h = any-turn true h
-
-    pub any-on : q (rowOf (getD rows i d)) ≡ false → any q (drop (i + 1) (edgesIn rows m)) ≡ b
-    any-on h = any-turn false h
-
-  pub any-none : m ≤ i → false ≡ b
-  any-none k = sym (ap (λ (l : List GEdge). any q l) (edges-over rows m i k n)) ∙ e
 
 -- of the edges that pass q none passes r
 module _ (q r : GEdge → Bool) where

@@ -5,7 +5,7 @@ use native.Mathlib.Nat.{add-zero}
 use mathlib.Core.Path.{_≡_, refl, sym, ap, _∙_}
 use mathlib.Core.Bool.{Bool, false, _||_}
 use mathlib.Core.List.{List, [], _∷_, _++_, map, append-nil}
-use lib.ListN.{length, take, drop, set, length-append, length-set, length-take, length-map, length-drop}
+use lib.ListN.{length, take, drop, set, length-append, length-take, length-map, length-drop}
 use lib.Seq.{drop-at}
 use Rattle.meaning.specs.Lists.{keep}
 use Rattle.meaning.specs.References.{Edge, EdgeSet, less, equal, greater}
@@ -16,7 +16,6 @@ use Rattle.meaning.specs.Laws.Base.{or-false, or-assoc}
 use Rattle.meaning.specs.Laws.Cut.{less-set, less-low, equal-set, equal-low, greater-set, greater-low}
 use Rattle.references.specs.Models.{rowOf, setEdges, setIn}
 use Rattle.references.specs.ModelLaws.{set-push, set-count}
-use Rattle.references.specs.declared.set.BorrowEdgeSet.{BorrowEdgeSet}
 
 module _ (p c : ℕ) (es : List GEdge) where
   abbrev before : List GEdge → ℕ

@@ -9,14 +9,14 @@ use lib.Dec.{leb, eqb}
 use Rattle.meaning.specs.Answers.{Ans, ok, refuse, andThen, guard}
 use Rattle.meaning.specs.Lists.{keep, each}
 use Rattle.meaning.specs.Laws.Base.{ok-inj, guard-ok, and-l, and-r, not-true, leb-le}
-use Rattle.meaning.specs.References.{Edge}
+use Rattle.meaning.specs.References.{Edge, fitting}
 use Rattle.meaning.specs.BorrowGraph.{Name, GEdge, Graph, held, other, setAt, setTo, between, splice, spliced, without, wellFormed, addEdge, addAll, limit, release}
 use Rattle.meaning.specs.Laws.Graph.{wf→inv, room}
 use Rattle.meaning.specs.Refinement.Flat.{meet, splicedRow, rowIf, splicedRows}
 use Rattle.meaning.specs.Laws.Spliced.{spliced-rows}
 use Rattle.meaning.specs.Laws.Add.{limit-pass, without-formed, keep-few}
 use Rattle.meaning.specs.Laws.Put.{insert-short, add-fits, made-length}
-use Rattle.meaning.specs.Refinement.Passes.{fitting, apart}
+use Rattle.meaning.specs.Refinement.Passes.{apart}
 use Rattle.references.specs.Models.{rowOf, told}
 use Rattle.references.specs.ModelLaws.{told-no}
 use Rattle.borrow_graph_edit.specs.declared.release.Side.{Side}

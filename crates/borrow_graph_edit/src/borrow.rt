@@ -11,6 +11,7 @@ use crate::pairs::Replaced;
 use borrow_graph::graph::Answer;
 use borrow_graph::graph::BorrowGraph;
 use borrow_graph::refs;
+use meaning::EDGE_WORDS;
 use meaning::MAX_EDGES;
 use meaning::MAX_NAMES;
 use references::RefID;
@@ -26,13 +27,12 @@ ghost use Rattle.meaning.specs.Limits.{maxEdges};
 ghost use Rattle.meaning.specs.Lists.{any, all, keep};
 ghost use Rattle.meaning.specs.BorrowGraph.{Name, wellFormed, pairOk, borrowWeak, borrowStrong, moves};
 ghost use Rattle.meaning.specs.Laws.Put.{Moved};
-ghost use Rattle.meaning.specs.Laws.Pair.{Neat};
 ghost use Rattle.references.specs.Models.{rowOf, edgesIn, pathAt};
 ghost use Rattle.borrow_graph.specs.Models.{graphIn, Tells, Answers};
 ghost use Rattle.borrow_graph_edit.specs.Edits.{graphWith, Edits};
 
 // Whether a strong borrow of `parent` moves this row.
-fn is_moved(x: &[u32; 10], parent: RefID, path: LabelFilter) -> bool
+fn is_moved(x: &[u32; EDGE_WORDS], parent: RefID, path: LabelFilter) -> bool
     ensures { λ r. ⌜ r ≡ moves (parent .0) (pathAt path) (rowOf (now (x .entry))) ⌝ }
 {
     let p = rows::parent(x);
@@ -41,7 +41,12 @@ fn is_moved(x: &[u32; 10], parent: RefID, path: LabelFilter) -> bool
 }
 
 // Whether a strong borrow moves an edge.
-fn any_moves(edges: &[[u32; 10]; MAX_EDGES], m: usize, parent: RefID, path: LabelFilter) -> bool
+fn any_moves(
+    edges: &[[u32; EDGE_WORDS]; MAX_EDGES],
+    m: usize,
+    parent: RefID,
+    path: LabelFilter,
+) -> bool
     requires { ⌜ m ≤ maxEdges ⌝ }
     ensures { λ r. ⌜ (length (now (edges .entry)) ≡ maxEdges → r ≡ any (moves (parent .0) (pathAt path)) (edgesIn (now (edges .entry)) m)) ⌝ }
 {
@@ -57,7 +62,7 @@ fn any_moves(edges: &[[u32; 10]; MAX_EDGES], m: usize, parent: RefID, path: Labe
 
 // Whether none of the edges that a strong borrow moves ends at the child.
 fn none_ends_at(
-    edges: &[[u32; 10]; MAX_EDGES],
+    edges: &[[u32; EDGE_WORDS]; MAX_EDGES],
     m: usize,
     parent: RefID,
     path: LabelFilter,
@@ -79,7 +84,12 @@ fn none_ends_at(
 }
 
 // The rows that a strong borrow moves are taken out.
-fn take_out(edges: &mut [[u32; 10]; MAX_EDGES], m: usize, parent: RefID, path: LabelFilter) -> usize
+fn take_out(
+    edges: &mut [[u32; EDGE_WORDS]; MAX_EDGES],
+    m: usize,
+    parent: RefID,
+    path: LabelFilter,
+) -> usize
     requires { ⌜ m ≤ maxEdges ⌝ }
     ensures { λ r. ⌜ (r ≤ m) × (length (now (edges .entry)) ≡ maxEdges → (length (now (edges .exit)) ≡ maxEdges) × (edgesIn (now (edges .exit)) r ≡ keep (λ x. not (moves (parent .0) (pathAt path) x)) (edgesIn (now (edges .entry)) m))) ⌝ }
 {
@@ -100,9 +110,9 @@ fn take_out(edges: &mut [[u32; 10]; MAX_EDGES], m: usize, parent: RefID, path: L
 
 // The moved rows, each put in below the child. There is room for all of them.
 fn add_moved(
-    edges: &mut [[u32; 10]; MAX_EDGES],
+    edges: &mut [[u32; EDGE_WORDS]; MAX_EDGES],
     k: usize,
-    old: &[[u32; 10]; MAX_EDGES],
+    old: &[[u32; EDGE_WORDS]; MAX_EDGES],
     m: usize,
     parent: RefID,
     path: LabelFilter,
@@ -128,7 +138,7 @@ fn add_moved(
 
 // A strong borrow that moves edges: 9 where one of them ends at the child.
 fn factor_below(
-    edges: &mut [[u32; 10]; MAX_EDGES],
+    edges: &mut [[u32; EDGE_WORDS]; MAX_EDGES],
     m: usize,
     parent: RefID,
     path: LabelFilter,
@@ -160,7 +170,7 @@ fn factor_below(
 
 // A strong borrow between two names that are held.
 fn factor(
-    edges: &mut [[u32; 10]; MAX_EDGES],
+    edges: &mut [[u32; EDGE_WORDS]; MAX_EDGES],
     m: usize,
     parent: RefID,
     path: LabelFilter,
@@ -180,7 +190,7 @@ fn factor(
 // the limit; that test is for other structs.)
 pub fn add_strong_borrow(
     names: &[u32; MAX_NAMES],
-    edges: &mut [[u32; 10]; MAX_EDGES],
+    edges: &mut [[u32; EDGE_WORDS]; MAX_EDGES],
     g: BorrowGraph,
     parent: RefID,
     path: LabelFilter,
@@ -209,7 +219,7 @@ pub fn add_strong_borrow(
 
 pub fn add_weak_borrow(
     names: &[u32; MAX_NAMES],
-    edges: &mut [[u32; 10]; MAX_EDGES],
+    edges: &mut [[u32; EDGE_WORDS]; MAX_EDGES],
     g: BorrowGraph,
     parent: RefID,
     path: LabelFilter,

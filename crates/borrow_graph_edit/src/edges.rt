@@ -3,6 +3,8 @@ use crate::pairs::Replaced;
 use crate::pairs::between;
 use crate::pairs::place;
 use crate::pairs::replace;
+use meaning::EDGE_WORDS;
+use meaning::MAX_EDGE_SET_SIZE;
 use meaning::MAX_EDGES;
 use references::rows::Candidate;
 use references::rows::child;
@@ -14,14 +16,15 @@ ghost use mathlib.Core.Path.{_≡_};
 ghost use mathlib.Core.List.{_∷_, _++_};
 ghost use Prim.Native.Nat.{_+_, _≤_, _<_};
 ghost use lib.ListN.{length, take, drop};
+ghost use Rattle.meaning.specs.Limits.{maxEdges};
 ghost use Rattle.meaning.specs.Laws.Pair.{Neat};
 ghost use Rattle.references.specs.Models.{rowOf, edgesIn};
 ghost use Rattle.borrow_graph_edit.specs.Models.{replacedIn, addRow};
 
 // The rows from k on make room for one.
-fn insert_at(edges: &mut [[u32; 10]; MAX_EDGES], m: usize, k: usize, x: [u32; 10])
-    requires { ⌜ (k ≤ m) × (m < 96) ⌝ }
-    ensures { λ _. ⌜ (length (now (edges .entry)) ≡ 96 → (length (now (edges .exit)) ≡ 96) × (edgesIn (now (edges .exit)) (m + 1) ≡ take k (edgesIn (now (edges .entry)) m) ++ (rowOf x ∷ drop k (edgesIn (now (edges .entry)) m)))) ⌝ }
+fn insert_at(edges: &mut [[u32; EDGE_WORDS]; MAX_EDGES], m: usize, k: usize, x: [u32; EDGE_WORDS])
+    requires { ⌜ (k ≤ m) × (m < maxEdges) ⌝ }
+    ensures { λ _. ⌜ (length (now (edges .entry)) ≡ maxEdges → (length (now (edges .exit)) ≡ maxEdges) × (edgesIn (now (edges .exit)) (m + 1) ≡ take k (edgesIn (now (edges .entry)) m) ++ (rowOf x ∷ drop k (edgesIn (now (edges .entry)) m)))) ⌝ }
 {
     let mut j = m;
     while k < j {
@@ -33,13 +36,13 @@ fn insert_at(edges: &mut [[u32; 10]; MAX_EDGES], m: usize, k: usize, x: [u32; 10
 }
 
 // Into a set that has edges.
-fn add_more(edges: &mut [[u32; 10]; MAX_EDGES], m: usize, x: [u32; 10]) -> Replaced
-    requires { ⌜ m ≤ 96 ⌝ }
-    ensures { λ r. ⌜ (r .edges ≤ 96) × (length (now (edges .entry)) ≡ 96 → Neat (edgesIn (now (edges .entry)) m) → (length (now (edges .exit)) ≡ 96) × (replacedIn (now (edges .exit)) r ≡ addRow (rowOf x) (edgesIn (now (edges .entry)) m)) × ((r .refusal ≡ 0 → ⊥) → (now (edges .exit) ≡ now (edges .entry)) × (r .edges ≡ m))) ⌝ }
+fn add_more(edges: &mut [[u32; EDGE_WORDS]; MAX_EDGES], m: usize, x: [u32; EDGE_WORDS]) -> Replaced
+    requires { ⌜ m ≤ maxEdges ⌝ }
+    ensures { λ r. ⌜ (r .edges ≤ maxEdges) × (length (now (edges .entry)) ≡ maxEdges → Neat (edgesIn (now (edges .entry)) m) → (length (now (edges .exit)) ≡ maxEdges) × (replacedIn (now (edges .exit)) r ≡ addRow (rowOf x) (edgesIn (now (edges .entry)) m)) × ((r .refusal ≡ 0 → ⊥) → (now (edges .exit) ≡ now (edges .entry)) × (r .edges ≡ m))) ⌝ }
 {
     let p = parent(&x);
     let c = child(&x);
-    let mut set = [[0u32; 10]; 10];
+    let mut set = [[0u32; EDGE_WORDS]; MAX_EDGE_SET_SIZE];
     let b = between(edges, m, p, c, &mut set);
     let old = b.set;
     let candidate = Candidate { fits: true, row: x };
@@ -60,9 +63,13 @@ fn add_more(edges: &mut [[u32; 10]; MAX_EDGES], m: usize, x: [u32; 10]) -> Repla
 }
 
 // The first edge of a pair goes straight to its place. A refusal leaves the array as it was.
-pub(crate) fn add_edge(edges: &mut [[u32; 10]; MAX_EDGES], m: usize, x: [u32; 10]) -> Replaced
-    requires { ⌜ m ≤ 96 ⌝ }
-    ensures { λ r. ⌜ (r .edges ≤ 96) × (length (now (edges .entry)) ≡ 96 → Neat (edgesIn (now (edges .entry)) m) → (length (now (edges .exit)) ≡ 96) × (replacedIn (now (edges .exit)) r ≡ addRow (rowOf x) (edgesIn (now (edges .entry)) m)) × ((r .refusal ≡ 0 → ⊥) → (now (edges .exit) ≡ now (edges .entry)) × (r .edges ≡ m))) ⌝ }
+pub(crate) fn add_edge(
+    edges: &mut [[u32; EDGE_WORDS]; MAX_EDGES],
+    m: usize,
+    x: [u32; EDGE_WORDS],
+) -> Replaced
+    requires { ⌜ m ≤ maxEdges ⌝ }
+    ensures { λ r. ⌜ (r .edges ≤ maxEdges) × (length (now (edges .entry)) ≡ maxEdges → Neat (edgesIn (now (edges .entry)) m) → (length (now (edges .exit)) ≡ maxEdges) × (replacedIn (now (edges .exit)) r ≡ addRow (rowOf x) (edgesIn (now (edges .entry)) m)) × ((r .refusal ≡ 0 → ⊥) → (now (edges .exit) ≡ now (edges .entry)) × (r .edges ≡ m))) ⌝ }
 {
     let p = parent(&x);
     let c = child(&x);

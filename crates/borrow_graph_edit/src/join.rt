@@ -12,6 +12,8 @@ use crate::pairs::replace_set;
 use borrow_graph::cover::holds_all;
 use borrow_graph::graph::Answer;
 use borrow_graph::graph::BorrowGraph;
+use meaning::EDGE_WORDS;
+use meaning::MAX_EDGE_SET_SIZE;
 use meaning::MAX_EDGES;
 use meaning::MAX_NAMES;
 use references::RefID;
@@ -24,11 +26,11 @@ use references::set::covers;
 use references::set::insert;
 use references::set::len;
 ghost use mathlib.Core.Path.{_≡_};
-ghost use mathlib.Core.Bool.{Bool, true, _&&_};
+ghost use mathlib.Core.Bool.{true, _&&_};
 ghost use mathlib.Core.List.{List, [], _∷_};
 ghost use Prim.Native.Nat.{ℕ, _≤_};
 ghost use lib.ListN.{length};
-ghost use Rattle.meaning.specs.Limits.{maxNames, maxEdges, maxSetSize};
+ghost use Rattle.meaning.specs.Limits.{maxEdges, maxSetSize};
 ghost use Rattle.meaning.specs.BorrowGraph as G;
 ghost use Rattle.meaning.specs.BorrowGraph.{joinGraphs};
 ghost use Rattle.meaning.specs.Laws.Graph.{insertAll};
@@ -41,9 +43,9 @@ ghost use Rattle.borrow_graph_edit.specs.Models.{replacedIn};
 
 // Our set with the edges of theirs that it does not cover as it is.
 fn join_sets(
-    set: &mut [[u32; 10]; 10],
+    set: &mut [[u32; EDGE_WORDS]; MAX_EDGE_SET_SIZE],
     ours: BorrowEdgeSet,
-    their_set: &[[u32; 10]; 10],
+    their_set: &[[u32; EDGE_WORDS]; MAX_EDGE_SET_SIZE],
     theirs: BorrowEdgeSet,
 ) -> Inserted
     ensures { λ r. ⌜ (length (now (set .entry)) ≡ maxSetSize → length (now («their_set» .entry)) ≡ maxSetSize →
@@ -77,11 +79,11 @@ fn join_sets(
 }
 
 fn join_pair(
-    edges: &mut [[u32; 10]; MAX_EDGES],
+    edges: &mut [[u32; EDGE_WORDS]; MAX_EDGES],
     m: usize,
-    ours: &[[u32; 10]; MAX_EDGES],
+    ours: &[[u32; EDGE_WORDS]; MAX_EDGES],
     k: usize,
-    theirs: &[[u32; 10]; MAX_EDGES],
+    theirs: &[[u32; EDGE_WORDS]; MAX_EDGES],
     n: usize,
     parent: RefID,
     child: RefID,
@@ -92,8 +94,8 @@ fn join_pair(
         Neat (edgesIn (now (edges .entry)) m) → Neat (edgesIn (now (ours .entry)) k) → Neat (edgesIn (now (theirs .entry)) n) → (length (now (edges .exit)) ≡ maxEdges)
         × (replacedIn (now (edges .exit)) r ≡ replaceLim shrinking (joinSet (edgesIn (now (ours .entry)) k) (edgesIn (now (theirs .entry)) n)) (record { parent = parent .0; child = child .0 } ∷ []) (edgesIn (now (edges .entry)) m))) ⌝ }
 {
-    let mut a = [[0u32; 10]; 10];
-    let mut b = [[0u32; 10]; 10];
+    let mut a = [[0u32; EDGE_WORDS]; MAX_EDGE_SET_SIZE];
+    let mut b = [[0u32; EDGE_WORDS]; MAX_EDGE_SET_SIZE];
     let x = between(ours, k, parent, child, &mut a);
     let y = between(theirs, n, parent, child, &mut b);
     let s = join_sets(&mut a, x.set, &b, y.set);
@@ -102,11 +104,11 @@ fn join_pair(
 
 // Each pair of theirs.
 fn join_pairs(
-    edges: &mut [[u32; 10]; MAX_EDGES],
+    edges: &mut [[u32; EDGE_WORDS]; MAX_EDGES],
     m: usize,
-    ours: &[[u32; 10]; MAX_EDGES],
+    ours: &[[u32; EDGE_WORDS]; MAX_EDGES],
     k: usize,
-    theirs: &[[u32; 10]; MAX_EDGES],
+    theirs: &[[u32; EDGE_WORDS]; MAX_EDGES],
     n: usize,
     shrinking: bool,
 ) -> Replaced
@@ -120,21 +122,17 @@ fn join_pairs(
     let mut prior_child = RefID(0);
     let mut i: usize = 0;
     while i < n {
-        let row = theirs[i];
-        let p = parent(&row);
-        let c = child(&row);
+        let p = parent(&theirs[i]);
+        let c = child(&theirs[i]);
+        i += 1;
         if !((prior_parent.0 == p.0) & (prior_child.0 == c.0)) {
             let r = join_pair(edges, count, ours, k, theirs, n, p, c, shrinking);
-            if r.refusal == 0 {
-                count = r.edges;
-                prior_parent = p;
-                prior_child = c;
-                i += 1;
-            } else {
+            if r.refusal != 0 {
                 return r;
             }
-        } else {
-            i += 1;
+            count = r.edges;
+            prior_parent = p;
+            prior_child = c;
         }
     }
     Replaced {
@@ -145,10 +143,10 @@ fn join_pairs(
 
 // Where 96 is passed on the way, again: first what makes the list shorter, then all.
 fn join_all(
-    edges: &mut [[u32; 10]; MAX_EDGES],
-    ours: &[[u32; 10]; MAX_EDGES],
+    edges: &mut [[u32; EDGE_WORDS]; MAX_EDGES],
+    ours: &[[u32; EDGE_WORDS]; MAX_EDGES],
     k: usize,
-    theirs: &[[u32; 10]; MAX_EDGES],
+    theirs: &[[u32; EDGE_WORDS]; MAX_EDGES],
     n: usize,
 ) -> Replaced
     requires { ⌜ (k ≤ maxEdges) × (n ≤ maxEdges) ⌝ }
@@ -188,10 +186,10 @@ fn joinable(
 // graph has no more.
 pub fn join(
     names: &[u32; MAX_NAMES],
-    edges: &mut [[u32; 10]; MAX_EDGES],
+    edges: &mut [[u32; EDGE_WORDS]; MAX_EDGES],
     graph: BorrowGraph,
     their_names: &[u32; MAX_NAMES],
-    their_edges: &[[u32; 10]; MAX_EDGES],
+    their_edges: &[[u32; EDGE_WORDS]; MAX_EDGES],
     other: BorrowGraph,
 ) -> Answer
     ensures { λ r. ⌜ (Tells (now (names .entry)) (now (edges .entry)) graph → Tells (now («their_names» .entry)) (now («their_edges» .entry)) other →

@@ -1,5 +1,6 @@
 // A pair's set: collected, and exchanged for a new one within the limit of 96 edges. In the Rust it is an entry of `borrowed_by` and one of
 // `borrows_from` (references.rs, 64).
+use meaning::EDGE_WORDS;
 use meaning::MAX_EDGE_SET_SIZE;
 use meaning::MAX_EDGES;
 use paths::Ordering;
@@ -14,6 +15,7 @@ ghost use mathlib.Core.Path.{_≡_};
 ghost use mathlib.Core.List.{_++_};
 ghost use Prim.Native.Nat.{_+_, _-_, _≤_, min};
 ghost use lib.ListN.{length, take, drop};
+ghost use Rattle.meaning.specs.Limits.{maxEdges, maxSetSize};
 ghost use Rattle.meaning.specs.Answers.{andThen};
 ghost use Rattle.meaning.specs.Lists.{keep};
 ghost use Rattle.meaning.specs.BorrowGraph.{tagged, isBefore, setAt};
@@ -42,13 +44,13 @@ pub(crate) struct Replaced {
 
 // Where a pair's edges stand.
 pub(crate) fn place(
-    edges: &[[u32; 10]; MAX_EDGES],
+    edges: &[[u32; EDGE_WORDS]; MAX_EDGES],
     m: usize,
     parent: RefID,
     child: RefID,
 ) -> PairPlace
-    requires { ⌜ m ≤ 96 ⌝ }
-    ensures { λ r. ⌜ (r .low + r .size ≤ m) × (length (now (edges .entry)) ≡ 96 → (r .low ≡ length (keep (isBefore (parent .0) (child .0)) (edgesIn (now (edges .entry)) m))) × (r .size ≡ length (edgesAt (parent .0) (child .0) (edgesIn (now (edges .entry)) m)))) ⌝ }
+    requires { ⌜ m ≤ maxEdges ⌝ }
+    ensures { λ r. ⌜ (r .low + r .size ≤ m) × (length (now (edges .entry)) ≡ maxEdges → (r .low ≡ length (keep (isBefore (parent .0) (child .0)) (edgesIn (now (edges .entry)) m))) × (r .size ≡ length (edgesAt (parent .0) (child .0) (edgesIn (now (edges .entry)) m)))) ⌝ }
 {
     let mut low: usize = 0;
     let mut size: usize = 0;
@@ -74,40 +76,34 @@ pub(crate) fn place(
 
 // A pair's rows go into an array of their own; a pair has no more than ten.
 pub(crate) fn between(
-    edges: &[[u32; 10]; MAX_EDGES],
+    edges: &[[u32; EDGE_WORDS]; MAX_EDGES],
     m: usize,
     parent: RefID,
     child: RefID,
-    set: &mut [[u32; 10]; 10],
+    set: &mut [[u32; EDGE_WORDS]; MAX_EDGE_SET_SIZE],
 ) -> PairSet
-    requires { ⌜ m ≤ 96 ⌝ }
-    ensures { λ r. ⌜ (r .low + r .set .len ≤ m) × (r .set .len ≤ 10) × (length (now (edges .entry)) ≡ 96 → length (now (set .entry)) ≡ 10 → (length (now (set .exit)) ≡ 10) × (length (setAt (parent .0) (child .0) (edgesIn (now (edges .entry)) m) .edges) ≤ 10 → (setIn (now (set .exit)) (r .set) ≡ setAt (parent .0) (child .0) (edgesIn (now (edges .entry)) m)) × (r .low ≡ length (keep (isBefore (parent .0) (child .0)) (edgesIn (now (edges .entry)) m))))) ⌝ }
+    requires { ⌜ m ≤ maxEdges ⌝ }
+    ensures { λ r. ⌜ (r .low + r .set .len ≤ m) × (r .set .len ≤ maxSetSize) × (length (now (edges .entry)) ≡ maxEdges → length (now (set .entry)) ≡ maxSetSize → (length (now (set .exit)) ≡ maxSetSize) × (length (setAt (parent .0) (child .0) (edgesIn (now (edges .entry)) m) .edges) ≤ maxSetSize → (setIn (now (set .exit)) (r .set) ≡ setAt (parent .0) (child .0) (edgesIn (now (edges .entry)) m)) × (r .low ≡ length (keep (isBefore (parent .0) (child .0)) (edgesIn (now (edges .entry)) m))))) ⌝ }
 {
     let mut low: usize = 0;
     let mut size: usize = 0;
     let mut overflown = false;
     let mut i: usize = 0;
     while i < m {
-        let o = side(&edges[i], parent, child);
+        let row = &edges[i];
+        i += 1;
+        let o = side(row, parent, child);
         match o {
-            Ordering::Less => {
-                low += 1;
-                i += 1;
-            }
+            Ordering::Less => low += 1,
             Ordering::Equal => {
-                overflown = overflown | is_blurred(&edges[i]);
+                overflown = overflown | is_blurred(row);
                 if size < MAX_EDGE_SET_SIZE {
-                    let x = edges[i];
+                    let x = *row;
                     set[size] = x;
                     size += 1;
-                    i += 1;
-                } else {
-                    i += 1;
                 }
             }
-            Ordering::Greater => {
-                i += 1;
-            }
+            Ordering::Greater => {}
         }
     }
     PairSet {
@@ -121,17 +117,17 @@ pub(crate) fn between(
 
 // The `old` edges from `low` on give way to those of a set of this pair.
 pub(crate) fn replace(
-    edges: &mut [[u32; 10]; MAX_EDGES],
+    edges: &mut [[u32; EDGE_WORDS]; MAX_EDGES],
     m: usize,
     low: usize,
     old: usize,
     parent: RefID,
     child: RefID,
-    set: &[[u32; 10]; 10],
+    set: &[[u32; EDGE_WORDS]; MAX_EDGE_SET_SIZE],
     s: BorrowEdgeSet,
 ) -> usize
-    requires { ⌜ (m ≤ 96) × (low + old ≤ m) × (m - old + min (s .len) 10 ≤ 96) ⌝ }
-    ensures { λ r. ⌜ (r ≡ m - old + min (s .len) 10) × (length (now (edges .entry)) ≡ 96 → length (now (set .entry)) ≡ 10 → (length (now (edges .exit)) ≡ 96) × (edgesIn (now (edges .exit)) r ≡ take low (edgesIn (now (edges .entry)) m) ++ (tagged (parent .0) (child .0) (s .overflown) (setEdges (now (set .entry)) (s .len)) ++ drop (low + old) (edgesIn (now (edges .entry)) m)))) ⌝ }
+    requires { ⌜ (m ≤ maxEdges) × (low + old ≤ m) × (m - old + min (s .len) maxSetSize ≤ maxEdges) ⌝ }
+    ensures { λ r. ⌜ (r ≡ m - old + min (s .len) maxSetSize) × (length (now (edges .entry)) ≡ maxEdges → length (now (set .entry)) ≡ maxSetSize → (length (now (edges .exit)) ≡ maxEdges) × (edgesIn (now (edges .exit)) r ≡ take low (edgesIn (now (edges .entry)) m) ++ (tagged (parent .0) (child .0) (s .overflown) (setEdges (now (set .entry)) (s .len)) ++ drop (low + old) (edgesIn (now (edges .entry)) m)))) ⌝ }
 {
     let was = *edges;
     let k = len(s);
@@ -153,16 +149,16 @@ pub(crate) fn replace(
 
 // `shrinking`: only where the new set has fewer edges.
 pub(crate) fn replace_set(
-    edges: &mut [[u32; 10]; MAX_EDGES],
+    edges: &mut [[u32; EDGE_WORDS]; MAX_EDGES],
     m: usize,
     parent: RefID,
     child: RefID,
-    set: &[[u32; 10]; 10],
+    set: &[[u32; EDGE_WORDS]; MAX_EDGE_SET_SIZE],
     new: Inserted,
     shrinking: bool,
 ) -> Replaced
-    requires { ⌜ m ≤ 96 ⌝ }
-    ensures { λ r. ⌜ (r .edges ≤ 96) × (length (now (edges .entry)) ≡ 96 → length (now (set .entry)) ≡ 10 → Neat (edgesIn (now (edges .entry)) m) → (length (now (edges .exit)) ≡ 96) × (replacedIn (now (edges .exit)) r ≡ andThen (insertedIn (now (set .entry)) new) (λ s. replaceOne shrinking (parent .0) (child .0) s (edgesIn (now (edges .entry)) m)))) ⌝ }
+    requires { ⌜ m ≤ maxEdges ⌝ }
+    ensures { λ r. ⌜ (r .edges ≤ maxEdges) × (length (now (edges .entry)) ≡ maxEdges → length (now (set .entry)) ≡ maxSetSize → Neat (edgesIn (now (edges .entry)) m) → (length (now (edges .exit)) ≡ maxEdges) × (replacedIn (now (edges .exit)) r ≡ andThen (insertedIn (now (set .entry)) new) (λ s. replaceOne shrinking (parent .0) (child .0) s (edgesIn (now (edges .entry)) m)))) ⌝ }
 {
     let at = place(edges, m, parent, child);
     let s = new.set;

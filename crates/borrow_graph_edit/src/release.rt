@@ -12,6 +12,8 @@ use crate::pairs::replace_set;
 use borrow_graph::graph::Answer;
 use borrow_graph::graph::BorrowGraph;
 use borrow_graph::refs;
+use meaning::EDGE_WORDS;
+use meaning::MAX_EDGE_SET_SIZE;
 use meaning::MAX_EDGES;
 use meaning::MAX_NAMES;
 use references::RefID;
@@ -39,10 +41,10 @@ ghost use Rattle.borrow_graph_edit.specs.Ways.{entering, leaving, ways, 
 
 // The set with one parent edge spliced with each child edge.
 fn splice_one(
-    set: &mut [[u32; 10]; 10],
+    set: &mut [[u32; EDGE_WORDS]; MAX_EDGE_SET_SIZE],
     s: BorrowEdgeSet,
-    parent: &[u32; 10],
-    children: &[[u32; 10]; 10],
+    parent: &[u32; EDGE_WORDS],
+    children: &[[u32; EDGE_WORDS]; MAX_EDGE_SET_SIZE],
     cs: BorrowEdgeSet,
 ) -> Inserted
     ensures { λ r. ⌜ (length (now (set .entry)) ≡ maxSetSize → length (now (children .entry)) ≡ maxSetSize → (length (now (set .exit)) ≡ maxSetSize) × (insertedIn (now (set .exit)) r ≡ insertAll (map (G.splice (rowOf (now (parent .entry)) .edge)) (setIn (now (children .entry)) cs .edges)) (setIn (now (set .entry)) s))) ⌝ }
@@ -66,11 +68,11 @@ fn splice_one(
 
 // The set with each parent edge spliced with each child edge.
 fn splice_each(
-    set: &mut [[u32; 10]; 10],
+    set: &mut [[u32; EDGE_WORDS]; MAX_EDGE_SET_SIZE],
     s: BorrowEdgeSet,
-    parents: &[[u32; 10]; 10],
+    parents: &[[u32; EDGE_WORDS]; MAX_EDGE_SET_SIZE],
     ps: BorrowEdgeSet,
-    children: &[[u32; 10]; 10],
+    children: &[[u32; EDGE_WORDS]; MAX_EDGE_SET_SIZE],
     cs: BorrowEdgeSet,
 ) -> Inserted
     ensures { λ r. ⌜ (length (now (set .entry)) ≡ maxSetSize → length (now (parents .entry)) ≡ maxSetSize → length (now (children .entry)) ≡ maxSetSize → (length (now (set .exit)) ≡ maxSetSize) × (insertedIn (now (set .exit)) r ≡ insertAll (splices (setIn (now (parents .entry)) ps .edges) (setIn (now (children .entry)) cs .edges)) (setIn (now (set .entry)) s))) ⌝ }
@@ -93,8 +95,8 @@ fn splice_each(
 
 // A pair's set with the ways through `id`, made in `set`.
 fn spliced(
-    set: &mut [[u32; 10]; 10],
-    edges: &[[u32; 10]; MAX_EDGES],
+    set: &mut [[u32; EDGE_WORDS]; MAX_EDGE_SET_SIZE],
+    edges: &[[u32; EDGE_WORDS]; MAX_EDGES],
     m: usize,
     parent: RefID,
     id: RefID,
@@ -103,8 +105,8 @@ fn spliced(
     requires { ⌜ m ≤ maxEdges ⌝ }
     ensures { λ r. ⌜ (length (now (set .entry)) ≡ maxSetSize → length (now (edges .entry)) ≡ maxEdges → Neat (edgesIn (now (edges .entry)) m) → (length (now (set .exit)) ≡ maxSetSize) × (insertedIn (now (set .exit)) r ≡ spliceSet (edgesIn (now (edges .entry)) m) (id .0) (parent .0) (child .0))) ⌝ }
 {
-    let mut parents = [[0u32; 10]; 10];
-    let mut children = [[0u32; 10]; 10];
+    let mut parents = [[0u32; EDGE_WORDS]; MAX_EDGE_SET_SIZE];
+    let mut children = [[0u32; EDGE_WORDS]; MAX_EDGE_SET_SIZE];
     let a = between(edges, m, parent, id, &mut parents);
     let b = between(edges, m, id, child, &mut children);
     let c = between(edges, m, parent, child, set);
@@ -116,9 +118,9 @@ fn spliced(
 
 // No way leads from a name to itself.
 fn splice_pair(
-    edges: &mut [[u32; 10]; MAX_EDGES],
+    edges: &mut [[u32; EDGE_WORDS]; MAX_EDGES],
     k: usize,
-    old: &[[u32; 10]; MAX_EDGES],
+    old: &[[u32; EDGE_WORDS]; MAX_EDGES],
     m: usize,
     parent: RefID,
     id: RefID,
@@ -134,16 +136,16 @@ fn splice_pair(
             edges: k,
         };
     }
-    let mut set = [[0u32; 10]; 10];
+    let mut set = [[0u32; EDGE_WORDS]; MAX_EDGE_SET_SIZE];
     let s = spliced(&mut set, old, m, parent, id, child);
     replace_set(edges, k, parent, child, &set, s, shrinking)
 }
 
 // One parent with each child.
 fn splice_row(
-    edges: &mut [[u32; 10]; MAX_EDGES],
+    edges: &mut [[u32; EDGE_WORDS]; MAX_EDGES],
     k: usize,
-    old: &[[u32; 10]; MAX_EDGES],
+    old: &[[u32; EDGE_WORDS]; MAX_EDGES],
     m: usize,
     parent: RefID,
     id: RefID,
@@ -179,9 +181,9 @@ fn splice_row(
 
 // Each parent with each child.
 fn splice_rows(
-    edges: &mut [[u32; 10]; MAX_EDGES],
+    edges: &mut [[u32; EDGE_WORDS]; MAX_EDGES],
     k: usize,
-    old: &[[u32; 10]; MAX_EDGES],
+    old: &[[u32; EDGE_WORDS]; MAX_EDGES],
     m: usize,
     id: RefID,
     shrinking: bool,
@@ -215,7 +217,7 @@ fn splice_rows(
 }
 
 // Whether a row's edge touches a name.
-fn touches(x: &[u32; 10], id: RefID) -> bool
+fn touches(x: &[u32; EDGE_WORDS], id: RefID) -> bool
     ensures { λ r. ⌜ not r ≡ apart (id .0) (rowOf (now (x .entry))) ⌝ }
 {
     let p = rows::parent(x);
@@ -223,23 +225,18 @@ fn touches(x: &[u32; 10], id: RefID) -> bool
     (id.0 == p.0) | (id.0 == c.0)
 }
 
-// The rows of `old` that do not touch a name.
-fn without(
-    edges: &mut [[u32; 10]; MAX_EDGES],
-    old: &[[u32; 10]; MAX_EDGES],
-    m: usize,
-    id: RefID,
-) -> usize
+// The rows that touch a name are left out.
+fn left_out(edges: &mut [[u32; EDGE_WORDS]; MAX_EDGES], m: usize, id: RefID) -> usize
     requires { ⌜ m ≤ maxEdges ⌝ }
-    ensures { λ r. ⌜ (r ≤ maxEdges) × (length (now (edges .entry)) ≡ maxEdges → length (now (old .entry)) ≡ maxEdges → (length (now (edges .exit)) ≡ maxEdges) × (edgesIn (now (edges .exit)) r ≡ keep (apart (id .0)) (edgesIn (now (old .entry)) m))) ⌝ }
+    ensures { λ r. ⌜ (r ≤ maxEdges) × (length (now (edges .entry)) ≡ maxEdges → (length (now (edges .exit)) ≡ maxEdges) × (edgesIn (now (edges .exit)) r ≡ keep (apart (id .0)) (edgesIn (now (edges .entry)) m))) ⌝ }
 {
     let mut j: usize = 0;
     let mut i: usize = 0;
     while i < m {
-        if touches(&old[i], id) {
+        if touches(&edges[i], id) {
             i += 1;
         } else {
-            let x = old[i];
+            let x = edges[i];
             edges[j] = x;
             j += 1;
             i += 1;
@@ -248,10 +245,24 @@ fn without(
     j
 }
 
+// The rows of `old` that do not touch a name.
+fn without(
+    edges: &mut [[u32; EDGE_WORDS]; MAX_EDGES],
+    old: &[[u32; EDGE_WORDS]; MAX_EDGES],
+    m: usize,
+    id: RefID,
+) -> usize
+    requires { ⌜ m ≤ maxEdges ⌝ }
+    ensures { λ r. ⌜ (r ≤ maxEdges) × (length (now (edges .entry)) ≡ maxEdges → length (now (old .entry)) ≡ maxEdges → (length (now (edges .exit)) ≡ maxEdges) × (edgesIn (now (edges .exit)) r ≡ keep (apart (id .0)) (edgesIn (now (old .entry)) m))) ⌝ }
+{
+    *edges = *old;
+    left_out(edges, m, id)
+}
+
 // Where 96 is passed on the way, again: first what makes the list shorter, then all.
 fn splice_all(
-    edges: &mut [[u32; 10]; MAX_EDGES],
-    old: &[[u32; 10]; MAX_EDGES],
+    edges: &mut [[u32; EDGE_WORDS]; MAX_EDGES],
+    old: &[[u32; EDGE_WORDS]; MAX_EDGES],
     m: usize,
     id: RefID,
 ) -> Replaced
@@ -272,7 +283,7 @@ fn splice_all(
 }
 
 // A release with ways through the name.
-fn release_through(edges: &mut [[u32; 10]; MAX_EDGES], m: usize, id: RefID) -> Replaced
+fn release_through(edges: &mut [[u32; EDGE_WORDS]; MAX_EDGES], m: usize, id: RefID) -> Replaced
     requires { ⌜ m ≤ maxEdges ⌝ }
     ensures { λ r. ⌜ (r .edges ≤ maxEdges) × (length (now (edges .entry)) ≡ maxEdges → (ns : List G.Name) → G.wellFormed (graphWith ns (edgesIn (now (edges .entry)) m)) && G.holds ns (id .0) ≡ true → Edits (G.release (graphWith ns (edgesIn (now (edges .entry)) m)) (id .0)) (keep (G.other (id .0)) ns) (now (edges .entry)) m (now (edges .exit)) r) ⌝ }
 {
@@ -306,11 +317,11 @@ pub(crate) struct Touching {
 pub(crate) struct OneWay {
     pub known: bool,
     pub one: bool,
-    pub row: [u32; 10],
+    pub row: [u32; EDGE_WORDS],
 }
 
 // An edge from the name to itself counts as several from it.
-fn touching_edges(edges: &[[u32; 10]; MAX_EDGES], m: usize, id: RefID) -> Touching
+fn touching_edges(edges: &[[u32; EDGE_WORDS]; MAX_EDGES], m: usize, id: RefID) -> Touching
     requires { ⌜ m ≤ maxEdges ⌝ }
     ensures { λ r. ⌜ (r .to .at < maxEdges) × (r .from .at < maxEdges) × (length (now (edges .entry)) ≡ maxEdges → Found (now (edges .entry)) (r .to) (keep (entering (id .0)) (edgesIn (now (edges .entry)) m)) × Found (now (edges .entry)) (r .from) (keep (leaving (id .0)) (edgesIn (now (edges .entry)) m))) ⌝ }
 {
@@ -347,7 +358,7 @@ fn touching_edges(edges: &[[u32; 10]; MAX_EDGES], m: usize, id: RefID) -> Touchi
 }
 
 // Nothing where a side is empty, or where the way would lead from a name to itself.
-fn one_way(edges: &[[u32; 10]; MAX_EDGES], t: Touching) -> OneWay
+fn one_way(edges: &[[u32; EDGE_WORDS]; MAX_EDGES], t: Touching) -> OneWay
     requires { ⌜ (t .to .at < maxEdges) × (t .from .at < maxEdges) ⌝ }
     ensures { λ r. ⌜ (r .known ≡ true → (xs ys : List G.GEdge) → Found (now (edges .entry)) (t .to) xs → Found (now (edges .entry)) (t .from) ys → ways xs ys ≡ putOf r) ⌝ }
 {
@@ -357,7 +368,7 @@ fn one_way(edges: &[[u32; 10]; MAX_EDGES], t: Touching) -> OneWay
         return OneWay {
             known: true,
             one: false,
-            row: [0u32; 10],
+            row: [0u32; EDGE_WORDS],
         };
     }
     let i = to.at;
@@ -376,29 +387,14 @@ fn one_way(edges: &[[u32; 10]; MAX_EDGES], t: Touching) -> OneWay
     }
 }
 
-// The rows that touch a name are left out.
-fn left_out(edges: &mut [[u32; 10]; MAX_EDGES], m: usize, id: RefID) -> usize
-    requires { ⌜ m ≤ maxEdges ⌝ }
-    ensures { λ r. ⌜ (r ≤ maxEdges) × (length (now (edges .entry)) ≡ maxEdges → (length (now (edges .exit)) ≡ maxEdges) × (edgesIn (now (edges .exit)) r ≡ keep (apart (id .0)) (edgesIn (now (edges .entry)) m))) ⌝ }
-{
-    let mut j: usize = 0;
-    let mut i: usize = 0;
-    while i < m {
-        if touches(&edges[i], id) {
-            i += 1;
-        } else {
-            let x = edges[i];
-            edges[j] = x;
-            j += 1;
-            i += 1;
-        }
-    }
-    j
-}
-
 // A release where at most one way leads through the name: its rows are left out and that way is put in, which needs no passes and is
 // never refused.
-fn splice_one_way(edges: &mut [[u32; 10]; MAX_EDGES], m: usize, id: RefID, b: OneWay) -> Replaced
+fn splice_one_way(
+    edges: &mut [[u32; EDGE_WORDS]; MAX_EDGES],
+    m: usize,
+    id: RefID,
+    b: OneWay,
+) -> Replaced
     requires { ⌜ m ≤ maxEdges ⌝ }
     ensures { λ r. ⌜ (r .edges ≤ maxEdges) × (length (now (edges .entry)) ≡ maxEdges → (ns : List G.Name) → G.wellFormed (graphWith ns (edgesIn (now (edges .entry)) m)) && G.holds ns (id .0) ≡ true → ways (keep (entering (id .0)) (edgesIn (now (edges .entry)) m)) (keep (leaving (id .0)) (edgesIn (now (edges .entry)) m)) ≡ putOf b → Edits (G.release (graphWith ns (edgesIn (now (edges .entry)) m)) (id .0)) (keep (G.other (id .0)) ns) (now (edges .entry)) m (now (edges .exit)) r) ⌝ }
 {
@@ -414,7 +410,7 @@ fn splice_one_way(edges: &mut [[u32; 10]; MAX_EDGES], m: usize, id: RefID, b: On
 }
 
 // 22 for a path of more than eight labels, then 21 for more than 96 edges in the end.
-fn release_edges(edges: &mut [[u32; 10]; MAX_EDGES], m: usize, id: RefID) -> Replaced
+fn release_edges(edges: &mut [[u32; EDGE_WORDS]; MAX_EDGES], m: usize, id: RefID) -> Replaced
     requires { ⌜ m ≤ maxEdges ⌝ }
     ensures { λ r. ⌜ (r .edges ≤ maxEdges) × (length (now (edges .entry)) ≡ maxEdges → (ns : List G.Name) → G.wellFormed (graphWith ns (edgesIn (now (edges .entry)) m)) && G.holds ns (id .0) ≡ true → Edits (G.release (graphWith ns (edgesIn (now (edges .entry)) m)) (id .0)) (keep (G.other (id .0)) ns) (now (edges .entry)) m (now (edges .exit)) r) ⌝ }
 {
@@ -429,7 +425,7 @@ fn release_edges(edges: &mut [[u32; 10]; MAX_EDGES], m: usize, id: RefID) -> Rep
 // 9 where the name is not held.
 pub fn release(
     names: &mut [u32; MAX_NAMES],
-    edges: &mut [[u32; 10]; MAX_EDGES],
+    edges: &mut [[u32; EDGE_WORDS]; MAX_EDGES],
     g: BorrowGraph,
     id: RefID,
 ) -> Answer

@@ -7,6 +7,7 @@ use libc::STDOUT_FILENO;
 use listing::Block;
 use listing::Routine;
 use listing::read_listing;
+use meaning::EDGE_WORDS;
 use meaning::MAX_EDGES;
 use meaning::MAX_INSTRUCTIONS;
 use meaning::MAX_NAMES;
@@ -84,7 +85,7 @@ fn answer(s: &[u8]) -> bool {
     let params = q.params;
     let mut locals = [0u32; LOCALS];
     let mut names = [0u32; MAX_NAMES];
-    let mut edges = [[0u32; 10]; MAX_EDGES];
+    let mut edges = [[0u32; EDGE_WORDS]; MAX_EDGES];
     let first = new(&mut locals, &mut names, q.locals, params, q.param_count);
     let b = first_block(q);
     let r = run_block(s, q, &code, b, &mut locals, &mut names, &mut edges, first);

@@ -6,8 +6,8 @@ use listing_records::body;
 use listing_records::byte_at;
 use listing_records::u16_at;
 use meaning::MAX_ACQUIRED;
-use meaning::MAX_LOCALS;
 use meaning::MAX_RETURNS;
+use meaning::ROOM;
 ghost use mathlib.Core.Path.{_≡_};
 ghost use Prim.Native.Nat.{_≤_, _<_};
 ghost use lib.ListN.{getD, take};
@@ -15,9 +15,6 @@ ghost use Rattle.file_format.specs.Models.{tokenOf};
 ghost use Rattle.meaning.specs.Limits.{maxLocals};
 ghost use Rattle.meaning.specs.Listing.{tokenAs, flagAt, wordsAt, instrOf};
 ghost use Rattle.listing.specs.Models.{bytesAt, plainOf, decodedOf, decodedAt, callFor};
-
-// Room for the parameters of a routine, and for what a call acquires or returns: none of them is more than the locals may be.
-pub(crate) const ROOM: usize = MAX_LOCALS as usize;
 
 // One variant for each kind of instruction record.
 pub enum Instruction {

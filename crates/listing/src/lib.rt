@@ -13,6 +13,7 @@ use listing_records::read_places;
 use listing_records::u16_at;
 use meaning::MAX_BLOCKS;
 use meaning::MAX_INSTRUCTIONS;
+use meaning::ROOM;
 ghost use mathlib.Core.Path.{_≡_};
 ghost use mathlib.Core.Bool.{true};
 ghost use mathlib.Core.List.{map};
@@ -36,7 +37,7 @@ pub struct Block {
 // A routine that was read: the tokens (0, 1, 2) of its parameters, L, the number of its returns, how many instructions it has, and the blocks
 // in listed order. Where the record of each instruction starts stands beside, in an array that the caller lends. Slots from a count on are free.
 pub struct Routine {
-    pub params: [u8; decode::ROOM],
+    pub params: [u8; ROOM],
     pub param_count: usize,
     pub locals: u8,
     pub returns: u8,
@@ -69,7 +70,7 @@ fn refused(number: u8, place: usize) -> Listed
         number,
         place,
         routine: Routine {
-            params: [0u8; decode::ROOM],
+            params: [0u8; ROOM],
             param_count: 0,
             locals: 0,
             returns: 0,

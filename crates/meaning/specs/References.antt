@@ -6,7 +6,7 @@ use lib.Dec.{eqb, ltb, leb}
 use lib.ListN.{length}
 use Rattle.meaning.specs.Limits.{maxSetSize, maxLabels}
 use Rattle.meaning.specs.Answers.{Ans, ok, refuse, guard}
-use Rattle.meaning.specs.Lists.{any, keep, all}
+use Rattle.meaning.specs.Lists.{any, all}
 
 -- "An edge is strong or weak and has a path (a list of labels)."
 pub record Edge : Type 0 where
@@ -108,9 +108,9 @@ insert s e =
     (cond (has e (s .edges)) (ok s) (ok (record { edges = put e (s .edges); blurred = false })))
     (refuse 22)))
 
--- a path of at most 8 labels, or the refusal 22
-unfoldable pub shortPath : List ℕ → Ans (List ℕ)
-shortPath p = guard (leb (length p) maxLabels) 22 (ok p)
+-- an edge whose path has at most 8 labels, or the refusal 22
+unfoldable pub fitting : Edge → Ans Edge
+fitting e = guard (leb (length (e .path)) maxLabels) 22 (ok e)
 
 -- an insert of what may be too long: only where the edge would be put in is its refusal given
 unfoldable pub offer : EdgeSet → Ans Edge → Ans EdgeSet

@@ -15,6 +15,7 @@ use references::RefID;
 ghost use mathlib.Core.Path.{_≡_};
 ghost use mathlib.Core.List.{[], _∷_};
 ghost use lib.ListN.{length, replicate};
+ghost use Rattle.meaning.specs.Limits.{maxOperands};
 ghost use Rattle.meaning.specs.AbstractState.{nonRef};
 ghost use Rattle.abstract_state.specs.Models.{operandOf, operandsOf};
 ghost use Rattle.operand_stack.specs.Models.{stackIn, poppedIn, poppedRefIn, poppedManyIn, restIn, popOne, popOneRef, popSome, popRest, popUnder, Pushes, Keeps};
@@ -43,7 +44,7 @@ pub struct Rest {
 }
 
 pub fn pop(stack: &[u32; MAX_OPERANDS], depth: usize) -> Popped
-    ensures { λ r. ⌜ (length (now (stack .entry)) ≡ 16 → poppedIn (now (stack .entry)) r ≡ popOne (stackIn (now (stack .entry)) depth)) × Keeps (r .refusal) depth (r .depth) ⌝ }
+    ensures { λ r. ⌜ (length (now (stack .entry)) ≡ maxOperands → poppedIn (now (stack .entry)) r ≡ popOne (stackIn (now (stack .entry)) depth)) × Keeps (r .refusal) depth (r .depth) ⌝ }
 {
     let n = lesser(depth, MAX_OPERANDS);
     if n == 0 {
@@ -62,7 +63,7 @@ pub fn pop(stack: &[u32; MAX_OPERANDS], depth: usize) -> Popped
 }
 
 pub fn pop_ref(stack: &[u32; MAX_OPERANDS], depth: usize) -> PoppedRef
-    ensures { λ r. ⌜ (length (now (stack .entry)) ≡ 16 → poppedRefIn (now (stack .entry)) r ≡ popOneRef (stackIn (now (stack .entry)) depth)) × Keeps (r .refusal) depth (r .depth) ⌝ }
+    ensures { λ r. ⌜ (length (now (stack .entry)) ≡ maxOperands → poppedRefIn (now (stack .entry)) r ≡ popOneRef (stackIn (now (stack .entry)) depth)) × Keeps (r .refusal) depth (r .depth) ⌝ }
 {
     let p = pop(stack, depth);
     if p.refusal != 0 {
@@ -89,7 +90,7 @@ pub fn pop_ref(stack: &[u32; MAX_OPERANDS], depth: usize) -> PoppedRef
 
 // n values.
 pub fn pop_values(stack: &[u32; MAX_OPERANDS], depth: usize, n: u16) -> Rest
-    ensures { λ r. ⌜ (length (now (stack .entry)) ≡ 16 → restIn (now (stack .entry)) r ≡ popRest n (stackIn (now (stack .entry)) depth)) × Keeps (r .refusal) depth (r .depth) ⌝ }
+    ensures { λ r. ⌜ (length (now (stack .entry)) ≡ maxOperands → restIn (now (stack .entry)) r ≡ popRest n (stackIn (now (stack .entry)) depth)) × Keeps (r .refusal) depth (r .depth) ⌝ }
 {
     let mut k = lesser(depth, MAX_OPERANDS);
     let mut left = n;
@@ -112,7 +113,7 @@ pub fn pop_values(stack: &[u32; MAX_OPERANDS], depth: usize, n: u16) -> Rest
 
 // n values, and what lies under them.
 pub fn pop_under(stack: &[u32; MAX_OPERANDS], depth: usize, n: u16) -> Popped
-    ensures { λ r. ⌜ (length (now (stack .entry)) ≡ 16 → poppedIn (now (stack .entry)) r ≡ popUnder n (stackIn (now (stack .entry)) depth)) × Keeps (r .refusal) depth (r .depth) ⌝ }
+    ensures { λ r. ⌜ (length (now (stack .entry)) ≡ maxOperands → poppedIn (now (stack .entry)) r ≡ popUnder n (stackIn (now (stack .entry)) depth)) × Keeps (r .refusal) depth (r .depth) ⌝ }
 {
     let p = pop_values(stack, depth, n);
     if p.refusal != 0 {
@@ -135,7 +136,7 @@ pub fn pop_under(stack: &[u32; MAX_OPERANDS], depth: usize, n: u16) -> Popped
 
 // n operands of any kind, in the order of their pushes.
 pub fn pop_many(stack: &[u32; MAX_OPERANDS], depth: usize, n: u8) -> PoppedMany
-    ensures { λ r. ⌜ (length (now (stack .entry)) ≡ 16 → poppedManyIn (now (stack .entry)) r ≡ popSome n (stackIn (now (stack .entry)) depth)) × Keeps (r .refusal) depth (r .depth) ⌝ }
+    ensures { λ r. ⌜ (length (now (stack .entry)) ≡ maxOperands → poppedManyIn (now (stack .entry)) r ≡ popSome n (stackIn (now (stack .entry)) depth)) × Keeps (r .refusal) depth (r .depth) ⌝ }
 {
     let top = lesser(depth, MAX_OPERANDS);
     let len = n as usize;

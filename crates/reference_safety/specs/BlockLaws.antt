@@ -191,7 +191,9 @@ module _ {returns k : ℕ} {b : Block} {is js : List Instr} {w : Board} {a : Wor
       ends = λ h. block-stop k (v .words .state .violation) (v .words .state .refusal) (runningOf (v .words)) (stackIn (v .stack) (v .depth)) (λ x. runFrom returns b (k + 1) is x) o (settled h) (b .successors) z;
     }
 
-pub finishes : {returns k : ℕ} {b : Block} {w : Board} {a : Words} {o : Result State} {c : Words} {p : ℕ} (n : ℕ) (is : List Instr) → n ≡ 0 → ((ws : List ℕ) → length ws ≡ 16 → Ends b (w .words) c p (finish b (runningOf (w .words)) (stackIn ws (w .depth)))) → Going returns b (take n is) k w a o → Ends b a c p o
+pub finishes : {returns k : ℕ} {b : Block} {w : Board} {a : Words} {o : Result State} {c : Words} {p : ℕ} (n : ℕ) (is : List Instr)
+    → n ≡ 0 → ((ws : List ℕ) → length ws ≡ 16 → Ends b (w .words) c p (finish b (runningOf (w .words)) (stackIn ws (w .depth))))
+    → Going returns b (take n is) k w a o → Ends b a c p o
 finishes {returns} {k} {b} {w} {o = o} n is z e g = record {
   fits = λ h. e (w .stack) (g .ready h .stack) .fits (g .ready h .fits);
   ends = λ h. e (w .stack) (g .ready h .stack) .ends (g .ready h .fits) ∙ block-end returns b k n is (with (stackIn (w .stack) (w .depth)) (runningOf (w .words))) o z (g .runs h);

@@ -91,7 +91,9 @@ module _ {a b : Words} {w : Board} (ws : List ℕ) (d : ℕ) where
 
     pub under-runs : (n : ℕ) → (length ws ≡ 16 → poppedIn ws p ≡ popUnder n (stackIn ws d)) → Does (λ s. halted 0 (p .refusal) s) a b → Runs (F (operandOf (p .value)) (stackIn ws (p .depth))) b ws w
         → Runs (λ s. popValues n (stackIn ws d) (λ us. pop us (λ v ts. F v ts s))) a ws w
-    under-runs n = heeded a b ws w (p .refusal) (record { what = operandOf (p .value); rest = stackIn ws (p .depth) }) (popUnder n (stackIn ws d)) (λ s t. F (t .what) (t .rest) s) (λ s. popValues n (stackIn ws d) (λ us. pop us (λ v ts. F v ts s))) (λ s. under-then n (stackIn ws d) (λ v ts. F v ts s))
+    under-runs n = heeded a b ws w (p .refusal) (record { what = operandOf (p .value); rest = stackIn ws (p .depth) })
+        (popUnder n (stackIn ws d)) (λ s t. F (t .what) (t .rest) s)
+        (λ s. popValues n (stackIn ws d) (λ us. pop us (λ v ts. F v ts s))) (λ s. under-then n (stackIn ws d) (λ v ts. F v ts s))
 
   pub ref-runs : (p : PoppedRef) (F : ℕ → List Operand → Running → Outcome Machine) → (length ws ≡ 16 → poppedRefIn ws p ≡ popOneRef (stackIn ws d)) → Does (λ s. halted 0 (p .refusal) s) a b → Runs (F (p .id .0) (stackIn ws (p .depth))) b ws w
       → Runs (λ s. popRef (stackIn ws d) (λ n us. F n us s)) a ws w

@@ -1,7 +1,24 @@
 // One instruction, and one block from its kept state to the state that its successors get.
 // execute: execute_inner, mod.rs:136. run_block: execute_block, absint.rs:161. finish: the end of execute, mod.rs:405.
 use crate::machine::Machine;
-use crate::steps;
+use crate::steps::borrow_element;
+use crate::steps::borrow_field;
+use crate::steps::borrow_global;
+use crate::steps::borrow_loc;
+use crate::steps::call;
+use crate::steps::compare;
+use crate::steps::copy_loc;
+use crate::steps::freeze_ref;
+use crate::steps::move_from;
+use crate::steps::move_loc;
+use crate::steps::move_to;
+use crate::steps::pop_top;
+use crate::steps::read_ref;
+use crate::steps::ret;
+use crate::steps::st_loc;
+use crate::steps::values;
+use crate::steps::vector_op;
+use crate::steps::write_ref;
 use abstract_state::core::refuse;
 use abstract_state::state::AbstractState;
 use abstract_state::state::LOCALS;
@@ -12,6 +29,7 @@ use listing::Routine;
 use listing::decode::Decoded;
 use listing::decode::Instruction;
 use listing::decode::decode;
+use meaning::EDGE_WORDS;
 use meaning::MAX_EDGES;
 use meaning::MAX_INSTRUCTIONS;
 use meaning::MAX_NAMES;
@@ -23,7 +41,7 @@ ghost use mathlib.Core.List.{List};
 ghost use Prim.Native.Nat.{ℕ, suc, _+_, _-_, min};
 ghost use lib.Dec.{eqb};
 ghost use lib.ListN.{length};
-ghost use Rattle.meaning.specs.Limits.{maxInstructions};
+ghost use Rattle.meaning.specs.Limits.{maxInstructions, maxOperands};
 ghost use Rattle.meaning.specs.Steps.{step};
 ghost use Rattle.meaning.specs.Blocks as Q;
 ghost use Rattle.listing.specs.Models.{decodedOf, blockOf, routineOf};
@@ -41,7 +59,7 @@ pub struct Ran {
 pub fn execute(
     locals: &mut [u32; LOCALS],
     names: &mut [u32; MAX_NAMES],
-    edges: &mut [[u32; 10]; MAX_EDGES],
+    edges: &mut [[u32; EDGE_WORDS]; MAX_EDGES],
     stack: &mut [u32; MAX_OPERANDS],
     m: Machine,
     d: Decoded,
@@ -51,48 +69,28 @@ pub fn execute(
 {
     let i = d.instruction;
     match i {
-        Instruction::Pop => steps::pop_top(names, edges, stack, m),
-        Instruction::CopyLoc(local) => steps::copy_loc(locals, names, edges, stack, m, local),
-        Instruction::MoveLoc(local) => steps::move_loc(locals, names, edges, stack, m, local),
-        Instruction::StLoc(local) => steps::st_loc(locals, names, edges, stack, m, local),
-        Instruction::FreezeRef => steps::freeze_ref(names, edges, stack, m),
-        Instruction::Compare => steps::compare(names, edges, stack, m),
-        Instruction::ReadRef => steps::read_ref(names, edges, stack, m),
-        Instruction::WriteRef => steps::write_ref(names, edges, stack, m),
+        Instruction::Pop => pop_top(names, edges, stack, m),
+        Instruction::CopyLoc(local) => copy_loc(locals, names, edges, stack, m, local),
+        Instruction::MoveLoc(local) => move_loc(locals, names, edges, stack, m, local),
+        Instruction::StLoc(local) => st_loc(locals, names, edges, stack, m, local),
+        Instruction::FreezeRef => freeze_ref(names, edges, stack, m),
+        Instruction::Compare => compare(names, edges, stack, m),
+        Instruction::ReadRef => read_ref(names, edges, stack, m),
+        Instruction::WriteRef => write_ref(names, edges, stack, m),
         Instruction::BorrowLoc(local, mutable) => {
-            steps::borrow_loc(names, edges, stack, m, local, mutable)
+            borrow_loc(names, edges, stack, m, local, mutable)
         }
-        Instruction::BorrowField(n, mutable) => {
-            steps::borrow_field(names, edges, stack, m, n, mutable)
-        }
-        Instruction::BorrowGlobal(n, mutable) => {
-            steps::borrow_global(names, edges, stack, m, n, mutable)
-        }
-        Instruction::MoveFrom(n) => steps::move_from(names, edges, stack, m, n),
-        Instruction::Call(n) => {
-            let acquired = d.acquired;
-            let tokens = d.tokens;
-            steps::call(
-                names,
-                edges,
-                stack,
-                m,
-                n,
-                acquired,
-                d.acquired_count,
-                tokens,
-                d.token_count,
-            )
-        }
-        Instruction::Ret => steps::ret(locals, names, edges, stack, m, returns),
-        Instruction::Values(n, k, token) => steps::values(names, stack, m, n, k, token),
-        Instruction::MoveTo => steps::move_to(names, edges, stack, m),
+        Instruction::BorrowField(n, mutable) => borrow_field(names, edges, stack, m, n, mutable),
+        Instruction::BorrowGlobal(n, mutable) => borrow_global(names, edges, stack, m, n, mutable),
+        Instruction::MoveFrom(n) => move_from(names, edges, stack, m, n),
+        Instruction::Call(n) => call(names, edges, stack, m, n, d),
+        Instruction::Ret => ret(locals, names, edges, stack, m, returns),
+        Instruction::Values(n, k, token) => values(names, stack, m, n, k, token),
+        Instruction::MoveTo => move_to(names, edges, stack, m),
         Instruction::VectorOp(n, mutable, k, token) => {
-            steps::vector_op(names, edges, stack, m, n, mutable, k, token)
+            vector_op(names, edges, stack, m, n, mutable, k, token)
         }
-        Instruction::BorrowElement(mutable) => {
-            steps::borrow_element(names, edges, stack, m, mutable)
-        }
+        Instruction::BorrowElement(mutable) => borrow_element(names, edges, stack, m, mutable),
     }
 }
 
@@ -132,11 +130,11 @@ fn finish(
     b: Block,
     locals: &mut [u32; LOCALS],
     names: &mut [u32; MAX_NAMES],
-    edges: &mut [[u32; 10]; MAX_EDGES],
+    edges: &mut [[u32; EDGE_WORDS]; MAX_EDGES],
     m: Machine,
 ) -> Ran
     requires { ⌜ (eqb (m .state .violation) 0 && eqb (m .state .refusal) 0) ≡ true ⌝ }
-    ensures { λ r. ⌜ ((ws : List ℕ) → length ws ≡ 16 → Ends (blockOf b) (words (now (locals .entry)) (now (names .entry)) (now (edges .entry)) (m .state)) (words (now (locals .exit)) (now (names .exit)) (now (edges .exit)) (r .state)) (r .place .0) (Q.finish (blockOf b) (runningOf (words (now (locals .entry)) (now (names .entry)) (now (edges .entry)) (m .state))) (stackIn ws (m .depth)))) ⌝ }
+    ensures { λ r. ⌜ ((ws : List ℕ) → length ws ≡ maxOperands → Ends (blockOf b) (words (now (locals .entry)) (now (names .entry)) (now (edges .entry)) (m .state)) (words (now (locals .exit)) (now (names .exit)) (now (edges .exit)) (r .state)) (r .place .0) (Q.finish (blockOf b) (runningOf (words (now (locals .entry)) (now (names .entry)) (now (edges .entry)) (m .state))) (stackIn ws (m .depth)))) ⌝ }
 {
     let state = m.state;
     let place = b.exit;
@@ -163,7 +161,7 @@ pub fn run_block(
     b: Block,
     locals: &mut [u32; LOCALS],
     names: &mut [u32; MAX_NAMES],
-    edges: &mut [[u32; 10]; MAX_EDGES],
+    edges: &mut [[u32; EDGE_WORDS]; MAX_EDGES],
     state: AbstractState,
 ) -> Ran
     ensures { λ r. ⌜ Ends (blockOf b) (words (now (locals .entry)) (now (names .entry)) (now (edges .entry)) state) (words (now (locals .exit)) (now (names .exit)) (now (edges .exit)) (r .state)) (r .place .0) (Q.runBlock (routineOf (now (listing .entry)) (now (code .entry)) routine) (blockOf b) (stateIn (routine .locals) (words (now (locals .entry)) (now (names .entry)) (now (edges .entry)) state))) ⌝ }

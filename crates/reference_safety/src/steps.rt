@@ -14,6 +14,8 @@ use abstract_state::core::refuse;
 use abstract_state::state::LOCALS;
 use file_format::LocalIndex;
 use file_format::SignatureToken;
+use listing::decode::Decoded;
+use meaning::EDGE_WORDS;
 use meaning::MAX_EDGES;
 use meaning::MAX_NAMES;
 use meaning::MAX_OPERANDS;
@@ -34,7 +36,7 @@ ghost use Rattle.reference_safety.specs.Models.{board, Runs};
 
 pub(crate) fn pop_top(
     names: &mut [u32; MAX_NAMES],
-    edges: &mut [[u32; 10]; MAX_EDGES],
+    edges: &mut [[u32; EDGE_WORDS]; MAX_EDGES],
     stack: &[u32; MAX_OPERANDS],
     m: Machine,
 ) -> Machine
@@ -54,7 +56,7 @@ pub(crate) fn pop_top(
 pub(crate) fn copy_loc(
     locals: &[u32; LOCALS],
     names: &mut [u32; MAX_NAMES],
-    edges: &mut [[u32; 10]; MAX_EDGES],
+    edges: &mut [[u32; EDGE_WORDS]; MAX_EDGES],
     stack: &mut [u32; MAX_OPERANDS],
     m: Machine,
     local: LocalIndex,
@@ -75,7 +77,7 @@ pub(crate) fn copy_loc(
 pub(crate) fn move_loc(
     locals: &mut [u32; LOCALS],
     names: &[u32; MAX_NAMES],
-    edges: &[[u32; 10]; MAX_EDGES],
+    edges: &[[u32; EDGE_WORDS]; MAX_EDGES],
     stack: &mut [u32; MAX_OPERANDS],
     m: Machine,
     local: LocalIndex,
@@ -96,7 +98,7 @@ pub(crate) fn move_loc(
 pub(crate) fn st_loc(
     locals: &mut [u32; LOCALS],
     names: &mut [u32; MAX_NAMES],
-    edges: &mut [[u32; 10]; MAX_EDGES],
+    edges: &mut [[u32; EDGE_WORDS]; MAX_EDGES],
     stack: &[u32; MAX_OPERANDS],
     m: Machine,
     local: LocalIndex,
@@ -116,7 +118,7 @@ pub(crate) fn st_loc(
 
 pub(crate) fn freeze_ref(
     names: &mut [u32; MAX_NAMES],
-    edges: &mut [[u32; 10]; MAX_EDGES],
+    edges: &mut [[u32; EDGE_WORDS]; MAX_EDGES],
     stack: &mut [u32; MAX_OPERANDS],
     m: Machine,
 ) -> Machine
@@ -138,7 +140,7 @@ pub(crate) fn freeze_ref(
 
 pub(crate) fn compare(
     names: &mut [u32; MAX_NAMES],
-    edges: &mut [[u32; 10]; MAX_EDGES],
+    edges: &mut [[u32; EDGE_WORDS]; MAX_EDGES],
     stack: &mut [u32; MAX_OPERANDS],
     m: Machine,
 ) -> Machine
@@ -163,7 +165,7 @@ pub(crate) fn compare(
 
 pub(crate) fn read_ref(
     names: &mut [u32; MAX_NAMES],
-    edges: &mut [[u32; 10]; MAX_EDGES],
+    edges: &mut [[u32; EDGE_WORDS]; MAX_EDGES],
     stack: &mut [u32; MAX_OPERANDS],
     m: Machine,
 ) -> Machine
@@ -185,7 +187,7 @@ pub(crate) fn read_ref(
 
 pub(crate) fn write_ref(
     names: &mut [u32; MAX_NAMES],
-    edges: &mut [[u32; 10]; MAX_EDGES],
+    edges: &mut [[u32; EDGE_WORDS]; MAX_EDGES],
     stack: &[u32; MAX_OPERANDS],
     m: Machine,
 ) -> Machine
@@ -206,7 +208,7 @@ pub(crate) fn write_ref(
 
 pub(crate) fn borrow_loc(
     names: &mut [u32; MAX_NAMES],
-    edges: &mut [[u32; 10]; MAX_EDGES],
+    edges: &mut [[u32; EDGE_WORDS]; MAX_EDGES],
     stack: &mut [u32; MAX_OPERANDS],
     m: Machine,
     local: LocalIndex,
@@ -227,7 +229,7 @@ pub(crate) fn borrow_loc(
 
 pub(crate) fn borrow_field(
     names: &mut [u32; MAX_NAMES],
-    edges: &mut [[u32; 10]; MAX_EDGES],
+    edges: &mut [[u32; EDGE_WORDS]; MAX_EDGES],
     stack: &mut [u32; MAX_OPERANDS],
     m: Machine,
     field: u16,
@@ -251,7 +253,7 @@ pub(crate) fn borrow_field(
 
 pub(crate) fn borrow_global(
     names: &mut [u32; MAX_NAMES],
-    edges: &mut [[u32; 10]; MAX_EDGES],
+    edges: &mut [[u32; EDGE_WORDS]; MAX_EDGES],
     stack: &mut [u32; MAX_OPERANDS],
     m: Machine,
     resource: u16,
@@ -274,7 +276,7 @@ pub(crate) fn borrow_global(
 
 pub(crate) fn move_from(
     names: &[u32; MAX_NAMES],
-    edges: &[[u32; 10]; MAX_EDGES],
+    edges: &[[u32; EDGE_WORDS]; MAX_EDGES],
     stack: &mut [u32; MAX_OPERANDS],
     m: Machine,
     resource: u16,
@@ -296,30 +298,29 @@ pub(crate) fn move_from(
 
 pub(crate) fn call(
     names: &mut [u32; MAX_NAMES],
-    edges: &mut [[u32; 10]; MAX_EDGES],
+    edges: &mut [[u32; EDGE_WORDS]; MAX_EDGES],
     stack: &mut [u32; MAX_OPERANDS],
     m: Machine,
     parameters: u8,
-    acquired: [u16; 16],
-    acquired_count: usize,
-    tokens: [u8; 16],
-    token_count: usize,
+    d: Decoded,
 ) -> Machine
-    ensures { λ r. ⌜ ((ls : List ℕ) → Runs (stepOn 0 (Instr.Call parameters (take «acquired_count» acquired) (map tokenAs (take «token_count» tokens))) (stackIn (now (stack .entry)) (m .depth))) (words ls (now (names .entry)) (now (edges .entry)) (m .state)) (now (stack .entry)) (board ls (now (names .exit)) (now (edges .exit)) (now (stack .exit)) r)) ⌝ }
+    ensures { λ r. ⌜ ((ls : List ℕ) → Runs (stepOn 0 (Instr.Call parameters (take (d .«acquired_count») (d .acquired)) (map tokenAs (take (d .«token_count») (d .tokens)))) (stackIn (now (stack .entry)) (m .depth))) (words ls (now (names .entry)) (now (edges .entry)) (m .state)) (now (stack .entry)) (board ls (now (names .exit)) (now (edges .exit)) (now (stack .exit)) r)) ⌝ }
 {
     let state = m.state;
     let p = pop_many(stack, m.depth, parameters);
     let s = refuse(state, p.refusal);
     let arguments = p.values;
+    let acquired = d.acquired;
+    let tokens = d.tokens;
     let a = abstract_state_calls::call(
         names,
         edges,
         s,
         arguments,
         acquired,
-        acquired_count,
+        d.acquired_count,
         tokens,
-        token_count,
+        d.token_count,
     );
     let t = a.state;
     let values = a.values;
@@ -336,7 +337,7 @@ pub(crate) fn call(
 pub(crate) fn ret(
     locals: &[u32; LOCALS],
     names: &mut [u32; MAX_NAMES],
-    edges: &mut [[u32; 10]; MAX_EDGES],
+    edges: &mut [[u32; EDGE_WORDS]; MAX_EDGES],
     stack: &[u32; MAX_OPERANDS],
     m: Machine,
     returns: u8,
@@ -381,7 +382,7 @@ pub(crate) fn values(
 
 pub(crate) fn move_to(
     names: &mut [u32; MAX_NAMES],
-    edges: &mut [[u32; 10]; MAX_EDGES],
+    edges: &mut [[u32; EDGE_WORDS]; MAX_EDGES],
     stack: &[u32; MAX_OPERANDS],
     m: Machine,
 ) -> Machine
@@ -400,7 +401,7 @@ pub(crate) fn move_to(
 
 pub(crate) fn vector_op(
     names: &mut [u32; MAX_NAMES],
-    edges: &mut [[u32; 10]; MAX_EDGES],
+    edges: &mut [[u32; EDGE_WORDS]; MAX_EDGES],
     stack: &mut [u32; MAX_OPERANDS],
     m: Machine,
     takes: u8,
@@ -429,7 +430,7 @@ pub(crate) fn vector_op(
 
 pub(crate) fn borrow_element(
     names: &mut [u32; MAX_NAMES],
-    edges: &mut [[u32; 10]; MAX_EDGES],
+    edges: &mut [[u32; EDGE_WORDS]; MAX_EDGES],
     stack: &mut [u32; MAX_OPERANDS],
     m: Machine,
     mutable: bool,

@@ -1,20 +1,20 @@
 -- The models read and written one element at a time.
-use mathlib.Core.Path.{_≡_, refl, sym, ap, _∙_, subst}
-use mathlib.Core.Bool.{Bool, true, false, cond, _||_}
-use mathlib.Core.List.{List, [], _∷_, _++_, map, append-nil}
-use Prim.Native.Nat.{ℕ, suc, _+_, _≤_, _<_, min}
+use mathlib.Core.Path.{_≡_, refl, sym, ap, _∙_}
+use mathlib.Core.Bool.{Bool, true, false, cond}
+use mathlib.Core.List.{List, [], _∷_, _++_, map}
+use Prim.Native.Nat.{ℕ, _+_, _≤_, _<_, min}
 use native.Mathlib.Nat.{not-suc-le-zero}
 use native.Mathlib.Omega.{arith}
 use borrow.Author.Tests.{eq-eqb, ne-eqb}
 use lib.Dec.{eqb}
 use lib.ListN.{length, take, drop, getD, set, replicate, drop-of-length-le, length-map, length-take}
-use Rattle.meaning.specs.Lists.{any, upTo}
+use Rattle.meaning.specs.Lists.{upTo}
 use Rattle.meaning.specs.Answers.{Ans, ok, refuse, andThen, leaves}
 use Rattle.meaning.specs.References.{Edge, blur}
 use Rattle.meaning.specs.BorrowGraph.{Name, GEdge}
 use Rattle.meaning.specs.Area.{nameIn}
 use Rattle.meaning.specs.Refinement.Pairs.{or21}
-use Rattle.meaning.specs.Laws.Array.{front-map-step, front-take, front-all, push-map, shift-on, fill-in, drop-set}
+use Rattle.meaning.specs.Laws.Array.{front-map-step, front-take, front-all, push-map, drop-set}
 use Rattle.references.specs.Models.{rowOf, edgesIn, namesIn, setEdges, setIn, told}
 
 -- ---- names: the first n words of an array
@@ -59,11 +59,6 @@ module _ (ws : List ℕ) (w : ℕ) where
   pub names-push : (j j′ : ℕ) (ys : List Name) → j′ ≡ j + 1 → j < length ws → namesIn (set ws j w) j′ ++ ys ≡ namesIn ws j ++ nameIn w ∷ ys
   unfolding namesIn
   names-push j j′ ys e h = push-map nameIn ws j j′ w ys e h
-
-  pub names-fill : (k m : ℕ) → k < length ws → k < m
-      → namesIn (set ws k w) m ≡ take k (map nameIn (take k ws ++ drop (suc k) (take m ws))) ++ (nameIn w ∷ drop k (map nameIn (take k ws ++ drop (suc k) (take m ws))))
-  unfolding namesIn
-  names-fill k m h l = fill-in nameIn ws k m w h l
 
   pub names-past : (j k n : ℕ) → j < k → drop k (namesIn (set ws j w) n) ≡ drop k (namesIn ws n)
   unfolding namesIn
@@ -112,11 +107,6 @@ module _ (rows : List (List ℕ)) (r : List ℕ) where
   unfolding edgesIn
   edges-push j j′ ys e h = push-map rowOf rows j j′ r ys e h
 
-  pub edges-fill : (k m : ℕ) → k < length rows → k < m
-      → edgesIn (set rows k r) m ≡ take k (map rowOf (take k rows ++ drop (suc k) (take m rows))) ++ (rowOf r ∷ drop k (map rowOf (take k rows ++ drop (suc k) (take m rows))))
-  unfolding edgesIn
-  edges-fill k m h l = fill-in rowOf rows k m r h l
-
   pub edges-past : (j k m : ℕ) → j < k → drop k (edgesIn (set rows j r) m) ≡ drop k (edgesIn rows m)
   unfolding edgesIn
   edges-past j k m h = drop-set rowOf rows j k m r h
@@ -155,27 +145,9 @@ module _ (rows : List (List ℕ)) (r : List ℕ) where
   unfolding setEdges
   set-push j j′ ys e h = push-map edgeIn rows j j′ r ys e h
 
-  pub set-fill : (k m : ℕ) → k < length rows → k < m
-      → setEdges (set rows k r) m ≡ take k (map edgeIn (take k rows ++ drop (suc k) (take m rows))) ++ (edgeIn r ∷ drop k (map edgeIn (take k rows ++ drop (suc k) (take m rows))))
-  unfolding setEdges
-  set-fill k m h l = fill-in edgeIn rows k m r h l
-
   pub set-past : (j k n : ℕ) → j < k → drop k (setEdges (set rows j r) n) ≡ drop k (setEdges rows n)
   unfolding setEdges
   set-past j k n h = drop-set edgeIn rows j k n r h
-
--- the first n rows with a free place j, which moves down from n; a set of at most ten rows reads a greater count as ten
-pub room-start : (rows : List (List ℕ)) (n : ℕ) → n ≤ length rows → map edgeIn (take n rows ++ drop (suc n) (take (n + 1) rows)) ≡ setEdges rows n
-unfolding setEdges
-room-start rows n h =
-    let a : drop (suc n) (take (n + 1) rows) ≡ [] = drop-of-length-le (take (n + 1) rows) {i = suc n} (simp length-take (omega arith)) in
-    ap (λ (r : List (List ℕ)). map edgeIn (take n rows ++ r)) a ∙ ap (map edgeIn) (append-nil (take n rows))
-
-pub room-on : (rows : List (List ℕ)) (d : List ℕ) (k j m : ℕ) → j ≡ suc k → j < length rows → j < m
-    → map edgeIn (take k (set rows j (getD rows k d)) ++ drop (suc k) (take m (set rows j (getD rows k d)))) ≡ map edgeIn (take j rows ++ drop (suc j) (take m rows))
-room-on rows d k j m e h n =
-    ap (map edgeIn) (subst (λ (i : ℕ). take k (set rows i (getD rows k d)) ++ drop (suc k) (take m (set rows i (getD rows k d))) ≡ take i rows ++ drop (suc i) (take m rows)) (sym e)
-    (shift-on rows d k m (subst (λ (i : ℕ). i < length rows) e h) (subst (λ (i : ℕ). i < m) e n)))
 
 -- a row of zeros is the weakest edge: what too many edges become
 pub set-blurred : (rows : List (List ℕ)) → 0 < length rows → setIn (set rows 0 (replicate 10 0)) (record { len = 1; overflown = true }) ≡ blur
@@ -188,21 +160,6 @@ unfolding setEdges
 set-cut rows n e =
     let m : min n 10 ≡ length (take n rows) = simp length-take (omega arith) in
     ap (λ (i : ℕ). map edgeIn (take i rows)) m ∙ ap (map edgeIn) (front-all n rows)
-
--- A search for an edge of a set that passes a test: the edges from i on decide as the whole set does. The test of the edge at i gave b.
-module _ (f : Edge → Bool) (rows : List (List ℕ)) (n i : ℕ) (inv : any f (drop i (setEdges rows n)) ≡ any f (setEdges rows n)) where
-  module _ (h : i < length (setEdges rows n)) (d : List ℕ) (b : Bool) (e : b ≡ f (edgeIn (getD rows i d))) where
-    turn : (b || any f (drop (i + 1) (setEdges rows n))) ≡ any f (setEdges rows n)
-    turn = ap (λ (t : Bool). t || any f (drop (i + 1) (setEdges rows n))) e ∙ sym (ap (any f) (set-step rows n d i h)) ∙ inv
-
-    pub search-hit : b ≡ true → true ≡ any f (setEdges rows n)
-    search-hit t = sym (ap (λ (t : Bool). t || any f (drop (i + 1) (setEdges rows n))) t) ∙ turn
-
-    pub search-on : b ≡ false → any f (drop (i + 1) (setEdges rows n)) ≡ any f (setEdges rows n)
-    search-on t = sym (ap (λ (t : Bool). t || any f (drop (i + 1) (setEdges rows n))) t) ∙ turn
-
-  pub search-over : length (setEdges rows n) ≤ i → false ≡ any f (setEdges rows n)
-  search-over h = sym (ap (any f) (set-end rows n i h)) ∙ inv
 
 -- ---- an answer as a number and a value
 

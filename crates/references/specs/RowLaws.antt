@@ -1,6 +1,6 @@
 -- A row's words: labels read and written one at a time, and what they say together.
-use mathlib.Core.Path.{_≡_, refl, sym, ap, _∙_, subst}
-use mathlib.Core.Bool.{Bool, true, false, false≢true, not, cond, _||_, _&&_}
+use mathlib.Core.Path.{_≡_, refl, sym, ap, _∙_}
+use mathlib.Core.Bool.{Bool, true, false, false≢true, not, _||_, _&&_}
 use mathlib.Core.List.{List, [], _∷_, _++_, append-assoc}
 use Prim.Native.Nat.{ℕ, zero, suc, _+_, _*_, _/_, _%_, _-_, _≤_, _<_, min}
 use native.Mathlib.Omega.{arith}
@@ -10,11 +10,10 @@ use lib.Dec.{eqb, ltb}
 use lib.ListN.{length, drop, getD, set, length-set, drop-of-length-le}
 use lib.Seq.{getD-set-same, getD-set-other, drop-cons}
 use Rattle.meaning.specs.Lists.{upTo}
-use Rattle.meaning.specs.References.{Edge, Cmp, less, equal, greater, orderBy, prefix, comparePaths, compareEdges}
-use Rattle.meaning.specs.BorrowGraph.{GEdge, side, ltPair, eqPair, meetsLabel}
+use Rattle.meaning.specs.References.{Edge, Cmp, less, equal, greater, prefix, comparePaths, compareEdges, fitting}
+use Rattle.meaning.specs.BorrowGraph.{GEdge, side, meetsLabel}
 use Rattle.meaning.specs.Answers.{ok, refuse, guard}
-use Rattle.meaning.specs.Refinement.Passes.{fitting}
-use Rattle.meaning.specs.Area.{labelIn, edgeOf}
+use Rattle.meaning.specs.Area.{labelIn}
 use Rattle.meaning.specs.Laws.Area.{upTo-ext, upTo-more, bit}
 use Rattle.meaning.specs.Laws.Base.{decide}
 use Rattle.meaning.specs.Laws.Place.{byStrong, edges-by}

@@ -13,6 +13,7 @@ use crate::words::bit_of;
 use crate::words::ends;
 use crate::words::id_in;
 use crate::words::parent_in;
+use meaning::EDGE_WORDS;
 use meaning::MAX_LABELS;
 use meaning::lesser;
 use paths::Label;
@@ -23,11 +24,10 @@ ghost use Prim.Native.Nat.{_+_, _*_, _-_, _≤_, _<_};
 ghost use lib.ListN.{length, drop, getD};
 ghost use Rattle.meaning.specs.Limits.{maxLabels};
 ghost use Rattle.meaning.specs.Labels.{numberOf};
-ghost use Rattle.meaning.specs.References.{prefix, comparePaths, compareEdges, eqEdge, ltEdge, covers};
+ghost use Rattle.meaning.specs.References.{prefix, comparePaths, compareEdges, eqEdge, ltEdge, covers, fitting};
 ghost use Rattle.meaning.specs.BorrowGraph as G;
 ghost use Rattle.meaning.specs.BorrowGraph.{between, shift, meetsLabel};
-ghost use Rattle.meaning.specs.Refinement.Passes.{fitting};
-ghost use Rattle.meaning.specs.Area.{labelIn};
+ghost use Rattle.meaning.specs.Area.{labelIn, edgeWords};
 ghost use Rattle.meaning.specs.Laws.Area.{bit};
 ghost use Rattle.paths.specs.Models.{labelOf, orderingOf};
 ghost use Rattle.references.specs.Models.{rowOf, pathAt, filterOf, candidateOf};
@@ -49,43 +49,43 @@ pub enum LabelFilter {
 // An edge to put into a set, or (`fits` false) word that its path is longer than eight labels; then the row's labels are free.
 pub struct Candidate {
     pub fits: bool,
-    pub row: [u32; 10],
+    pub row: [u32; EDGE_WORDS],
 }
 
 // ---- a row, read
 
-pub fn parent(x: &[u32; 10]) -> RefID
+pub fn parent(x: &[u32; EDGE_WORDS]) -> RefID
     ensures { λ r. ⌜ r .0 ≡ rowOf (now (x .entry)) .parent ⌝ }
 {
     parent_in(x[0])
 }
 
-pub fn child(x: &[u32; 10]) -> RefID
+pub fn child(x: &[u32; EDGE_WORDS]) -> RefID
     ensures { λ r. ⌜ r .0 ≡ rowOf (now (x .entry)) .child ⌝ }
 {
     id_in(x[0])
 }
 
-pub fn is_blurred(x: &[u32; 10]) -> bool
+pub fn is_blurred(x: &[u32; EDGE_WORDS]) -> bool
     ensures { λ r. ⌜ r ≡ rowOf (now (x .entry)) .blurred ⌝ }
 {
     x[1] / (2 * STRONG) == 1
 }
 
-pub fn is_strong(x: &[u32; 10]) -> bool
+pub fn is_strong(x: &[u32; EDGE_WORDS]) -> bool
     ensures { λ r. ⌜ r ≡ rowOf (now (x .entry)) .edge .strong ⌝ }
 {
     x[1] / STRONG % 2 == 1
 }
 
 // How many labels the path has.
-pub fn labels(x: &[u32; 10]) -> usize
+pub fn labels(x: &[u32; EDGE_WORDS]) -> usize
     ensures { λ r. ⌜ (r ≡ length (rowOf (now (x .entry)) .edge .path)) × (r ≤ maxLabels) ⌝ }
 {
     lesser((x[1] % STRONG) as usize, MAX_LABELS)
 }
 
-fn label(x: &[u32; 10], i: usize) -> u32
+fn label(x: &[u32; EDGE_WORDS], i: usize) -> u32
     requires { ⌜ i < maxLabels ⌝ }
     ensures { λ r. ⌜ r ≡ labelIn (getD (now (x .entry)) (2 + i) 0) ⌝ }
 {
@@ -93,7 +93,7 @@ fn label(x: &[u32; 10], i: usize) -> u32
 }
 
 // How the edge's pair stands to this one: the ends' words stand in the order of the pairs.
-pub fn side(x: &[u32; 10], parent: RefID, child: RefID) -> Ordering
+pub fn side(x: &[u32; EDGE_WORDS], parent: RefID, child: RefID) -> Ordering
     ensures { λ r. ⌜ orderingOf r ≡ G.side (parent .0) (child .0) (rowOf (now (x .entry))) ⌝ }
 {
     let e = ends(parent, child);
@@ -109,7 +109,7 @@ pub fn side(x: &[u32; 10], parent: RefID, child: RefID) -> Ordering
 
 // ---- the orders
 
-fn cmp_paths(x: &[u32; 10], y: &[u32; 10]) -> Ordering
+fn cmp_paths(x: &[u32; EDGE_WORDS], y: &[u32; EDGE_WORDS]) -> Ordering
     ensures { λ r. ⌜ orderingOf r ≡ comparePaths (rowOf (now (x .entry)) .edge .path) (rowOf (now (y .entry)) .edge .path) ⌝ }
 {
     let n = labels(x);
@@ -137,7 +137,7 @@ fn cmp_paths(x: &[u32; 10], y: &[u32; 10]) -> Ordering
 }
 
 // Weak before strong, then by the path.
-pub fn cmp(x: &[u32; 10], y: &[u32; 10]) -> Ordering
+pub fn cmp(x: &[u32; EDGE_WORDS], y: &[u32; EDGE_WORDS]) -> Ordering
     ensures { λ r. ⌜ orderingOf r ≡ compareEdges (rowOf (now (x .entry)) .edge) (rowOf (now (y .entry)) .edge) ⌝ }
 {
     let s = is_strong(x);
@@ -151,7 +151,7 @@ pub fn cmp(x: &[u32; 10], y: &[u32; 10]) -> Ordering
     cmp_paths(x, y)
 }
 
-pub(crate) fn eq(x: &[u32; 10], y: &[u32; 10]) -> bool
+pub(crate) fn eq(x: &[u32; EDGE_WORDS], y: &[u32; EDGE_WORDS]) -> bool
     ensures { λ r. ⌜ r ≡ eqEdge (rowOf (now (x .entry)) .edge) (rowOf (now (y .entry)) .edge) ⌝ }
 {
     let o = cmp(x, y);
@@ -162,7 +162,7 @@ pub(crate) fn eq(x: &[u32; 10], y: &[u32; 10]) -> bool
     }
 }
 
-pub fn lt(x: &[u32; 10], y: &[u32; 10]) -> bool
+pub fn lt(x: &[u32; EDGE_WORDS], y: &[u32; EDGE_WORDS]) -> bool
     ensures { λ r. ⌜ r ≡ ltEdge (rowOf (now (x .entry)) .edge) (rowOf (now (y .entry)) .edge) ⌝ }
 {
     let o = cmp(x, y);
@@ -174,7 +174,7 @@ pub fn lt(x: &[u32; 10], y: &[u32; 10]) -> bool
 }
 
 // Whether the first path is a prefix of the second.
-fn leq_paths(x: &[u32; 10], y: &[u32; 10]) -> bool
+fn leq_paths(x: &[u32; EDGE_WORDS], y: &[u32; EDGE_WORDS]) -> bool
     ensures { λ r. ⌜ r ≡ prefix (rowOf (now (x .entry)) .edge .path) (rowOf (now (y .entry)) .edge .path) ⌝ }
 {
     let n = labels(x);
@@ -195,7 +195,7 @@ fn leq_paths(x: &[u32; 10], y: &[u32; 10]) -> bool
 }
 
 // Whether the first edge covers the second.
-pub fn leq(x: &[u32; 10], y: &[u32; 10]) -> bool
+pub fn leq(x: &[u32; EDGE_WORDS], y: &[u32; EDGE_WORDS]) -> bool
     ensures { λ r. ⌜ r ≡ covers (rowOf (now (x .entry)) .edge) (rowOf (now (y .entry)) .edge) ⌝ }
 {
     let same = eq(x, y);
@@ -237,7 +237,7 @@ fn number_of(path: LabelFilter) -> u32
 }
 
 // Whether the path is empty or its first label the filter's.
-pub fn meets(x: &[u32; 10], at: LabelFilter) -> bool
+pub fn meets(x: &[u32; EDGE_WORDS], at: LabelFilter) -> bool
     ensures { λ r. ⌜ r ≡ meetsLabel (filterOf at) (rowOf (now (x .entry)) .edge .path) ⌝ }
 {
     let k = len_of(at);
@@ -247,7 +247,7 @@ pub fn meets(x: &[u32; 10], at: LabelFilter) -> bool
 }
 
 // Whether the path starts with this one.
-pub fn starts_with(x: &[u32; 10], path: LabelFilter) -> bool
+pub fn starts_with(x: &[u32; EDGE_WORDS], path: LabelFilter) -> bool
     ensures { λ r. ⌜ r ≡ prefix (pathAt path) (rowOf (now (x .entry)) .edge .path) ⌝ }
 {
     let k = len_of(path);
@@ -266,10 +266,10 @@ fn marks(blurred: bool, strong: bool, labels: usize) -> u32
 }
 
 // An edge that is not blurred.
-pub fn edge(parent: RefID, strong: bool, path: LabelFilter, child: RefID) -> [u32; 10]
+pub fn edge(parent: RefID, strong: bool, path: LabelFilter, child: RefID) -> [u32; EDGE_WORDS]
     ensures { λ r. ⌜ rowOf r ≡ between (parent .0) (record { strong = strong; path = pathAt path }) (child .0) ⌝ }
 {
-    let mut out = [0u32; 10];
+    let mut out = [0u32; EDGE_WORDS];
     out[0] = ends(parent, child);
     out[1] = marks(false, strong, len_of(path));
     out[LABELS] = number_of(path);
@@ -277,9 +277,15 @@ pub fn edge(parent: RefID, strong: bool, path: LabelFilter, child: RefID) -> [u3
 }
 
 // The labels of x from `start` on, put into `out` from `at` on.
-fn copy_labels(out: [u32; 10], at: usize, x: &[u32; 10], start: usize, n: usize) -> [u32; 10]
+fn copy_labels(
+    out: [u32; EDGE_WORDS],
+    at: usize,
+    x: &[u32; EDGE_WORDS],
+    start: usize,
+    n: usize,
+) -> [u32; EDGE_WORDS]
     requires { ⌜ (start ≤ n) × (n ≤ maxLabels) × (at + (n - start) ≤ maxLabels) ⌝ }
-    ensures { λ r. ⌜ (pathIn r (at + (n - start)) ≡ pathIn out at ++ drop start (pathIn (now (x .entry)) n)) × (getD r 0 0 ≡ getD out 0 0) × (length r ≡ 10) ⌝ }
+    ensures { λ r. ⌜ (pathIn r (at + (n - start)) ≡ pathIn out at ++ drop start (pathIn (now (x .entry)) n)) × (getD r 0 0 ≡ getD out 0 0) × (length r ≡ edgeWords) ⌝ }
 {
     let mut out = out;
     let mut i = start;
@@ -294,12 +300,18 @@ fn copy_labels(out: [u32; 10], at: usize, x: &[u32; 10], start: usize, n: usize)
 }
 
 // An edge without the first k labels of its path, between these names.
-fn remade(x: &[u32; 10], k: usize, parent: RefID, child: RefID, blurred: bool) -> [u32; 10]
+fn remade(
+    x: &[u32; EDGE_WORDS],
+    k: usize,
+    parent: RefID,
+    child: RefID,
+    blurred: bool,
+) -> [u32; EDGE_WORDS]
     requires { ⌜ k ≤ countIn (now x) ⌝ }
-    ensures { λ r. ⌜ (rowOf r ≡ record { parent = parent .0; child = child .0; blurred = blurred; edge = record { strong = rowOf (now (x .entry)) .edge .strong; path = drop k (rowOf (now (x .entry)) .edge .path) } }) × (length r ≡ 10) ⌝ }
+    ensures { λ r. ⌜ (rowOf r ≡ record { parent = parent .0; child = child .0; blurred = blurred; edge = record { strong = rowOf (now (x .entry)) .edge .strong; path = drop k (rowOf (now (x .entry)) .edge .path) } }) × (length r ≡ edgeWords) ⌝ }
 {
     let n = labels(x);
-    let none = [0u32; 10];
+    let none = [0u32; EDGE_WORDS];
     let mut out = copy_labels(none, 0, x, k, n);
     out[0] = ends(parent, child);
     out[1] = marks(blurred, is_strong(x), n - k);
@@ -307,14 +319,19 @@ fn remade(x: &[u32; 10], k: usize, parent: RefID, child: RefID, blurred: bool) -
 }
 
 // The edge of a pair's set with the pair's names and its mark.
-pub fn tagged(x: &[u32; 10], parent: RefID, child: RefID, blurred: bool) -> [u32; 10]
+pub fn tagged(
+    x: &[u32; EDGE_WORDS],
+    parent: RefID,
+    child: RefID,
+    blurred: bool,
+) -> [u32; EDGE_WORDS]
     ensures { λ r. ⌜ rowOf r ≡ record { parent = parent .0; child = child .0; blurred = blurred; edge = rowOf (now (x .entry)) .edge } ⌝ }
 {
     remade(x, 0, parent, child, blurred)
 }
 
 // The same edge between other names.
-pub fn renamed(x: &[u32; 10], parent: RefID, child: RefID) -> [u32; 10]
+pub fn renamed(x: &[u32; EDGE_WORDS], parent: RefID, child: RefID) -> [u32; EDGE_WORDS]
     ensures { λ r. ⌜ rowOf r ≡ record { parent = parent .0; child = child .0; blurred = rowOf (now (x .entry)) .blurred; edge = rowOf (now (x .entry)) .edge } ⌝ }
 {
     let b = is_blurred(x);
@@ -322,7 +339,7 @@ pub fn renamed(x: &[u32; 10], parent: RefID, child: RefID) -> [u32; 10]
 }
 
 // What a strong borrow at this path moves under the child: the path loses its front, and the row its mark of blurring.
-pub fn factor(y: &[u32; 10], path: LabelFilter, child: RefID) -> [u32; 10]
+pub fn factor(y: &[u32; EDGE_WORDS], path: LabelFilter, child: RefID) -> [u32; EDGE_WORDS]
     ensures { λ r. ⌜ rowOf r ≡ shift (child .0) (pathAt path) (rowOf (now (y .entry))) ⌝ }
 {
     let k = lesser(len_of(path), labels(y));
@@ -331,7 +348,7 @@ pub fn factor(y: &[u32; 10], path: LabelFilter, child: RefID) -> [u32; 10]
 }
 
 // The way from x's parent to y's child. Behind a weak edge nothing more is known.
-pub fn splice(x: &[u32; 10], y: &[u32; 10]) -> Candidate
+pub fn splice(x: &[u32; EDGE_WORDS], y: &[u32; EDGE_WORDS]) -> Candidate
     ensures { λ r. ⌜ (candidateOf r ≡ fitting (G.splice (rowOf (now (x .entry)) .edge) (rowOf (now (y .entry)) .edge))) × (rowOf (r .row) .parent ≡ rowOf (now (x .entry)) .parent) × (rowOf (r .row) .child ≡ rowOf (now (y .entry)) .child) ⌝ }
 {
     let p = parent(x);

@@ -1,10 +1,9 @@
 -- `absint::analyze` meets its contract. Assumes nothing.
-use mathlib.Core.Path.{_≡_, _∙_}
+use mathlib.Core.Path.{_∙_}
 use lib.ListN.{length}
 use Rattle.meaning.specs.Laws.Listing.{accepted-promised, accepted-block}
 use Rattle.absint.specs.Models.{rulingOf}
 use Rattle.absint.specs.WholeLaws as Law
-use native.Mathlib.Omega.{arith}
 use borrow.Author.Needs.{needs}
 use Rattle.absint.proofs.analyze.Statement.{statement}
 use Rattle.absint.proofs.analyze.Tie as tie

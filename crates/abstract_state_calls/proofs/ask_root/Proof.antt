@@ -10,7 +10,6 @@ use Rattle.abstract_state.specs.Models.{words, runningOf, heeding}
 use Rattle.abstract_state.specs.ModelLaws.{does-as}
 use Rattle.abstract_state_calls.specs.Models.{acquiring}
 use Rattle.abstract_state_calls.specs.CallLaws.{acquire-none}
-use native.Mathlib.Omega.{arith}
 use borrow.Author.Needs.{needs}
 use Rattle.abstract_state_calls.proofs.ask_root.Statement.{statement}
 use Rattle.abstract_state_calls.proofs.ask_root.Tie as tie

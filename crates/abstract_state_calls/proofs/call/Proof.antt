@@ -4,7 +4,6 @@ use Rattle.meaning.specs.Listing.{tokenAs}
 use Rattle.abstract_state.specs.Models.{operandsOf, words}
 use Rattle.abstract_state_calls.specs.Models.{idsOf}
 use Rattle.abstract_state_calls.specs.CallLaws.{calls-done}
-use native.Mathlib.Omega.{arith}
 use borrow.Author.Needs.{needs}
 use Rattle.abstract_state_calls.proofs.call.Statement.{statement}
 use Rattle.abstract_state_calls.proofs.call.Tie as tie

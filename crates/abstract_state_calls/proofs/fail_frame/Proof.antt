@@ -9,7 +9,6 @@ use Rattle.abstract_state.specs.Models.{words, runningOf, failing}
 use Rattle.abstract_state.specs.ModelLaws.{does-as, told-map}
 use Rattle.abstract_state_calls.specs.Models.{framed}
 use Rattle.abstract_state_calls.specs.CallLaws.{frame-one}
-use native.Mathlib.Omega.{arith}
 use borrow.Author.Needs.{needs}
 use Rattle.abstract_state_calls.proofs.fail_frame.Statement.{statement}
 use Rattle.abstract_state_calls.proofs.fail_frame.Tie as tie

@@ -7,7 +7,6 @@ use Rattle.abstract_state.specs.Models.{words, runningOf, failing}
 use Rattle.abstract_state.specs.ModelLaws.{does-as}
 use Rattle.abstract_state_calls.specs.Models.{acquiring}
 use Rattle.abstract_state_calls.specs.CallLaws.{acquire-one}
-use native.Mathlib.Omega.{arith}
 use borrow.Author.Needs.{needs}
 use Rattle.abstract_state_calls.proofs.fail_global.Statement.{statement}
 use Rattle.abstract_state_calls.proofs.fail_global.Tie as tie

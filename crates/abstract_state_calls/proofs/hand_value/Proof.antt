@@ -12,7 +12,6 @@ use Rattle.abstract_state.specs.Models.{words, runningOf, failing}
 use Rattle.abstract_state.specs.ModelLaws.{does-as, does-nothing, told-both}
 use Rattle.abstract_state_calls.specs.Models.{handing}
 use Rattle.abstract_state_calls.specs.CallLaws.{hand-one}
-use native.Mathlib.Omega.{arith}
 use borrow.Author.Needs.{needs}
 use Rattle.abstract_state_calls.proofs.hand_value.Statement.{statement}
 use Rattle.abstract_state_calls.proofs.hand_value.Tie as tie

@@ -1,7 +1,6 @@
 use Rattle.abstract_state.specs.Models.{operandsOf, words}
 use Rattle.abstract_state_calls.specs.Models.{idsOf}
 use Rattle.abstract_state_calls.specs.CallLaws.{does-ret}
-use native.Mathlib.Omega.{arith}
 use borrow.Author.Needs.{needs}
 use Rattle.abstract_state_calls.proofs.ret.Statement.{statement}
 use Rattle.abstract_state_calls.proofs.ret.Tie as tie

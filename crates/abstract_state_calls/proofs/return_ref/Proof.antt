@@ -1,7 +1,6 @@
 use Rattle.abstract_state.specs.Models.{words}
 use Rattle.abstract_state_calls.specs.Models.{idsOf}
 use Rattle.abstract_state_calls.specs.CallLaws.{calls-ref}
-use native.Mathlib.Omega.{arith}
 use borrow.Author.Needs.{needs}
 use Rattle.abstract_state_calls.proofs.return_ref.Statement.{statement}
 use Rattle.abstract_state_calls.proofs.return_ref.Tie as tie

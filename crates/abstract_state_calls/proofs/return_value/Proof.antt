@@ -6,7 +6,6 @@ use Rattle.meaning.specs.Listing.{tokenAs}
 use Rattle.meaning.specs.EntryPoints.{returnValues}
 use Rattle.abstract_state_calls.specs.Models.{idsOf}
 use Rattle.abstract_state_calls.specs.CallLaws.{calls-value}
-use native.Mathlib.Omega.{arith}
 use borrow.Author.Needs.{needs}
 use Rattle.abstract_state_calls.proofs.return_value.Statement.{statement}
 use Rattle.abstract_state_calls.proofs.return_value.Tie as tie

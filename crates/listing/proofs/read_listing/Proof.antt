@@ -26,15 +26,19 @@ head-requires : tie.Need-head-requires
 head-requires c κs = search needs
 
 ruled-requires : tie.Need-ruled-requires
-ruled-requires c κs = sound ((c .before .before .before .before .before .before .before .before .args) .s .now) _ _ ((c .before .before .before .before .read-places) .result) ((c .before .before .if1) .left) ((c .before .before .before .before .read-places) .ensures) ((c .before .head) .result .now) ((c .before .head) .ensures)
+ruled-requires c κs =
+    let s = (c .before .before .before .before .before .before .before .before .args) .s .now in
+    let w = (c .before .before .before .before .read-places) in
+    sound s _ _ (w .result) ((c .before .before .if1) .left) (w .ensures) ((c .before .head) .result .now) ((c .before .head) .ensures)
 
 returns-2 : tie.Need-returns-2
 unfolding readListing ruledPlaces
-returns-2 c = (
-  (c .ruled) .ensures .0
-      ∙ sym (ap (afterRecords ((c .before .before .before .before .before .before .before .before .before .args) .s .now)) (were-read ((c .before .before .before .before .before .before .before .before .before .args) .s .now) _ _ ((c .before .before .before .before .before .read-places) .result) ((c .before .before .before .if1) .left) ((c .before .before .before .before .before .read-places) .ensures))),
-  (c .ruled) .ensures .1,
-)
+returns-2 c =
+    let s = (c .before .before .before .before .before .before .before .before .before .args) .s .now in
+    let w = (c .before .before .before .before .before .read-places) in (
+      (c .ruled) .ensures .0 ∙ sym (ap (afterRecords s) (were-read s _ _ (w .result) ((c .before .before .before .if1) .left) (w .ensures))),
+      (c .ruled) .ensures .1,
+    )
 
 pub read-listing-spec : {M : Type 1} → statement M
 read-listing-spec =

@@ -1,14 +1,14 @@
 -- The first n elements of an array, read and written one by one: what the loops of the code rest on.
 use Prim.Native.Nat.{ℕ, zero, suc, _+_, _-_, _≤_, _<_}
 use native.Mathlib.Omega.{arith}
-use mathlib.Core.List.{List, [], _∷_, _++_, map, map-append, foldl}
+use mathlib.Core.List.{List, [], _∷_, _++_, map, map-append, append-nil, foldl}
 use mathlib.Core.Option.{Option, none, some}
-use mathlib.Core.Path.{_≡_, refl, sym, ap, _∙_}
+use mathlib.Core.Path.{_≡_, refl, sym, ap, _∙_, subst}
 use borrow.Author.Tests.{eq-eqb, ne-eqb}
 use native.Mathlib.Nat.{not-suc-le-zero, le-of-suc-le-suc}
 use native.Mathlib.Numerals.{add-one}
 use lib.Dec.{eqb}
-use lib.ListN.{length, take, drop, getD, length-take, length-drop, length-map, List·getD-map, set}
+use lib.ListN.{length, take, drop, getD, length-take, length-drop, length-map, List·getD-map, set, drop-of-length-le}
 use lib.Seq.{drop-cons, getD-take, take-suc-set, append-snoc, drop-append-add, drop-append-le, drop-drop}
 use Rattle.meaning.specs.Lists.{empty}
 
@@ -90,7 +90,7 @@ module _ {A : Type 0} where
 
 module _ {A : Type 0} where
   -- the element below k + 1 moves up to it: k + 1 was free, and then k is
-  pub shift-on : (l : List A) (d : A) (k m : ℕ) → suc k < length l → suc k < m
+  shift-on : (l : List A) (d : A) (k m : ℕ) → suc k < length l → suc k < m
       → take k (set l (suc k) (getD l k d)) ++ drop (suc k) (take m (set l (suc k) (getD l k d))) ≡ take (suc k) l ++ drop (suc (suc k)) (take m l)
   shift-on [] d k m h n = absurd (not-suc-le-zero h)
   shift-on (x ∷ []) d k m h n = absurd (not-suc-le-zero (le-of-suc-le-suc h))
@@ -100,7 +100,7 @@ module _ {A : Type 0} where
   shift-on (x ∷ y ∷ l) d (suc k) (suc (suc m)) h n = ap (λ (r : List A). x ∷ r) (shift-on (y ∷ l) d k (suc m) (le-of-suc-le-suc h) (le-of-suc-le-suc n))
 
   -- the free place k is filled
-  pub fill-in : {B : Type 0} (f : A → B) (l : List A) (k m : ℕ) (a : A) → k < length l → k < m
+  fill-in : {B : Type 0} (f : A → B) (l : List A) (k m : ℕ) (a : A) → k < length l → k < m
       → map f (take m (set l k a)) ≡ take k (map f (take k l ++ drop (suc k) (take m l))) ++ (f a ∷ drop k (map f (take k l ++ drop (suc k) (take m l))))
   fill-in f [] k m a h n = absurd (not-suc-le-zero h)
   fill-in f (x ∷ l) k zero a h n = absurd (not-suc-le-zero n)
@@ -118,6 +118,25 @@ module _ {A : Type 0} where
       none (y ∷ r) = refl
   drop-set f (x ∷ l) zero (suc k) (suc m) a h = refl
   drop-set f (x ∷ l) (suc j) (suc k) (suc m) a h = drop-set f l j k m a (le-of-suc-le-suc h)
+
+-- An element is put in among the first of an array: those above its place move up one by one, the last first. Around the free place j, by what
+-- they stand for, are those of before.
+module _ {A B : Type 0} (f : A → B) where
+  abbrev pub around : List A → ℕ → ℕ → List B
+  around l j m = map f (take j l ++ drop (suc j) (take m l))
+
+  pub room-start : (l : List A) (m : ℕ) → around l m (m + 1) ≡ map f (take m l)
+  room-start l m =
+      let a : drop (suc m) (take (m + 1) l) ≡ [] = drop-of-length-le (take (m + 1) l) {i = suc m} (simp length-take (omega arith)) in
+      ap (λ (r : List A). map f (take m l ++ r)) a ∙ ap (map f) (append-nil (take m l))
+
+  pub room-on : (l : List A) (d : A) (k j m : ℕ) → j ≡ suc k → j < length l → j < m → around (set l j (getD l k d)) k m ≡ around l j m
+  room-on l d k j m e h n =
+      ap (map f) (subst (λ (i : ℕ). take k (set l i (getD l k d)) ++ drop (suc k) (take m (set l i (getD l k d))) ≡ take i l ++ drop (suc i) (take m l)) (sym e)
+      (shift-on l d k m (subst (λ (i : ℕ). i < length l) e h) (subst (λ (i : ℕ). i < m) e n)))
+
+  pub room-end : (l : List A) (k m : ℕ) (x : A) (xs : List B) → k < length l → k < m → around l k m ≡ xs → map f (take m (set l k x)) ≡ take k xs ++ (f x ∷ drop k xs)
+  room-end l k m x xs h n e = fill-in f l k m x h n ∙ ap (λ (ys : List B). take k ys ++ (f x ∷ drop k ys)) e
 
 -- what owning an array of structs tells of its list
 pub length-of-map : (A B : Type 0) (f : A → B) (l : List A) (n : ℕ) → length (map f l) ≡ n → length l ≡ n

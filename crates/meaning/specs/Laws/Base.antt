@@ -93,6 +93,10 @@ pub not-true : {a : Bool} → not a ≡ true → a ≡ false
 not-true {a = true} e = sym e
 not-true {a = false} e = refl
 
+pub not-no : {a : Bool} → not a ≡ false → a ≡ true
+not-no {a = true} e = refl
+not-no {a = false} e = sym e
+
 pub not-false : {a : Bool} → a ≡ false → not a ≡ true
 not-false e = ap not e
 

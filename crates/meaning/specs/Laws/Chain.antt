@@ -1,7 +1,7 @@
 -- One pass decides what wellFormed says of the edges, and of the names.
 use Prim.Native.Nat.{ℕ, _+_, _≤_, suc, _<_, zero-le}
 use native.Mathlib.Omega.{arith}
-use mathlib.Core.Bool.{Bool, true, false, not, _||_, false≢true, true≢false, _&&_, cond}
+use mathlib.Core.Bool.{Bool, true, false, not, _||_, false≢true, _&&_, cond}
 use mathlib.Core.List.{[], cons≢nil, List, _∷_}
 use mathlib.Core.Logic.{_⊎_, inl, inr}
 use mathlib.Core.Path.{_≡_, refl, sym, subst, ap, _∙_}

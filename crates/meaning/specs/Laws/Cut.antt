@@ -7,7 +7,7 @@ use mathlib.Core.Path.{_≡_, refl, ap, _∙_, sym}
 use lib.ListN.{length, take, drop, length-append, length-map}
 use lib.Seq.{take-at, drop-at}
 use Rattle.meaning.specs.Lists.{keep}
-use Rattle.meaning.specs.References.{orderBy, Cmp, less, equal, greater, EdgeSet}
+use Rattle.meaning.specs.References.{orderBy, less, equal, greater, EdgeSet}
 use Rattle.meaning.specs.BorrowGraph.{GEdge, eqPair, isBefore, side, setAt, setTo, tagged, isAfter}
 use Rattle.meaning.specs.Laws.Base.{decide, both}
 use Rattle.meaning.specs.Laws.Graph.{not-before-self}

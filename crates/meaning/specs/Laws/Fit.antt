@@ -111,7 +111,8 @@ module _ (St : Type 0) (join : St → St → Ans St) (changed : St → St → Bo
       pub successor-same : (k : St) → join s t ≡ ok k → changed s k ≡ false → Does (toSuccessor St join changed exec blocks b t e) ks xs (at n) ks xs (at n)
       unfolding Does
       successor-same k d c ss l h =
-          let z : toSuccessor St join changed exec blocks b t e ss (at n) ≡ record { slots = ss; next = at n } = joined (afterJoin St join changed exec blocks b e j ss n s) ss h (λ a. refl) ∙ ap (afterJoin St join changed exec blocks b e j ss n s) d ∙ ap (afterChange St join changed exec blocks b e j ss n k) c in
+          let z : toSuccessor St join changed exec blocks b t e ss (at n) ≡ record { slots = ss; next = at n } = joined (afterJoin St join changed exec blocks b e j ss n s) ss h (λ a. refl)
+          ∙ ap (afterJoin St join changed exec blocks b e j ss n s) d ∙ ap (afterChange St join changed exec blocks b e j ss n k) c in
           subst (λ (a : Propagation St). (length (a .slots) ≡ length blocks) × Fits ks xs (a .slots) × (at n ≡ a .next)) (sym z) (l, h, refl)
 
       pub successor-changed : (k : St) (ks′ : ℕ → Option St) → length blocks ≤ length xs → join s t ≡ ok k → changed s k ≡ true → ks′ j ≡ some k → ((i : ℕ) → i ≢ j → ks′ i ≡ ks i)
@@ -119,7 +120,9 @@ module _ (St : Type 0) (join : St → St → Ans St) (changed : St → St → Bo
       unfolding Does
       successor-changed k ks′ w d c new others ss l h =
           let u : Slot St = record { kept = some k; status = fine; changes = suc (getD ss j blank .changes) } in
-          let z : toSuccessor St join changed exec blocks b t e ss (at n) ≡ record { slots = set ss j u; next = at (cond (leb e (b .entry)) j n) } = joined (afterJoin St join changed exec blocks b e j ss n s) ss h (λ a. refl) ∙ ap (afterJoin St join changed exec blocks b e j ss n s) d ∙ ap (afterChange St join changed exec blocks b e j ss n k) c in
+          let z : toSuccessor St join changed exec blocks b t e ss (at n) ≡ record { slots = set ss j u; next = at (cond (leb e (b .entry)) j n) } = joined
+          (afterJoin St join changed exec blocks b e j ss n s) ss h (λ a. refl) ∙ ap (afterJoin St join changed exec blocks b e j ss n s) d
+          ∙ ap (afterChange St join changed exec blocks b e j ss n k) c in
           subst (λ (a : Propagation St). (length (a .slots) ≡ length blocks) × Fits ks′ (set xs j fine) (a .slots) × (at (cond (leb e (b .entry)) j n) ≡ a .next)) (sym z)
           (length-set ss j u ∙ l, fits-set ks ks′ xs ss j (some k) fine (suc (getD ss j blank .changes)) h (omega (arith, l, w)) (omega (arith, l, m)) new others, refl)
 

@@ -8,16 +8,16 @@ use lib.Dec.{leb, eqb}
 use lib.ListN.{length}
 use Rattle.meaning.specs.Answers.{ok, guard, Ans, refuse, andThen}
 use Rattle.meaning.specs.Lists.{all, each, keep}
-use Rattle.meaning.specs.References.{Edge, EdgeSet, insert, offer, shortPath, covered, setOk, isBlur, short, ordered}
+use Rattle.meaning.specs.References.{Edge, EdgeSet, insert, offer, fitting, covered, setOk}
 use Rattle.meaning.specs.BorrowGraph.{splice, GEdge, setAt, setTo, eqPair, Graph, held, pairOk, wellFormed, spliced, without, release, sameNames, joinGraphs, Name, other}
-use Rattle.meaning.specs.Laws.Base.{leb-gt, le-leb, both, and-l, leb-le, decide, ok-inj, guard-ok, andThen-ok, and-r, eqb-self, eqb-no, eqb-eq}
+use Rattle.meaning.specs.Laws.Base.{leb-gt, le-leb, and-l, leb-le, decide, ok-inj, guard-ok, andThen-ok, and-r, eqb-self, eqb-no, eqb-eq}
 use Rattle.meaning.specs.Laws.Call.{without-inv}
 use Rattle.meaning.specs.Laws.Graph.{wf→inv}
 use Rattle.meaning.specs.Laws.Pair.{Neat, insertAll-setOk, length-setTo, setTo-neat, pass-end, pass-append, inv-neat}
 use Rattle.meaning.specs.Laws.PairCall.{firsts-take, firsts-skip, release-new, release-pairwise, releasePairs-stay, stay-apart, join-new, join-pairwise}
 use Rattle.meaning.specs.Laws.Place.{offer-insert}
 use Rattle.meaning.specs.Refinement.Pairs.{edgesAt, fewEdges, replaceOne, Pair, replaceLim, across, or21, twoPass, firsts, pairOf, newSet, withEdges, exactly, releasePairs, joinPairs, loopAt}
-use Rattle.meaning.specs.Refinement.Passes.{fitting, uncovered, splices, spliceSet, joinSet, childrenFrom, parentsFrom, pairsFrom, splicePairs, apart}
+use Rattle.meaning.specs.Refinement.Passes.{uncovered, splices, spliceSet, joinSet, childrenFrom, parentsFrom, pairsFrom, splicePairs, apart}
 use Rattle.meaning.specs.Laws.Put.{setOk-few}
 
 -- ---- sets
@@ -34,22 +34,6 @@ offer-fitting s e = go (leb (length (e .path)) 8) refl
 pub offer-ok : (s : EdgeSet) (e : Edge) → offer s (ok e) ≡ insert s e
 unfolding offer
 offer-ok s e = refl
-
--- an edge whose path is as `within` answers it
-pub fitting-within : (b s : Bool) (p q : List ℕ) → cond b (ok p) (refuse 22) ≡ shortPath q → cond b (ok (record { strong = s; path = p })) (refuse 22) ≡ fitting (record { strong = s; path = q })
-unfolding fitting shortPath
-fitting-within b s p q e = left b ∙ ap (λ (z : Ans (List ℕ)). andThen z made) e ∙ right (leb (length q) 8)
-  where
-    made : List ℕ → Ans Edge
-    made r = ok (record { strong = s; path = r })
-
-    left : (a : Bool) → cond a (made p) (refuse 22) ≡ andThen (cond a (ok p) (refuse 22)) made
-    left true = refl
-    left false = refl
-
-    right : (a : Bool) → andThen (guard a 22 (ok q)) made ≡ guard a 22 (made q)
-    right true = refl
-    right false = refl
 
 pub fitting-short : (e : Edge) → length (e .path) ≤ 8 → ok e ≡ fitting e
 unfolding fitting

@@ -2,7 +2,7 @@
 -- one gives the same.
 use Prim.Native.Nat.{ℕ, _<_, _≤_, zero-le}
 use native.Mathlib.Omega.{arith}
-use mathlib.Core.Bool.{true, false, Bool, false≢true, _||_, true≢false, cond, _&&_, not}
+use mathlib.Core.Bool.{true, false, Bool, false≢true, _||_, cond, _&&_, not}
 use mathlib.Core.List.{List, [], _∷_, map}
 use mathlib.Core.Logic.{_⊎_, inl, inr, _≢_}
 use mathlib.Core.Path.{_≡_, refl, ap, _∙_, sym, subst}
@@ -18,7 +18,7 @@ use Rattle.meaning.specs.Laws.Call.{holds-all}
 use Rattle.meaning.specs.Laws.Graph.{wf→inv, inv→wf, room}
 use Rattle.meaning.specs.Laws.InTurn.{in-turn, to-apart, ascend-sorted}
 use Rattle.meaning.specs.Laws.Own.{times, count-no, count-yes}
-use Rattle.meaning.specs.Laws.Rename.{rename-inv, rename-length}
+use Rattle.meaning.specs.Laws.Rename.{rename-inv, rename-length, hold-names}
 use Rattle.meaning.specs.Laws.Running.{ascend-times}
 use Rattle.meaning.specs.Refinement.InTurn.{inTurn}
 
@@ -161,6 +161,19 @@ changed-small (m ∷ ms) h n l = go (eqb n (m .old)) (changed-small ms (and-r (l
     go true r = leb-le (and-l (ltb (m .new) 65536) (all (λ k. ltb (k .new) 65536) ms) h)
     go false r = r
 
+-- where no name gets a number beyond 16 bits, a well-formed graph stays so
+pub rename-formed : (g : Graph) (ms : List Change) → wellFormed g ≡ true → clash (g .names) ms ≡ false → ((n : ℕ) → held g n ≡ true → nameAfter ms n < 65536) → wellFormed (renamed (nameAfter ms) g) ≡ true
+unfolding renamed
+rename-formed g ms w c little =
+    inv→wf (renamed (nameAfter ms) g) (rename-inv (nameAfter ms) g (changed-apart (g .names) ms c) little (wf→inv g w))
+    (subst (λ (k : ℕ). leb k 96 ≡ true) (sym (rename-length (nameAfter ms) (g .edges))) (room g w))
+
+-- that no name does is seen in what comes out
+pub renamed-small : (ns : List Name) (ms : List Change) → clash ns ms ≡ false → all (λ a. ltb (a .id) 65536) (renameNames (nameAfter ms) ns) ≡ true
+    → (n : ℕ) → holds ns n ≡ true → nameAfter ms n < 65536
+renamed-small ns ms c s n h =
+    leb-le (holds-all (λ k. ltb k 65536) (renameNames (nameAfter ms) ns) (nameAfter ms n) (hold-names (nameAfter ms) ns (changed-apart ns ms c) n ns h) s)
+
 module _ (g h : Graph) (ms : List Change) (small : all (λ m. ltb (m .new) 65536) ms ≡ true) (r : remap g ms ≡ ok h) where
   formed : wellFormed g ≡ true
   unfolding remap
@@ -182,10 +195,7 @@ module _ (g h : Graph) (ms : List Change) (small : all (λ m. ltb (m .new) 65536
   inj = changed-apart (g .names) ms sound
 
   pub remap-formed : wellFormed h ≡ true
-  unfolding renamed
-  remap-formed = subst (λ (k : Graph). wellFormed k ≡ true) made
-      (inv→wf (renamed (nameAfter ms) g) (rename-inv (nameAfter ms) g inj little (wf→inv g formed))
-      (subst (λ (k : ℕ). leb k 96 ≡ true) (sym (rename-length (nameAfter ms) (g .edges))) (room g formed)))
+  remap-formed = subst (λ (k : Graph). wellFormed k ≡ true) made (rename-formed g ms formed sound little)
 
 -- ---- one by one
 

@@ -2,18 +2,13 @@
 use Prim.Native.Nat.{ℕ}
 use mathlib.Core.Bool.{Bool, not, _&&_, true}
 use mathlib.Core.List.{List, map}
-use lib.Dec.{leb, eqb}
-use lib.ListN.{length}
-use Rattle.meaning.specs.Answers.{Ans, ok, guard}
+use lib.Dec.{eqb}
+use Rattle.meaning.specs.Answers.{Ans}
 use Rattle.meaning.specs.Lists.{each, keep}
 use Rattle.meaning.specs.References.{Edge, EdgeSet, covered}
 use Rattle.meaning.specs.BorrowGraph.{GEdge, splice, setAt}
 use Rattle.meaning.specs.Laws.Graph.{insertAll}
 use Rattle.meaning.specs.Refinement.Pairs.{edgesAt, Pair, firsts, across}
-
--- an edge whose path has at most 8 labels, or the refusal 22
-unfoldable pub fitting : Edge → Ans Edge
-fitting e = guard (leb (length (e .path)) 8) 22 (ok e)
 
 -- an edge that does not touch n
 abbrev pub apart : ℕ → GEdge → Bool

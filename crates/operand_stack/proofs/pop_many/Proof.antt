@@ -59,7 +59,12 @@ loop-again c =
     let a = (c .before .before .before .before .before .args) in
     let t = (c .before .before .before .before .lesser) .result in
     let l = (c .before .before .loop) in
-    (omega arith, simp length-set (l .inv .1), λ e. many-turn (a .stack .now) (l .list) (a .n) (l .left) (l .left - 1) (t - a .n + l .left) (t - a .n + (l .left - 1)) (omega arith) (omega arith) (omega arith) (popSome (a .n) (stackIn (a .stack .now) (a .depth))) (omega arith) (omega arith) (l .inv .2 e))
+    let vs = stackIn (a .stack .now) (a .depth) in (
+      omega arith,
+      simp length-set (l .inv .1),
+      λ e. many-turn (a .stack .now) (l .list) (a .n) (l .left) (l .left - 1) (t - a .n + l .left) (t - a .n + (l .left - 1))
+          (omega arith) (omega arith) (omega arith) (popSome (a .n) vs) (omega arith) (omega arith) (l .inv .2 e),
+    )
 
 returns-2 : tie.Need-returns-2 Inv-loop μ-loop
 unfolding popMany

@@ -38,8 +38,12 @@ returns-2 c =
     let pop = (c .before .before .before .before .before .pop) in
     let ws = a .stack .now in
     let vs = stackIn ws (a .depth) in
-    let p = pop .result in
-    (λ e. ap (λ (v : AbstractValue). asRef (operandOf v) (stackIn ws (p .depth))) (sym ((c .before .v) .given .1)) ∙ went-then (p .refusal) (record { what = operandOf (p .value); rest = stackIn ws (p .depth) }) (popOne vs) (λ t. asRef (t .what) (t .rest)) (pop .ensures .0 e) ((c .before .before .before .if1) .left) ∙ pop-then vs asRef, λ n. absurd (n refl))
+    let p = pop .result in (
+      λ e. ap (λ (v : AbstractValue). asRef (operandOf v) (stackIn ws (p .depth))) (sym ((c .before .v) .given .1))
+          ∙ went-then (p .refusal) (record { what = operandOf (p .value); rest = stackIn ws (p .depth) }) (popOne vs) (λ t. asRef (t .what) (t .rest)) (pop .ensures .0 e) ((c .before .before .before .if1) .left)
+          ∙ pop-then vs asRef,
+      λ n. absurd (n refl),
+    )
 
 returns-3 : tie.Need-returns-3
 returns-3 c =
@@ -47,8 +51,12 @@ returns-3 c =
     let pop = (c .before .before .before .before .pop) in
     let ws = a .stack .now in
     let vs = stackIn ws (a .depth) in
-    let p = pop .result in
-    (λ e. ap (λ (v : AbstractValue). asRef (operandOf v) (stackIn ws (p .depth))) (sym ((c .enum-told) .given .1)) ∙ went-then (p .refusal) (record { what = operandOf (p .value); rest = stackIn ws (p .depth) }) (popOne vs) (λ t. asRef (t .what) (t .rest)) (pop .ensures .0 e) ((c .before .before .if1) .left) ∙ pop-then vs asRef, λ n. refl)
+    let p = pop .result in (
+      λ e. ap (λ (v : AbstractValue). asRef (operandOf v) (stackIn ws (p .depth))) (sym ((c .enum-told) .given .1))
+          ∙ went-then (p .refusal) (record { what = operandOf (p .value); rest = stackIn ws (p .depth) }) (popOne vs) (λ t. asRef (t .what) (t .rest)) (pop .ensures .0 e) ((c .before .before .if1) .left)
+          ∙ pop-then vs asRef,
+      λ n. refl,
+    )
 
 pub pop-ref-spec : {M : Type 1} → statement M
 pop-ref-spec = tie.close (tie.spec pop-requires returns enum-known-v enum-told returns-2 returns-3)

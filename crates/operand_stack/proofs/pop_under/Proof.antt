@@ -29,8 +29,13 @@ returns-2 c =
     let ws = a .stack .now in
     let vs = stackIn ws (a .depth) in
     let p = pop-values .result in
-    let q = pop .result in
-    (λ e. stopped (q .refusal) (record { what = operandOf (q .value); rest = stackIn ws (q .depth) }) (record { what = nonRef; rest = vs }) ((c .if2) .taken) ∙ pop .ensures .0 e ∙ went-then (p .refusal) (stackIn ws (p .depth)) (popRest (a .n) vs) popOne (pop-values .ensures .0 e) ((c .before .before .before .if1) .left) ∙ rest-then (a .n) vs popOne, λ n. refl)
+    let q = pop .result in (
+      λ e. stopped (q .refusal) (record { what = operandOf (q .value); rest = stackIn ws (q .depth) }) (record { what = nonRef; rest = vs }) ((c .if2) .taken)
+          ∙ pop .ensures .0 e
+          ∙ went-then (p .refusal) (stackIn ws (p .depth)) (popRest (a .n) vs) popOne (pop-values .ensures .0 e) ((c .before .before .before .if1) .left)
+          ∙ rest-then (a .n) vs popOne,
+      λ n. refl,
+    )
 
 returns-3 : tie.Need-returns-3
 returns-3 c =

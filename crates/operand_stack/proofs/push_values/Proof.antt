@@ -64,7 +64,10 @@ loop-again c =
       λ e.
           let f : length (l .stack) ≡ 16 = l .inv .1 e in
           let q : l .left ≡ suc (l .left - 1) = omega arith in
-          push-turn (l .stack) (l .k) (replicate (l .left - 1) nonRef) (pushEach (stackIn (a .stack .now) (a .depth)) (replicate (a .n) nonRef)) (value-word .result) (omega arith) (omega arith) (ap (λ (u : Operand). pushEach (stackIn (l .stack) (l .k)) (u ∷ replicate (l .left - 1) nonRef)) (value-word .ensures .0) ∙ ap (λ (m : ℕ). pushEach (stackIn (l .stack) (l .k)) (replicate m nonRef)) (sym q) ∙ l .inv .2 e),
+          push-turn (l .stack) (l .k) (replicate (l .left - 1) nonRef) (pushEach (stackIn (a .stack .now) (a .depth)) (replicate (a .n) nonRef))
+          (value-word .result) (omega arith) (omega arith)
+          (ap (λ (u : Operand). pushEach (stackIn (l .stack) (l .k)) (u ∷ replicate (l .left - 1) nonRef)) (value-word .ensures .0)
+          ∙ ap (λ (m : ℕ). pushEach (stackIn (l .stack) (l .k)) (replicate m nonRef)) (sym q) ∙ l .inv .2 e),
     )
 
 returns-2 : tie.Need-returns-2 Inv-loop μ-loop

@@ -1,7 +1,6 @@
 use mathlib.Core.Path.{_≡_}
 use lib.ListN.{length}
 use Rattle.meaning.specs.Laws.Array.{length-of-map}
-use Rattle.absint.specs.LoopLaws.{blocks-count}
 use Rattle.absint.specs.TurnLaws.{block-at}
 use native.Mathlib.Omega.{arith}
 use borrow.Author.Needs.{needs}
@@ -19,7 +18,7 @@ returns c =
     let args = c .before .args in
     let pre = c .before .pre in
     let full : length (args .t1) ≡ 16 = search length-of-map in
-    (block-at (args .t1) (args .n) (args .i) full (pre .0) (pre .1), blocks-count (args .t1) (args .n) full (pre .0))
+    block-at (args .t1) (args .n) (args .i) full (pre .0) (pre .1)
 
 pub block-at-spec : {M : Type 1} → statement M
 block-at-spec = tie.close (tie.spec mul-result array-copy-out-result returns)

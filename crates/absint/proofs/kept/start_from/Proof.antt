@@ -1,10 +1,10 @@
 use mathlib.Core.Path.{_≡_, refl, sym, ap, _∙_}
-use mathlib.Core.Bool.{cond}
+use mathlib.Core.Bool.{Bool, true, cond}
 use mathlib.Core.Option.{Option, none, some}
-use Rattle.meaning.specs.BorrowGraph.{Graph}
 use Rattle.meaning.specs.AbstractState.{State}
+use Rattle.meaning.specs.Area.{keptOf}
+use Rattle.references.specs.Models.{namesIn, edgesIn}
 use Rattle.abstract_state.specs.Models.{localsIn}
-use native.Mathlib.Omega.{arith}
 use borrow.Author.Needs.{needs}
 use Rattle.absint.proofs.kept.start_from.Statement.{statement}
 use Rattle.absint.proofs.kept.start_from.Tie as tie
@@ -12,23 +12,38 @@ use Rattle.absint.proofs.kept.start_from.Tie as tie
 load-requires : tie.Need-load-requires
 load-requires c κs = search needs
 
-measure-requires : tie.Need-measure-requires
-measure-requires c κs = search needs
-
-add-t16 : tie.Need-add-t16
-add-t16 c = search needs
+add-t13 : tie.Need-add-t13
+add-t13 c = search needs
 
 returns : tie.Need-returns
 returns c =
-    λ a b d.
-    let l = (c .before .before .before .load) .ensures .2 a b d in
-    let m = c .measure .ensures (l .2) (l .3) in
-    let st : Graph → State = λ g. record { locals = localsIn ((c .before .before .before .load) .last .1 .1 .1 .0) ((c .before .before .before .before .before .before .before .before .args) .num-locals); graph = g } in
+    λ x y z.
+    let a = (c .before .before .before .before .before .args) in
+    let load = c .load in
+    let e = load .ensures .2 x y z in
+    let s : State = record {
+      locals = localsIn (load .last .1 .1 .1 .0) (a .num-locals);
+      graph = record { names = namesIn (load .last .1 .1 .1 .1 .0) (load .result .refs); edges = edgesIn (load .last .1 .1 .1 .1 .1 .0) (load .result .edges) };
+    } in
+    let held : load .result .present ≡ true → keptOf (a .num-locals) (a .area .now) (a .b) ≡ some s =
+    λ h. sym (e .0) ∙ ap {B = Option State} (λ (b : Bool). cond b (some s) none) h in
     record {
-      fits = record { locals = l .1; tells = m .0 };
-      kept = ap {B = Option State} (λ (g : Graph). cond ((c .before .before .before .load) .result .present) (some (st g)) none) (m .1) ∙ l .0;
-      locals = refl;
+      there = λ h. record {
+        fits = record {
+          locals = e .1;
+          tells = record {
+            words = e .2;
+            rows = e .3;
+            refs = load .ensures .0;
+            edges = load .ensures .1;
+            formed = sym ((c .before .before .before .before .before .pre) s (held h));
+          };
+        };
+        kept = held h;
+        locals = refl;
+      };
+      absent = λ h. sym (e .0) ∙ ap {B = Option State} (λ (b : Bool). cond b (some s) none) h;
     }
 
 pub start-from-spec : {M : Type 1} → statement M
-start-from-spec = tie.close (tie.spec load-requires measure-requires add-t16 returns)
+start-from-spec = tie.close (tie.spec load-requires add-t13 returns)

@@ -3,7 +3,6 @@ use mathlib.Core.Path.{_∙_}
 use Prim.Native.Nat.{_+_, _/_}
 use lib.Dec.{eqb}
 use lib.ListN.{getD}
-use Rattle.meaning.specs.Area.{localIn, nameIn, edgeIn, wordAt, wordsFrom}
 use Rattle.meaning.specs.Laws.Area.{kept-read}
 use Rattle.absint_area.specs.ModelLaws.{state-filled}
 use native.Mathlib.Omega.{arith}

@@ -5,7 +5,6 @@ use Rattle.meaning.specs.Area.{localIn, wordsFrom}
 use Rattle.meaning.specs.Laws.Area.{Filled, filled-none, filled-one}
 use Rattle.absint_area.specs.ModelLaws.{filled-all}
 use native.Mathlib.Omega.{arith}
-use borrow.Author.Needs.{needs}
 use Rattle.absint_area.proofs.read.get_locals.Statement.{statement}
 use Rattle.absint_area.proofs.read.get_locals.Tie as tie
 

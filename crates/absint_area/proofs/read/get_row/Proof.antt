@@ -1,10 +1,9 @@
 use Prim.Native.Nat.{ℕ, _-_, _≤_}
-use mathlib.Core.Path.{_≡_, refl}
+use mathlib.Core.Path.{refl}
 use Rattle.meaning.specs.Area.{wordAt, wordsFrom}
 use Rattle.meaning.specs.Laws.Area.{Filled, filled-none, filled-one}
 use Rattle.absint_area.specs.ModelLaws.{row-words}
 use native.Mathlib.Omega.{arith}
-use borrow.Author.Needs.{needs}
 use Rattle.absint_area.proofs.read.get_row.Statement.{statement}
 use Rattle.absint_area.proofs.read.get_row.Tie as tie
 

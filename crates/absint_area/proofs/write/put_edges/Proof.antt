@@ -2,7 +2,6 @@ use Prim.Native.Nat.{_-_, _≤_}
 use Rattle.meaning.specs.Laws.Area.{WrittenEdges, edges-none, edges-one, edges-all}
 use Rattle.absint_area.specs.ModelLaws.{rowAt}
 use native.Mathlib.Omega.{arith}
-use borrow.Author.Needs.{needs}
 use Rattle.absint_area.proofs.write.put_edges.Statement.{statement}
 use Rattle.absint_area.proofs.write.put_edges.Tie as tie
 

@@ -3,7 +3,6 @@ use mathlib.Core.Path.{refl}
 use Rattle.meaning.specs.Laws.Area.{Written, IsName, written-none, written-one, written-all}
 use Rattle.absint_area.specs.ModelLaws.{nameAt}
 use native.Mathlib.Omega.{arith}
-use borrow.Author.Needs.{needs}
 use Rattle.absint_area.proofs.write.put_refs.Statement.{statement}
 use Rattle.absint_area.proofs.write.put_refs.Tie as tie
 

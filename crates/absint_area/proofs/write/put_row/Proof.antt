@@ -1,11 +1,10 @@
-use Prim.Native.Nat.{ℕ, _-_, _≤_}
+use Prim.Native.Nat.{_-_, _≤_}
 use mathlib.Core.Path.{_≡_, refl, sym}
 use lib.ListN.{getD}
 use Rattle.meaning.specs.Area.{wordAt}
 use Rattle.meaning.specs.Laws.Area.{Written, written-none, written-one}
 use Rattle.absint_area.specs.ModelLaws.{row-words}
 use native.Mathlib.Omega.{arith}
-use borrow.Author.Needs.{needs}
 use Rattle.absint_area.proofs.write.put_row.Statement.{statement}
 use Rattle.absint_area.proofs.write.put_row.Tie as tie
 

@@ -5,7 +5,6 @@ use Rattle.borrow_graph.specs.Models.{graphIn}
 use Rattle.abstract_state.specs.Models.{words, runningOf, stateOf}
 use Rattle.abstract_state_join.specs.Models.{canonicalEnd}
 use Rattle.abstract_state_join.specs.CanonicalLaws.{stays, canonical-16, canonical-ok, end-16, end-ok}
-use native.Mathlib.Omega.{arith}
 use borrow.Author.Needs.{needs}
 use Rattle.abstract_state_join.proofs.canonical.construct_canonical_state.Statement.{
   statement,

@@ -2,7 +2,6 @@ use mathlib.Core.Path.{sym, ap, _∙_}
 use mathlib.Core.Bool.{true, false}
 use Rattle.abstract_state.specs.Models.{operandOf, localsIn, localOf}
 use Rattle.abstract_state_join.specs.CanonicalLaws.{crossed-held, crossed-none}
-use native.Mathlib.Omega.{arith}
 use borrow.Author.Needs.{needs}
 use Rattle.abstract_state_join.proofs.canonical.crossed.Statement.{statement}
 use Rattle.abstract_state_join.proofs.canonical.crossed.Tie as tie

@@ -21,7 +21,9 @@ abbrev μ-loop : tie.MeasureT-loop
 
 turn : (c : tie.In-loop Inv-loop μ-loop) → let a = (c .before .before .before .args) in
     let loop = (c .before .loop) in
-    length (a .locals .now) ≡ 16 → (b : Bool) → S.crossed (localsIn (a .locals .now) (a .n)) (loop .i) (localIn (getD (a .locals .now) (loop .i) 0)) ≡ b → b || S.crosses (localsIn (a .locals .now) (a .n)) (loop .i + 1) (drop (loop .i + 1) (localsIn (a .locals .now) (a .n))) ≡ S.crosses (localsIn (a .locals .now) (a .n)) 0 (localsIn (a .locals .now) (a .n))
+    let xs = localsIn (a .locals .now) (a .n) in
+    length (a .locals .now) ≡ 16 → (b : Bool) → S.crossed xs (loop .i) (localIn (getD (a .locals .now) (loop .i) 0)) ≡ b →
+    b || S.crosses xs (loop .i + 1) (drop (loop .i + 1) xs) ≡ S.crosses xs 0 xs
 turn c h b e =
     let a = (c .before .before .before .args) in
     let l = (c .before .loop) in

@@ -70,7 +70,10 @@ loop-again c =
       omega arith,
       simp length-set (l .inv .2),
       λ h. push-map changeOf (l .list) (l .len) (l .len + 1) _ (renames (l .i + 1) xs) refl (omega arith)
-          ∙ ap (λ (ms : List Change). map changeOf (take (l .len) (l .list)) ++ ms) (sym (ap (renames (l .i)) (local-next (a .locals .now) (a .n) (count .result) h (count .ensures) (l .i) (omega arith)) ∙ renames-held (l .i) (localIn (getD (a .locals .now) (l .i) 0)) _ xs (sym (ap operandOf ((c .before .v) .given .1)) ∙ (c .before .before .before .value-of) .ensures ∙ ap heldBy ((c .before .before .before .before .local-of) .ensures))))
+          ∙ ap (λ (ms : List Change). map changeOf (take (l .len) (l .list)) ++ ms)
+          (sym (ap (renames (l .i)) (local-next (a .locals .now) (a .n) (count .result) h (count .ensures) (l .i) (omega arith))
+          ∙ renames-held (l .i) (localIn (getD (a .locals .now) (l .i) 0)) _ xs
+          (sym (ap operandOf ((c .before .v) .given .1)) ∙ (c .before .before .before .value-of) .ensures ∙ ap heldBy ((c .before .before .before .before .local-of) .ensures))))
           ∙ l .inv .3 h,
     )
 
@@ -92,7 +95,10 @@ loop-again-2 c =
       omega arith,
       omega arith,
       l .inv .2,
-      λ h. ap (λ (ms : List Change). map changeOf (take (l .len) (l .list)) ++ ms) (sym (ap (renames (l .i)) (local-next (a .locals .now) (a .n) (count .result) h (count .ensures) (l .i) (omega arith)) ∙ renames-none (l .i) (localIn (getD (a .locals .now) (l .i) 0)) xs (sym (ap operandOf ((c .enum-told) .given .1)) ∙ (c .before .before .value-of) .ensures ∙ ap heldBy ((c .before .before .before .local-of) .ensures))))
+      λ h. ap (λ (ms : List Change). map changeOf (take (l .len) (l .list)) ++ ms)
+          (sym (ap (renames (l .i)) (local-next (a .locals .now) (a .n) (count .result) h (count .ensures) (l .i) (omega arith))
+          ∙ renames-none (l .i) (localIn (getD (a .locals .now) (l .i) 0)) xs
+          (sym (ap operandOf ((c .enum-told) .given .1)) ∙ (c .before .before .value-of) .ensures ∙ ap heldBy ((c .before .before .before .local-of) .ensures))))
           ∙ l .inv .3 h,
     )
 

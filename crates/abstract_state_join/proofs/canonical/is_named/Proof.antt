@@ -25,7 +25,8 @@ abbrev μ-loop : tie.MeasureT-loop
 
 turn : (c : tie.In-loop Inv-loop μ-loop) → let a = (c .before .before .before .args) in
     let loop = (c .before .loop) in
-    length (a .locals .now) ≡ 16 → (b : Bool) → eqLocal (localIn (getD (a .locals .now) (loop .i) 0)) (S.Local.ref (a .id .0)) ≡ b → b || any (λ y. eqLocal y (S.Local.ref (a .id .0))) (drop (loop .i + 1) (localsIn (a .locals .now) (a .n))) ≡ any (λ y. eqLocal y (S.Local.ref (a .id .0))) (localsIn (a .locals .now) (a .n))
+    length (a .locals .now) ≡ 16 → (b : Bool) → eqLocal (localIn (getD (a .locals .now) (loop .i) 0)) (S.Local.ref (a .id .0)) ≡ b →
+    b || any (λ y. eqLocal y (S.Local.ref (a .id .0))) (drop (loop .i + 1) (localsIn (a .locals .now) (a .n))) ≡ any (λ y. eqLocal y (S.Local.ref (a .id .0))) (localsIn (a .locals .now) (a .n))
 turn c h b e =
     let a = (c .before .before .before .args) in
     let l = (c .before .loop) in
@@ -89,7 +90,10 @@ loop-less-2 c = omega arith
 loop-again-2 : tie.Need-loop-again-2 Inv-loop μ-loop
 loop-again-2 c =
     let a = (c .before .before .before .before .before .before .before .before .args) in
-    λ h. turn ((c .before .before .before .before .before)) h false (named-none (localIn (getD (a .locals .now) ((c .before .before .before .before .before .before .loop) .i) 0)) (a .id .0) (sym (ap operandOf ((c .enum-told) .given .1)) ∙ (c .before .before .value-of) .ensures ∙ ap heldBy ((c .before .before .before .local-of) .ensures)))
+    let loop = (c .before .before .before .before .before .before .loop) in
+    let local-of = (c .before .before .before .local-of) in
+    λ h. turn ((c .before .before .before .before .before)) h false (named-none (localIn (getD (a .locals .now) (loop .i) 0)) (a .id .0)
+    (sym (ap operandOf ((c .enum-told) .given .1)) ∙ (c .before .before .value-of) .ensures ∙ ap heldBy (local-of .ensures)))
 
 returns-2 : tie.Need-returns-2 Inv-loop μ-loop
 returns-2 c =

@@ -48,8 +48,13 @@ loop-again c =
       omega arith,
       omega arith,
       λ h.
-          let q = l .inv .2 h in
-          (q .0, ap (λ (ms : List Name). namesIn (l .names) (l .len) ++ ms) (sym (pass-value (l .i) (a .n) (getD (a .t3) (l .i) 0) _ (drop (l .i + 1) ts) (omega (arith, lesser .ensures)) (token-step (a .count) (a .t3) (l .i) (omega (arith, lesser .ensures)) (omega (arith, lesser .ensures))) (eq-eqb _ _ ((c .if1) .taken)))) ∙ q .1),
+          let q = l .inv .2 h in (
+            q .0,
+            ap (λ (ms : List Name). namesIn (l .names) (l .len) ++ ms)
+                (sym (pass-value (l .i) (a .n) (getD (a .t3) (l .i) 0) _ (drop (l .i + 1) ts)
+                (omega (arith, lesser .ensures)) (token-step (a .count) (a .t3) (l .i) (omega (arith, lesser .ensures)) (omega (arith, lesser .ensures)))
+                (eq-eqb _ _ ((c .if1) .taken)))) ∙ q .1,
+          ),
     )
 
 cast-t15 : tie.Need-cast-t15 Inv-loop μ-loop
@@ -90,7 +95,10 @@ loop-again-2 c =
           let q = l .inv .2 h in (
             simp length-set (q .0),
             names-push (l .names) _ (l .len) (l .len + 1) rest refl (omega (arith, lesser .ensures)) ∙ ap (λ (m : Name). namesIn (l .names) (l .len) ++ m ∷ rest) ((c .name-word) .ensures)
-                ∙ ap (λ (ms : List Name). namesIn (l .names) (l .len) ++ ms) (sym (pass-reference (l .i) (a .n) (getD (a .t3) (l .i) 0) _ (drop (l .i + 1) ts) (omega (arith, lesser .ensures)) (token-step (a .count) (a .t3) (l .i) (omega (arith, lesser .ensures)) (omega (arith, lesser .ensures))) (ne-eqb _ _ ((c .before .if1) .left)))) ∙ q .1,
+                ∙ ap (λ (ms : List Name). namesIn (l .names) (l .len) ++ ms)
+                (sym (pass-reference (l .i) (a .n) (getD (a .t3) (l .i) 0) _ (drop (l .i + 1) ts)
+                (omega (arith, lesser .ensures)) (token-step (a .count) (a .t3) (l .i) (omega (arith, lesser .ensures)) (omega (arith, lesser .ensures)))
+                (ne-eqb _ _ ((c .before .if1) .left)))) ∙ q .1,
           ),
     )
 

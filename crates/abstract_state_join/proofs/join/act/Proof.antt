@@ -1,9 +1,8 @@
-use mathlib.Core.Path.{refl, sym, ap}
+use mathlib.Core.Path.{sym, ap}
 use Rattle.borrow_graph.specs.Models.{graphIn}
 use Rattle.abstract_state_join.specs.Models.{acted}
 use Rattle.abstract_state_join.specs.declared.join.Action.{Action}
 use Rattle.abstract_state_join.specs.JoinLaws.{acted-ours, acted-theirs}
-use native.Mathlib.Omega.{arith}
 use borrow.Author.Needs.{needs}
 use Rattle.abstract_state_join.proofs.join.act.Statement.{statement}
 use Rattle.abstract_state_join.proofs.join.act.Tie as tie
@@ -24,25 +23,35 @@ enum-told : tie.Need-enum-told
 enum-told c = search needs
 
 returns : tie.Need-returns
-returns c = λ t u. let a = (c .before .release) .ensures t in record {
-  step = λ l. acted-ours ((c .before .release) .result .refusal) _ _ ((c .before .before .before .before .before .before .before .args) .action) l _ _ (a .answer) ((c .before .before .before .before .before .action) .given .1);
-  ours = a .tells;
-  theirs = u;
-}
+returns c = λ l t u.
+    let args = (c .before .before .before .before .before .before .before .args) in
+    let release = (c .before .release) in
+    let a = release .ensures t in
+    record {
+      step = acted-ours (release .result .refusal) _ _ (args .action) l _ _ (a .answer) ((c .before .before .before .before .before .action) .given .1);
+      ours = a .tells;
+      theirs = u;
+    }
 
 returns-2 : tie.Need-returns-2
-returns-2 c = λ t u. let a = (c .before .release2) .ensures u in record {
-  step = λ l. acted-theirs ((c .before .release2) .result .refusal) _ _ ((c .before .before .before .before .before .before .before .args) .action) l _ _ (a .answer) ((c .before .before .before .before .before .action2) .given .1);
-  ours = t;
-  theirs = a .tells;
-}
+returns-2 c = λ l t u.
+    let args = (c .before .before .before .before .before .before .before .args) in
+    let release = (c .before .release2) in
+    let a = release .ensures u in
+    record {
+      step = acted-theirs (release .result .refusal) _ _ (args .action) l _ _ (a .answer) ((c .before .before .before .before .before .action2) .given .1);
+      ours = t;
+      theirs = a .tells;
+    }
 
 returns-3 : tie.Need-returns-3
-returns-3 c = λ t u. record {
-  step = λ l. sym (ap (λ (d : Action). acted l d (graphIn ((c .before .before .args) .names .now) ((c .before .before .args) .edges .now) ((c .before .before .args) .ours)) (graphIn ((c .before .before .args) .their-names .now) ((c .before .before .args) .their-edges .now) ((c .before .before .args) .theirs))) ((c .enum-told) .given .1));
-  ours = t;
-  theirs = u;
-}
+returns-3 c = λ l t u.
+    let a = (c .before .before .args) in
+    record {
+      step = sym (ap (λ (d : Action). acted l d (graphIn (a .names .now) (a .edges .now) (a .ours)) (graphIn (a .names2 .now) (a .edges2 .now) (a .theirs))) ((c .enum-told) .given .1));
+      ours = t;
+      theirs = u;
+    }
 
 pub act-spec : {M : Type 1} → statement M
 act-spec =

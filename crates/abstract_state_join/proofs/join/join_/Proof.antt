@@ -1,11 +1,7 @@
-use mathlib.Core.Path.{_≡_, refl, sym, ap, _∙_}
-use Rattle.meaning.specs.AbstractState as S
+use mathlib.Core.Path.{refl, sym, _∙_}
 use Rattle.references.specs.ModelLaws.{told-yes, told-no}
-use Rattle.abstract_state.specs.Models.{localsIn, words, stateOf}
-use Rattle.borrow_graph.specs.Models.{graphIn}
-use Rattle.references.specs.Models.{told}
+use Rattle.abstract_state.specs.Models.{words, stateOf}
 use Rattle.abstract_state_join.specs.JoinLaws.{join-early, join-late, told-state}
-use native.Mathlib.Omega.{arith}
 use borrow.Author.Needs.{needs}
 use Rattle.abstract_state_join.proofs.join.join_.Statement.{statement}
 use Rattle.abstract_state_join.proofs.join.join_.Tie as tie
@@ -15,11 +11,11 @@ join-locals-requires c κs = search needs
 
 returns : tie.Need-returns
 returns c = λ fa fb.
-    let a = (c .before .before .before .before .before .before .before .before .before .before .args) in
-    let n = (c .before .before .before .before .join-locals) .result .refusal in
-    let j = (c .before .before .before .before .join-locals) .ensures fa fb in
+    let a = (c .before .before .before .before .before .before .before .before .before .args) in
+    let n = (c .before .before .before .join-locals) .result .refusal in
+    let j = (c .before .before .before .join-locals) .ensures fa fb in
     let s = stateOf (words (a .locals .now) (a .names .now) (a .edges .now) (a .s)) in
-    let o = stateOf (words (a .their-locals .now) (a .their-names .now) (a .their-edges .now) (a .o)) in (
+    let o = stateOf (words (a .locals2 .now) (a .names2 .now) (a .edges2 .now) (a .o)) in (
       record {
         answer = told-no n _ ((c .if1) .taken) ∙ sym (join-early s o n (sym (j .parts) ∙ told-no n _ ((c .if1) .taken)));
         fits = λ z. absurd ((c .if1) .taken z);
@@ -35,14 +31,16 @@ join-requires c κs = search needs
 
 returns-2 : tie.Need-returns-2
 returns-2 c = λ fa fb.
-    let a = (c .before .before .before .before .before .before .before .before .before .before .before .before .before .before .before .before .args) in
+    let a = (c .before .before .before .before .before .before .before .before .before .before .before .before .before .before .before .args) in
     let n = (c .before .join) .result .refusal in
-    let j = (c .before .before .before .before .before .before .before .before .before .before .join-locals) .ensures fa fb in
+    let if1 = (c .before .before .before .before .before .before .if1) in
+    let p = (c .before .before .before .before .before .before .before .before .before .join-locals) in
+    let j = p .ensures fa fb in
     let b = (c .before .join) .ensures (j .ours) (j .theirs) in
     let s = stateOf (words (a .locals .now) (a .names .now) (a .edges .now) (a .s)) in
-    let o = stateOf (words (a .their-locals .now) (a .their-names .now) (a .their-edges .now) (a .o)) in (
+    let o = stateOf (words (a .locals2 .now) (a .names2 .now) (a .edges2 .now) (a .o)) in (
       record {
-        answer = told-state n _ _ ∙ sym (join-late s o _ _ (sym (j .parts) ∙ told-yes ((c .before .before .before .before .before .before .before .before .before .before .join-locals) .result .refusal) _ ((c .before .before .before .before .before .before .if1) .left)) (sym (b .answer)));
+        answer = told-state n _ _ ∙ sym (join-late s o _ _ (sym (j .parts) ∙ told-yes (p .result .refusal) _ (if1 .left)) (sym (b .answer)));
         fits = λ z. record { locals = j .locals; tells = b .tells };
         rest = refl;
         stop = (refl, refl);

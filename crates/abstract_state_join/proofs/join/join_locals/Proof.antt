@@ -1,40 +1,43 @@
-use mathlib.Core.Path.{_≡_, refl, sym, ap, _∙_}
+use mathlib.Core.Path.{_≡_, refl, ap, _∙_}
 use mathlib.Core.Logic.{_⊎_, inl, inr}
 use mathlib.Core.List.{map}
-use Prim.Native.Nat.{ℕ, _+_, _-_, _≤_, _<_, min}
+use Prim.Native.Nat.{ℕ, _-_, _≤_, _<_, min}
 use lib.Dec.{leb}
 use lib.ListN.{length, take, drop, getD, length-set, length-drop}
-use Rattle.meaning.specs.Answers.{ok, andThen}
+use Rattle.meaning.specs.Answers.{andThen}
 use Rattle.meaning.specs.Laws.Base.{decide, leb-le, leb-gt}
 use Rattle.meaning.specs.Area.{localIn}
 use Rattle.meaning.specs.BorrowGraph.{Graph}
-use Rattle.meaning.specs.AbstractState as S
-use Rattle.meaning.specs.AbstractState.{Step, joinLocal, joinLocals}
-use Rattle.references.specs.Models.{told}
+use Rattle.meaning.specs.AbstractState.{joinLocal, joinLocals}
 use Rattle.references.specs.ModelLaws.{told-yes}
 use Rattle.borrow_graph.specs.Models.{graphIn, Tells}
 use Rattle.abstract_state.specs.Models.{localsIn}
-use Rattle.abstract_state_join.specs.Models.{acted, stepBy}
+use Rattle.abstract_state_join.specs.Models.{stepBy}
 use Rattle.abstract_state_join.specs.LocalLaws.{clip, locals-are, locals-end, locals-all}
-use Rattle.abstract_state_join.specs.JoinLaws.{after, start, goes-on, ends, idle-step, busy-step, end-equal, end-unequal}
+use Rattle.abstract_state_join.specs.JoinLaws.{after, start, written, goes-on, ends, end-equal, end-unequal}
 use native.Mathlib.Omega.{arith}
 use borrow.Author.Needs.{needs}
 use Rattle.abstract_state_join.proofs.join.join_locals.Statement.{statement}
 use Rattle.abstract_state_join.proofs.join.join_locals.Tie as tie
 
 abbrev Inv-loop : tie.InvT-loop
-Inv-loop locals₀ names₀ edges₀ their-locals their-names₀ their-edges₀ n m k p₀ i₀ locals names edges their-names their-edges p i =
+Inv-loop locals₀ names₀ edges₀ locals2 names2₀ edges2₀ n m k p₀ i₀ locals names edges names2 edges2 p i =
     (i ≤ k) × (p .refusal ≡ 0)
-    × (length locals₀ ≡ 16 → length their-locals ≡ 16 → Tells names₀ edges₀ (p₀ .ours) → Tells their-names₀ their-edges₀ (p₀ .theirs)
-    → (length locals ≡ 16) × Tells names edges (p .ours) × Tells their-names their-edges (p .theirs)
-    × (andThen (joinLocals (drop i (localsIn locals n)) (drop i (localsIn their-locals m)) (graphIn names edges (p .ours)) (graphIn their-names their-edges (p .theirs))) (after (map localIn (take i locals)))
-    ≡ joinLocals (localsIn locals₀ n) (localsIn their-locals m) (graphIn names₀ edges₀ (p₀ .ours)) (graphIn their-names₀ their-edges₀ (p₀ .theirs))))
+    × (length locals₀ ≡ 16 → length locals2 ≡ 16 → Tells names₀ edges₀ (p₀ .ours) → Tells names2₀ edges2₀ (p₀ .theirs)
+    → (length locals ≡ 16) × Tells names edges (p .ours) × Tells names2 edges2 (p .theirs)
+    × (andThen (joinLocals (drop i (localsIn locals n)) (drop i (localsIn locals2 m)) (graphIn names edges (p .ours)) (graphIn names2 edges2 (p .theirs)))
+    (after (map localIn (take i locals)))
+    ≡ joinLocals (localsIn locals₀ n) (localsIn locals2 m) (graphIn names₀ edges₀ (p₀ .ours)) (graphIn names2₀ edges2₀ (p₀ .theirs))))
 
 abbrev μ-loop : tie.MeasureT-loop
-μ-loop locals₀ names₀ edges₀ their-locals their-names₀ their-edges₀ n m k p₀ i₀ locals names edges their-names their-edges p i = k - i
+μ-loop locals₀ names₀ edges₀ locals2 names2₀ edges2₀ n m k p₀ i₀ locals names edges names2 edges2 p i = k - i
 
-meets : (c : tie.After-local-word Inv-loop μ-loop) (g h : Graph) → stepBy ((c .before .before .meet) .result) g h ≡ joinLocal (localIn (getD ((c .before .before .before .before .before .before .before .before .loop) .locals) ((c .before .before .before .before .before .before .before .before .loop) .i) 0)) (localIn (getD ((c .before .before .before .before .before .before .before .before .before .before .before .before .before .before .args) .their-locals .now) ((c .before .before .before .before .before .before .before .before .loop) .i) 0)) g h
-meets c g h = (c .before .before .meet) .ensures g h ∙ (λ j. joinLocal ((c .before .before .before .before .before .local-of) .ensures j) ((c .before .before .before .local-of2) .ensures j) g h)
+-- what the two locals at i give
+meets : (c : tie.After-local-word Inv-loop μ-loop) (g h : Graph) →
+    let a = (c .before .before .before .before .before .before .before .before .before .before .before .before .before .args) in
+    let l = (c .before .before .before .before .before .before .before .loop) in
+    stepBy (c .before .meet .result) g h ≡ joinLocal (localIn (getD (l .locals) (l .i) 0)) (localIn (getD (a .locals2 .now) (l .i) 0)) g h
+meets c g h = (c .before .meet) .ensures g h ∙ (λ j. joinLocal ((c .before .before .before .before .local-of) .ensures j) ((c .before .before .local-of2) .ensures j) g h)
 
 count-requires : tie.Need-count-requires Inv-loop μ-loop
 count-requires c κs = search needs
@@ -78,103 +81,67 @@ mul-locals c = omega arith
 element-write-locals : tie.Need-element-write-locals Inv-loop μ-loop
 element-write-locals c = omega arith
 
+turn-requires : tie.Need-turn-requires Inv-loop μ-loop
+turn-requires c κs = search needs
+
+returns : tie.Need-returns Inv-loop μ-loop
+returns c =
+    let turn = (c .before .before .turn) in
+    let w = (c .before .before .before .before .before .before .before) in
+    let l = (w .before .before .before .before .before .before .before .loop) in
+    let s = (w .before .before .before .before .before .before .before .before .before .before) in
+    let a = (s .before .before .before .args) in
+    let n = (s .before .before .count) in
+    let m = (s .before .count2) in
+    let i : l .i < s .lesser .result = (w .before .before .before .before .before .before .loop-test) .taken in
+    λ fa fb.
+    let q = l .inv .2 (fa .locals) (fb .locals) (fa .tells) (fb .tells) in
+    let g = graphIn (l .names) (l .edges) (l .p .ours) in
+    let h = graphIn (l .names2) (l .edges2) (l .p .theirs) in
+    let e = turn .ensures (q .1) (q .2) in
+    record {
+      parts =
+          ends (l .locals) (a .locals2 .now) (n .result) (m .result) (l .i) (w .local-word .result) g h _ (q .0) (fb .locals)
+          (omega (arith, n .ensures)) (omega (arith, m .ensures)) (omega (arith, s .lesser .ensures)) (omega (arith, s .lesser .ensures)) (q .3) (turn .result .refusal) _ _
+          (written (turn .result .refusal) _ _ _ _ _ (w .local-word .ensures .0) (e .step) ∙ meets w g h) ((c .if1) .taken) _
+          ∙ (λ j. joinLocals (clip (a .locals .now) (a .s .«num_locals») (n .result) (fa .locals) (n .ensures) j) (clip (a .locals2 .now) (a .o .«num_locals») (m .result) (fb .locals) (m .ensures) j)
+          (graphIn (a .names .now) (a .edges .now) (a .s .«borrow_graph»)) (graphIn (a .names2 .now) (a .edges2 .now) (a .o .«borrow_graph»)));
+      locals = simp length-set (q .0);
+      ours = e .ours;
+      theirs = e .theirs;
+    }
+
 add-i : tie.Need-add-i Inv-loop μ-loop
-add-i c = omega arith
+add-i c =
+    let s = (c .before .before .before .before .before .before .before .before .before .before .before .before .before .before .before .before .before) in
+    omega (arith, (c .before .before .before .before .before .before .before .before .before .before .before .before .before .loop-test) .taken, s .lesser .ensures, s .before .before .count .ensures)
 
 loop-less : tie.Need-loop-less Inv-loop μ-loop
 loop-less c = omega arith
 
 loop-again : tie.Need-loop-again Inv-loop μ-loop
 loop-again c =
-    let a = (c .before .before .before .before .before .before .before .before .before .before .before .before .before .before .before .args) in
-    let count = (c .before .before .before .before .before .before .before .before .before .before .before .before .before .before .count) in
-    let count2 = (c .before .before .before .before .before .before .before .before .before .before .before .before .before .count2) in
-    let lesser = (c .before .before .before .before .before .before .before .before .before .before .before .before .lesser) in
-    let loop-test = (c .before .before .before .before .before .before .before .before .loop-test) in
-    let local-word = (c .before .local-word) in
-    let l = (c .before .before .before .before .before .before .before .before .before .loop) in
-    let i : l .i < lesser .result = loop-test .taken in (
+    let turn = (c .before .before .turn) in
+    let w = (c .before .before .before .before .before .before .before) in
+    let l = (w .before .before .before .before .before .before .before .loop) in
+    let s = (w .before .before .before .before .before .before .before .before .before .before) in
+    let a = (s .before .before .before .args) in
+    let n = (s .before .before .count) in
+    let m = (s .before .count2) in
+    let i : l .i < s .lesser .result = (w .before .before .before .before .before .before .loop-test) .taken in (
       omega arith,
-      l .inv .1,
+      (c .if1) .left,
       λ hl hm t u.
           let q = l .inv .2 hl hm t u in
           let g = graphIn (l .names) (l .edges) (l .p .ours) in
-          let h = graphIn (l .their-names) (l .their-edges) (l .p .theirs) in (
+          let h = graphIn (l .names2) (l .edges2) (l .p .theirs) in
+          let e = turn .ensures (q .1) (q .2) in (
             simp length-set (q .0),
-            q .1,
-            q .2,
-            goes-on (l .locals) (a .their-locals .now) (count .result) (count2 .result) (l .i) (local-word .result) g h _ (q .0) hm (omega (arith, count .ensures)) (omega (arith, count2 .ensures)) (omega (arith, lesser .ensures)) (omega (arith, lesser .ensures)) (q .3) 0 g h
-                ((λ j. ok (record { local = local-word .ensures .0 j; ours = g; theirs = h })) ∙ idle-step ((c .before .before .before .meet) .result) g h ((c .if1) .taken) ∙ meets ((c .before)) g h) refl,
-          ),
-    )
-
-act-requires : tie.Need-act-requires Inv-loop μ-loop
-act-requires c κs = search needs
-
-returns : tie.Need-returns Inv-loop μ-loop
-returns c =
-    let a′ = (c .before .before .before .before .before .before .before .before .before .before .before .before .before .before .before .before .before .before .before .before .before .before .before .before .args) in
-    let count = (c .before .before .before .before .before .before .before .before .before .before .before .before .before .before .before .before .before .before .before .before .before .before .before .count) in
-    let count2 = (c .before .before .before .before .before .before .before .before .before .before .before .before .before .before .before .before .before .before .before .before .before .before .count2) in
-    let lesser = (c .before .before .before .before .before .before .before .before .before .before .before .before .before .before .before .before .before .before .before .before .before .lesser) in
-    let loop-test = (c .before .before .before .before .before .before .before .before .before .before .before .before .before .before .before .before .before .loop-test) in
-    let meet = (c .before .before .before .before .before .before .before .before .before .before .before .before .meet) in
-    let local-word = (c .before .before .before .before .before .before .before .before .before .before .local-word) in
-    let earlier = (c .before .before .before .before .before .before .before .before .before .before) in
-    let if1 = (c .before .before .before .before .before .before .before .before .before .if1) in
-    let act = (c .before .before .act) in
-    let l = (c .before .before .before .before .before .before .before .before .before .before .before .before .before .before .before .before .before .before .loop) in
-    let i : l .i < lesser .result = loop-test .taken in
-    λ fa fb.
-    let q = l .inv .2 (fa .locals) (fb .locals) (fa .tells) (fb .tells) in
-    let g = graphIn (l .names) (l .edges) (l .p .ours) in
-    let h = graphIn (l .their-names) (l .their-edges) (l .p .theirs) in
-    let a = act .ensures (q .1) (q .2) in
-    record {
-      parts = ends (l .locals) (a′ .their-locals .now) (count .result) (count2 .result) (l .i) (local-word .result) g h _ (q .0) (fb .locals) (omega (arith, count .ensures)) (omega (arith, count2 .ensures)) (omega (arith, lesser .ensures)) (omega (arith, lesser .ensures)) (q .3) (act .result .refusal) _ _
-          (a .step (localIn (local-word .result)) ∙ ap (λ (y : S.Local). acted y (meet .result .action) g h) (local-word .ensures .0) ∙ busy-step (meet .result) g h (if1 .left) ∙ meets (earlier) g h) ((c .if2) .taken) _
-          ∙ (λ j. joinLocals (clip (a′ .locals .now) (a′ .s .«num_locals») (count .result) (fa .locals) (count .ensures) j) (clip (a′ .their-locals .now) (a′ .o .«num_locals») (count2 .result) (fb .locals) (count2 .ensures) j) (graphIn (a′ .names .now) (a′ .edges .now) (a′ .s .«borrow_graph»)) (graphIn (a′ .their-names .now) (a′ .their-edges .now) (a′ .o .«borrow_graph»)));
-      locals = simp length-set (q .0);
-      ours = a .ours;
-      theirs = a .theirs;
-    }
-
-add-i-2 : tie.Need-add-i-2 Inv-loop μ-loop
-add-i-2 c =
-    let count = (c .before .before .before .before .before .before .before .before .before .before .before .before .before .before .before .before .before .before .before .before .before .before .before .count) in
-    let lesser = (c .before .before .before .before .before .before .before .before .before .before .before .before .before .before .before .before .before .before .before .before .before .lesser) in
-    let loop-test = (c .before .before .before .before .before .before .before .before .before .before .before .before .before .before .before .before .before .loop-test) in
-    omega (arith, loop-test .taken, lesser .ensures, count .ensures)
-
-loop-less-2 : tie.Need-loop-less-2 Inv-loop μ-loop
-loop-less-2 c = omega (arith, (c .before .before .before .before .before .before .before .before .before .before .before .before .before .before .before .before .before .loop-test) .taken)
-
-loop-again-2 : tie.Need-loop-again-2 Inv-loop μ-loop
-loop-again-2 c =
-    let a′ = (c .before .before .before .before .before .before .before .before .before .before .before .before .before .before .before .before .before .before .before .before .before .before .before .before .args) in
-    let count = (c .before .before .before .before .before .before .before .before .before .before .before .before .before .before .before .before .before .before .before .before .before .before .before .count) in
-    let count2 = (c .before .before .before .before .before .before .before .before .before .before .before .before .before .before .before .before .before .before .before .before .before .before .count2) in
-    let lesser = (c .before .before .before .before .before .before .before .before .before .before .before .before .before .before .before .before .before .before .before .before .before .lesser) in
-    let loop-test = (c .before .before .before .before .before .before .before .before .before .before .before .before .before .before .before .before .before .loop-test) in
-    let meet = (c .before .before .before .before .before .before .before .before .before .before .before .before .meet) in
-    let local-word = (c .before .before .before .before .before .before .before .before .before .before .local-word) in
-    let earlier = (c .before .before .before .before .before .before .before .before .before .before) in
-    let if1 = (c .before .before .before .before .before .before .before .before .before .if1) in
-    let act = (c .before .before .act) in
-    let l = (c .before .before .before .before .before .before .before .before .before .before .before .before .before .before .before .before .before .before .loop) in
-    let i : l .i < lesser .result = loop-test .taken in (
-      omega arith,
-      (c .if2) .left,
-      λ hl hm t u.
-          let q = l .inv .2 hl hm t u in
-          let g = graphIn (l .names) (l .edges) (l .p .ours) in
-          let h = graphIn (l .their-names) (l .their-edges) (l .p .theirs) in
-          let a = act .ensures (q .1) (q .2) in (
-            simp length-set (q .0),
-            a .ours,
-            a .theirs,
-            goes-on (l .locals) (a′ .their-locals .now) (count .result) (count2 .result) (l .i) (local-word .result) g h _ (q .0) hm (omega (arith, count .ensures)) (omega (arith, count2 .ensures)) (omega (arith, lesser .ensures)) (omega (arith, lesser .ensures)) (q .3) (act .result .refusal) _ _
-                (a .step (localIn (local-word .result)) ∙ ap (λ (y : S.Local). acted y (meet .result .action) g h) (local-word .ensures .0) ∙ busy-step (meet .result) g h (if1 .left) ∙ meets (earlier) g h) ((c .if2) .left),
+            e .ours,
+            e .theirs,
+            goes-on (l .locals) (a .locals2 .now) (n .result) (m .result) (l .i) (w .local-word .result) g h _ (q .0) hm
+                (omega (arith, n .ensures)) (omega (arith, m .ensures)) (omega (arith, s .lesser .ensures)) (omega (arith, s .lesser .ensures)) (q .3) (turn .result .refusal) _ _
+                (written (turn .result .refusal) _ _ _ _ _ (w .local-word .ensures .0) (e .step) ∙ meets w g h) ((c .if1) .left),
           ),
     )
 
@@ -184,17 +151,22 @@ returns-2 c =
     let count = (c .before .before .before .before .before .before .before .count) in
     let count2 = (c .before .before .before .before .before .before .count2) in
     let l = (c .before .before .loop) in
-    let n = count .result in
-    let m = count2 .result in
-    let i : l .i ≡ n = omega (arith, (c .before .before .before .before .before .lesser) .ensures, (c .if3) .taken, (c .before .loop-test) .left) in
+    let n : ℕ = count .result in
+    let m : ℕ = count2 .result in
+    let i : l .i ≡ min n m = omega (arith, (c .before .before .before .before .before .lesser) .ensures, (c .before .loop-test) .left) in
     λ fa fb.
     let q = l .inv .2 (fa .locals) (fb .locals) (fa .tells) (fb .tells) in
+    let xs = localsIn (l .locals) n in
+    let ys = localsIn (a .locals2 .now) m in
+    let p : length (drop (l .i) xs) ≡ n - l .i = length-drop (l .i) xs ∙ ap (λ (k : ℕ). k - l .i) (locals-are (l .locals) n n (q .0) (omega (arith, count .ensures))) in
+    let r : length (drop (l .i) ys) ≡ m - l .i = length-drop (l .i) ys ∙ ap (λ (k : ℕ). k - l .i) (locals-are (a .locals2 .now) m m (fb .locals) (omega (arith, count2 .ensures))) in
+    let d : (length (drop (l .i) xs) ≡ 0) ⊎ (length (drop (l .i) ys) ≡ 0) = decide (leb n m)
+    (λ t. let k : n ≤ m = leb-le t in inl (omega (arith, p, i))) (λ t. let k : m < n = leb-gt t in inr (omega (arith, r, i))) in
     record {
-      parts = told-yes (l .p .refusal) _ (l .inv .1)
-          ∙ end-equal _ _ (graphIn (l .names) (l .edges) (l .p .ours)) (graphIn (l .their-names) (l .their-edges) (l .p .theirs)) (map localIn (take (l .i) (l .locals))) _ (q .3)
-          (locals-end (l .locals) n n (q .0) (omega (arith, count .ensures)) (l .i) (omega arith)) (locals-end (a .their-locals .now) m m (fb .locals) (omega (arith, count2 .ensures)) (l .i) (omega (arith, (c .if3) .taken))) _
-          (locals-all (l .locals) (a .s .«num_locals») n (q .0) (count .ensures) (l .i) i)
-          ∙ (λ j. joinLocals (clip (a .locals .now) (a .s .«num_locals») n (fa .locals) (count .ensures) j) (clip (a .their-locals .now) (a .o .«num_locals») m (fb .locals) (count2 .ensures) j) (graphIn (a .names .now) (a .edges .now) (a .s .«borrow_graph»)) (graphIn (a .their-names .now) (a .their-edges .now) (a .o .«borrow_graph»)));
+      parts = end-unequal (drop (l .i) xs) (drop (l .i) ys) (graphIn (l .names) (l .edges) (l .p .ours)) (graphIn (l .names2) (l .edges2) (l .p .theirs))
+          (map localIn (take (l .i) (l .locals))) _ (q .3) d (λ z. (c .if2) .taken (omega (arith, p, r, i)))
+          ∙ (λ j. joinLocals (clip (a .locals .now) (a .s .«num_locals») n (fa .locals) (count .ensures) j) (clip (a .locals2 .now) (a .o .«num_locals») m (fb .locals) (count2 .ensures) j)
+          (graphIn (a .names .now) (a .edges .now) (a .s .«borrow_graph»)) (graphIn (a .names2 .now) (a .edges2 .now) (a .o .«borrow_graph»)));
       locals = q .0;
       ours = q .1;
       theirs = q .2;
@@ -206,20 +178,19 @@ returns-3 c =
     let count = (c .before .before .before .before .before .before .before .count) in
     let count2 = (c .before .before .before .before .before .before .count2) in
     let l = (c .before .before .loop) in
-    let n : ℕ = count .result in
-    let m : ℕ = count2 .result in
-    let i : l .i ≡ min n m = omega (arith, (c .before .before .before .before .before .lesser) .ensures, (c .before .loop-test) .left) in
+    let n = count .result in
+    let m = count2 .result in
+    let i : l .i ≡ n = omega (arith, (c .before .before .before .before .before .lesser) .ensures, (c .if2) .left, (c .before .loop-test) .left) in
     λ fa fb.
     let q = l .inv .2 (fa .locals) (fb .locals) (fa .tells) (fb .tells) in
-    let xs = localsIn (l .locals) n in
-    let ys = localsIn (a .their-locals .now) m in
-    let p : length (drop (l .i) xs) ≡ n - l .i = length-drop (l .i) xs ∙ ap (λ (k : ℕ). k - l .i) (locals-are (l .locals) n n (q .0) (omega (arith, count .ensures))) in
-    let r : length (drop (l .i) ys) ≡ m - l .i = length-drop (l .i) ys ∙ ap (λ (k : ℕ). k - l .i) (locals-are (a .their-locals .now) m m (fb .locals) (omega (arith, count2 .ensures))) in
-    let d : (length (drop (l .i) xs) ≡ 0) ⊎ (length (drop (l .i) ys) ≡ 0) = decide (leb n m)
-    (λ t. let k : n ≤ m = leb-le t in inl (omega (arith, p, i))) (λ t. let k : m < n = leb-gt t in inr (omega (arith, r, i))) in
     record {
-      parts = end-unequal (drop (l .i) xs) (drop (l .i) ys) (graphIn (l .names) (l .edges) (l .p .ours)) (graphIn (l .their-names) (l .their-edges) (l .p .theirs)) (map localIn (take (l .i) (l .locals))) _ (q .3) d (λ z. (c .if3) .left (omega (arith, p, r, i)))
-          ∙ (λ j. joinLocals (clip (a .locals .now) (a .s .«num_locals») n (fa .locals) (count .ensures) j) (clip (a .their-locals .now) (a .o .«num_locals») m (fb .locals) (count2 .ensures) j) (graphIn (a .names .now) (a .edges .now) (a .s .«borrow_graph»)) (graphIn (a .their-names .now) (a .their-edges .now) (a .o .«borrow_graph»)));
+      parts = told-yes (l .p .refusal) _ (l .inv .1)
+          ∙ end-equal _ _ (graphIn (l .names) (l .edges) (l .p .ours)) (graphIn (l .names2) (l .edges2) (l .p .theirs)) (map localIn (take (l .i) (l .locals))) _ (q .3)
+          (locals-end (l .locals) n n (q .0) (omega (arith, count .ensures)) (l .i) (omega arith))
+          (locals-end (a .locals2 .now) m m (fb .locals) (omega (arith, count2 .ensures)) (l .i) (omega (arith, (c .if2) .left))) _
+          (locals-all (l .locals) (a .s .«num_locals») n (q .0) (count .ensures) (l .i) i)
+          ∙ (λ j. joinLocals (clip (a .locals .now) (a .s .«num_locals») n (fa .locals) (count .ensures) j) (clip (a .locals2 .now) (a .o .«num_locals») m (fb .locals) (count2 .ensures) j)
+          (graphIn (a .names .now) (a .edges .now) (a .s .«borrow_graph»)) (graphIn (a .names2 .now) (a .edges2 .now) (a .o .«borrow_graph»)));
       locals = q .0;
       ours = q .1;
       theirs = q .2;
@@ -245,13 +216,10 @@ join-locals-spec =
     local-word-requires
     mul-locals
     element-write-locals
+    turn-requires
+    returns
     add-i
     loop-less
     loop-again
-    act-requires
-    returns
-    add-i-2
-    loop-less-2
-    loop-again-2
     returns-2
     returns-3)

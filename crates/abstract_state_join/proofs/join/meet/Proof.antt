@@ -37,20 +37,27 @@ enum-told-2 c = search needs
 returns-2 : tie.Need-returns-2
 returns-2 c =
     let a′ = (c .before .before .before .before .before .before .before .before .before .args) in
-    λ g h. meet-ours (a′ .a .present) (a′ .b .present) (operandOf (a′ .a .value)) (operandOf (a′ .b .value)) g h _ _ ((c .before .before .before .before .before .before .if1) .left) ((c .before .before .before .before .before .absent) .ensures) (sym (ap operandOf ((c .before .v) .given .1)) ∙ (c .before .before .before .before .value-of) .ensures)
+    let if1 = (c .before .before .before .before .before .before .if1) in
+    let absent = (c .before .before .before .before .before .absent) in
+    λ g h. meet-ours (a′ .a .present) (a′ .b .present) (operandOf (a′ .a .value)) (operandOf (a′ .b .value)) g h _ _ (if1 .left) (absent .ensures)
+    (sym (ap operandOf ((c .before .v) .given .1)) ∙ (c .before .before .before .before .value-of) .ensures)
 
 returns-3 : tie.Need-returns-3
 returns-3 c =
     let a′ = (c .before .before .before .before .before .before .before .before .before .before .before .args) in
     let if1 = (c .before .before .before .before .before .before .before .before .if1) in
     let absent = (c .before .before .before .before .before .before .before .absent) in
-    λ g h. meet-theirs (a′ .a .present) (a′ .b .present) (operandOf (a′ .a .value)) (operandOf (a′ .b .value)) g h _ _ (if1 .left) (absent .ensures) (sym (ap operandOf ((c .before .w) .given .1)) ∙ (c .before .before .before .before .before .value-of2) .ensures)
+    λ g h. meet-theirs (a′ .a .present) (a′ .b .present) (operandOf (a′ .a .value)) (operandOf (a′ .b .value)) g h _ _ (if1 .left) (absent .ensures)
+    (sym (ap operandOf ((c .before .w) .given .1)) ∙ (c .before .before .before .before .before .value-of2) .ensures)
 
 returns-4 : tie.Need-returns-4
 returns-4 c =
     let a′ = (c .before .before .before .before .before .before .before .before .before .before .args) in
     let if1 = (c .before .before .before .before .before .before .before .if1) in
-    λ g h. meet-none (a′ .a .present) (a′ .b .present) (operandOf (a′ .a .value)) (operandOf (a′ .b .value)) g h _ (if1 .left) ((c .before .before .before .before .before .before .absent) .ensures) (sym (ap operandOf ((c .before .before .enum-told) .given .1)) ∙ (c .before .before .before .before .before .value-of) .ensures) (sym (ap operandOf ((c .enum-told2) .given .1)) ∙ (c .before .before .before .before .value-of2) .ensures)
+    let absent = (c .before .before .before .before .before .before .absent) in
+    λ g h. meet-none (a′ .a .present) (a′ .b .present) (operandOf (a′ .a .value)) (operandOf (a′ .b .value)) g h _ (if1 .left) (absent .ensures)
+    (sym (ap operandOf ((c .before .before .enum-told) .given .1)) ∙ (c .before .before .before .before .before .value-of) .ensures)
+    (sym (ap operandOf ((c .enum-told2) .given .1)) ∙ (c .before .before .before .before .value-of2) .ensures)
 
 pub meet-spec : {M : Type 1} → statement M
 meet-spec =

@@ -24,11 +24,14 @@ turn : (c : tie.In-loop Inv-loop μ-loop) → let a′ = (c .before .before .bef
     b && eqLocals (drop (loop .i + 1) (localsIn (a′ .a .now) (a′ .n))) (drop (loop .i + 1) (localsIn (a′ .b .now) (a′ .n))) ≡ eqLocals (localsIn (a′ .a .now) (a′ .n)) (localsIn (a′ .b .now) (a′ .n))
 turn c ha hb b e =
     let a = (c .before .before .before .args) in
+    let k = (c .before .before .count) in
     let l = (c .before .loop) in
     let xs = drop (l .i + 1) (localsIn (a .a .now) (a .n)) in
     let ys = drop (l .i + 1) (localsIn (a .b .now) (a .n)) in
     ap (λ (x : Bool). x && eqLocals xs ys) e
-    ∙ sym ((λ j. eqLocals (local-next (a .a .now) (a .n) ((c .before .before .count) .result) ha ((c .before .before .count) .ensures) (l .i) (omega arith) j) (local-next (a .b .now) (a .n) ((c .before .before .count) .result) hb ((c .before .before .count) .ensures) (l .i) (omega arith) j)) ∙ eqLocals-step (localIn (getD (a .a .now) (l .i) 0)) (localIn (getD (a .b .now) (l .i) 0)) xs ys) ∙ l .inv ha hb
+    ∙ sym ((λ j. eqLocals (local-next (a .a .now) (a .n) (k .result) ha (k .ensures) (l .i) (omega arith) j) (local-next (a .b .now) (a .n) (k .result) hb (k .ensures) (l .i) (omega arith) j))
+    ∙ eqLocals-step (localIn (getD (a .a .now) (l .i) 0)) (localIn (getD (a .b .now) (l .i) 0)) xs ys)
+    ∙ l .inv ha hb
 
 count-requires : tie.Need-count-requires Inv-loop μ-loop
 count-requires c κs = search needs

@@ -29,7 +29,8 @@ returns-2 c =
     λ es t.
     let a = (c .before .before .before .before .before .before .args) in
     let g = graphIn (a .names .now) es (a .g) in
-    declines _ (a .names .now) es (a .g) 23 refl (sym (new-23 g (a .id .0) (a .mutable) (sym (t .formed) ∙ (c .before .before .before .before .before .if1) .taken) (sym ((c .before .before .before .holds) .ensures (t .words)) ∙ (c .before .before .if2) .left) (omega (arith, names-size (a .names .now) (a .g .refs))))) t
+    declines _ (a .names .now) es (a .g) 23 refl (sym (new-23 g (a .id .0) (a .mutable) (sym (t .formed) ∙ (c .before .before .before .before .before .if1) .taken)
+    (sym ((c .before .before .before .holds) .ensures (t .words)) ∙ (c .before .before .if2) .left) (omega (arith, names-size (a .names .now) (a .g .refs))))) t
 
 place-requires : tie.Need-place-requires
 place-requires c κs = search needs

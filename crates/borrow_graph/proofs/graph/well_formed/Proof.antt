@@ -98,7 +98,9 @@ returns-2 c =
     let es = edgesIn (a .edges .now) (a .m) in
     let e = edges-step (a .edges .now) (a .m) _ (l .i) (omega (arith, edges-size (a .edges .now) (a .m), lesser .ensures, loop-test .taken)) in
     answer (a .names .now) (a .edges .now) (a .n) (a .m) few fit true false (sym (ascend .ensures few) ∙ not-false _ (if1 .left))
-    (sym (l .inv few fit) ∙ ap (chain q (l .count) (rowOf (l .last))) e ∙ chain-off q (l .count) (rowOf (l .last)) _ (drop (l .i + 1) es) _ _ ((c .before .before .before .before .pair-ok) .ensures few ∙ (λ i. q (parent .ensures i) ((c .before .before .before .before .before .child) .ensures i))) ((c .before .link) .ensures) ((c .if2) .left))
+    (sym (l .inv few fit) ∙ ap (chain q (l .count) (rowOf (l .last))) e ∙ chain-off q (l .count) (rowOf (l .last)) _ (drop (l .i + 1) es) _ _
+    ((c .before .before .before .before .pair-ok) .ensures few ∙ (λ i. q (parent .ensures i) ((c .before .before .before .before .before .child) .ensures i))) ((c .before .link) .ensures)
+    ((c .if2) .left))
 
 returns-3 : tie.Need-returns-3 Inv-loop μ-loop
 returns-3 c = λ few fit.

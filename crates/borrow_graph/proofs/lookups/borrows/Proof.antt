@@ -68,7 +68,8 @@ loop-again c =
       (c .add) .ensures .0 ∙ l .inv .0,
       λ few fit.
           let e = edges-step (a .edges .now) (a .m) [] (l .i) (omega (arith, edges-size (a .edges .now) (a .m), lesser .ensures, loop-test .taken)) in
-          ap (λ (s : Borrows). in′ s (drop (l .i + 1) es)) ((c .add) .ensures .1 few) ∙ borrow-hit ns (a .id .0) (filterOf (a .at)) (borrowsOf (l .found)) _ (drop (l .i + 1) es) (eq-eqb _ _ ((c .before .before .if1) .taken ∙ (c .before .before .before .before .before .parent) .ensures)) ∙ ap (in′ (borrowsOf (l .found))) (sym e) ∙ l .inv .1 few fit,
+          ap (λ (s : Borrows). in′ s (drop (l .i + 1) es)) ((c .add) .ensures .1 few) ∙ borrow-hit ns (a .id .0) (filterOf (a .at)) (borrowsOf (l .found)) _ (drop (l .i + 1) es)
+          (eq-eqb _ _ ((c .before .before .if1) .taken ∙ (c .before .before .before .before .before .parent) .ensures)) ∙ ap (in′ (borrowsOf (l .found))) (sym e) ∙ l .inv .1 few fit,
     )
 
 add-i-2 : tie.Need-add-i-2 Inv-loop μ-loop

@@ -68,11 +68,13 @@ loop-again c =
       omega (arith, loop-test .taken),
       λ e o ns w r p.
           let v = l .inv .2 e o ns w r p in
-          let s = keep-yes q (a .old .now) (a .m) (omega (arith, o, pre)) (l .i) (loop-test .taken) [] (sym ((c .before .before .before .before .before .is-moved) .ensures) ∙ (c .before .before .before .before .if1) .taken) in
+          let s = keep-yes q (a .old .now) (a .m) (omega (arith, o, pre)) (l .i) (loop-test .taken) []
+          (sym ((c .before .before .before .before .before .is-moved) .ensures) ∙ (c .before .before .before .before .if1) .taken) in
           going-turn ns (edgesIn (a .edges .now) (a .k)) (a .child .0) (pathAt (a .path)) (keep q es) (l .edges) (l .n) y (keep q (drop (l .i + 1) es))
           (subst (λ (ys : List GEdge). Going ns (edgesIn (a .edges .now) (a .k)) (a .child .0) (pathAt (a .path)) (keep q es) (l .edges) (l .n) ys) s v)
           (row-short (getD (a .old .now) (l .i) [])) ((c .add-edge) .last .0) ((c .add-edge) .result) ((c .add-edge) .ensures .0)
-          (subst (λ (x : GEdge). Added x (l .edges) (l .n) ((c .add-edge) .last .0) ((c .add-edge) .result)) ((c .before .before .factor) .ensures) ((c .add-edge) .ensures .1 (v .full) (wf-neat (graphWith ns (edgesIn (l .edges) (l .n))) (v .formed)))),
+          (subst (λ (x : GEdge). Added x (l .edges) (l .n) ((c .add-edge) .last .0) ((c .add-edge) .result)) ((c .before .before .factor) .ensures)
+          ((c .add-edge) .ensures .1 (v .full) (wf-neat (graphWith ns (edgesIn (l .edges) (l .n))) (v .formed)))),
     )
 
 add-i-2 : tie.Need-add-i-2 Inv-loop μ-loop
@@ -91,7 +93,8 @@ loop-again-2 c =
       omega (arith, (c .before .before .before .loop-test) .taken),
       λ e o ns w r p.
           subst (λ (ys : List GEdge). Going ns (edgesIn (a .edges .now) (a .k)) (a .child .0) (pathAt (a .path)) (keep q es) (l .edges) (l .n) ys)
-          (keep-no q (a .old .now) (a .m) (omega (arith, o, (c .before .before .before .before .before .pre))) (l .i) ((c .before .before .before .loop-test) .taken) [] (sym ((c .before .is-moved) .ensures) ∙ (c .if1) .left)) (l .inv .2 e o ns w r p),
+          (keep-no q (a .old .now) (a .m) (omega (arith, o, (c .before .before .before .before .before .pre))) (l .i) ((c .before .before .before .loop-test) .taken) []
+          (sym ((c .before .is-moved) .ensures) ∙ (c .if1) .left)) (l .inv .2 e o ns w r p),
     )
 
 returns : tie.Need-returns Inv-loop μ-loop

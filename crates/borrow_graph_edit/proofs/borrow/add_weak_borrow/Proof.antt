@@ -20,11 +20,14 @@ edge-requires : tie.Need-edge-requires
 edge-requires c κs = search needs
 
 add-edge-requires : tie.Need-add-edge-requires
-add-edge-requires c κs = test-few ((c .before .before .before .before .before .args) .g .formed) ((c .before .before .before .before .pair-ok) .result) ((c .before .before .before .before .before .args) .g .edges) ((c .before .before .if1) .taken)
+add-edge-requires c κs =
+    let g = (c .before .before .before .before .before .args) .g in
+    test-few (g .formed) ((c .before .before .before .before .pair-ok) .result) (g .edges) ((c .before .before .if1) .taken)
 
 returns : tie.Need-returns
 returns c =
     let a = (c .before .before .before .before .before .before .args) in
+    let pair-ok = (c .before .before .before .before .before .pair-ok) in
     let ns = a .names .now in
     let es = a .edges .now in
     let g = graphIn ns es (a .g) in
@@ -32,7 +35,7 @@ returns c =
     let path = pathAt (a .path) in
     let k = a .child .0 in
     λ t.
-    let y = test-yes (a .g .formed) ((c .before .before .before .before .before .pair-ok) .result) (a .g .edges) (wellFormed g) (pairOk (g .names) p k) (t .formed) ((c .before .before .before .before .before .pair-ok) .ensures (t .words)) ((c .before .before .before .if1) .taken) in
+    let y = test-yes (a .g .formed) (pair-ok .result) (a .g .edges) (wellFormed g) (pairOk (g .names) p k) (t .formed) (pair-ok .ensures (t .words)) ((c .before .before .before .if1) .taken) in
     let w = and-l (wellFormed g) (pairOk (g .names) p k) y in
     let d = subst (λ (x : GEdge). Added x es (a .g .edges) ((c .add-edge) .last .0) ((c .add-edge) .result)) ((c .before .before .edge) .ensures) ((c .add-edge) .ensures .1 (t .rows) (wf-neat g w)) in
     let u = added-edits (between p (record { strong = false; path = path }) k) es (a .g .edges) ((c .add-edge) .last .0) ((c .add-edge) .result) d (g .names) in
@@ -42,6 +45,7 @@ returns c =
 returns-2 : tie.Need-returns-2
 returns-2 c =
     let a = (c .before .before .before .args) in
+    let pair-ok = (c .before .before .pair-ok) in
     let ns = a .names .now in
     let es = a .edges .now in
     let g = graphIn ns es (a .g) in
@@ -49,7 +53,7 @@ returns-2 c =
     let path = pathAt (a .path) in
     let k = a .child .0 in
     λ t. answers-9 (borrowWeak g p path k) ns es (a .g) t (sym (weak-9 g p path k
-    (test-no (a .g .formed) ((c .before .before .pair-ok) .result) (a .g .edges) (wellFormed g) (pairOk (g .names) p k) (t .formed) ((c .before .before .pair-ok) .ensures (t .words)) (t .edges) ((c .if1) .left))))
+    (test-no (a .g .formed) (pair-ok .result) (a .g .edges) (wellFormed g) (pairOk (g .names) p k) (t .formed) (pair-ok .ensures (t .words)) (t .edges) ((c .if1) .left))))
 
 pub add-weak-borrow-spec : {M : Type 1} → statement M
 add-weak-borrow-spec =

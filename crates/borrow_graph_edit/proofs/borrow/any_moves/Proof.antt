@@ -1,11 +1,12 @@
 use mathlib.Core.List.{[]}
-use Rattle.borrow_graph_edit.specs.RowLaws.{any-found, any-on, any-none}
-use mathlib.Core.Path.{_≡_, refl, sym, _∙_}
+use mathlib.Core.Path.{_≡_, refl}
 use Prim.Native.Nat.{_-_, _≤_}
 use lib.ListN.{length, drop}
 use Rattle.meaning.specs.Lists.{any}
 use Rattle.meaning.specs.BorrowGraph.{moves}
+use Rattle.meaning.specs.Laws.Search.{any-found, any-on, any-none}
 use Rattle.references.specs.Models.{edgesIn, pathAt}
+use Rattle.references.specs.ModelLaws.{edges-next, edges-over}
 use native.Mathlib.Omega.{arith}
 use borrow.Author.Needs.{needs}
 use Rattle.borrow_graph_edit.proofs.borrow.any_moves.Statement.{statement}
@@ -33,8 +34,10 @@ is-moved-requires c κs = search needs
 returns : tie.Need-returns Inv-loop μ-loop
 returns c =
     let a = (c .before .before .before .before .before .args) in
+    let pre = (c .before .before .before .before .before .pre) in
+    let loop-test = (c .before .before .before .loop-test) in
     let l = (c .before .before .before .before .loop) in
-    λ e. any-found (moves (a .parent .0) (pathAt (a .path))) (a .edges .now) (a .m) (omega (arith, e, (c .before .before .before .before .before .pre))) (l .i) _ (l .inv .1 e) ((c .before .before .before .loop-test) .taken) [] (sym ((c .before .is-moved) .ensures) ∙ (c .if1) .taken)
+    λ e. any-found (moves (a .parent .0) (pathAt (a .path))) _ _ _ _ (edges-next (a .edges .now) (a .m) [] (l .i) (loop-test .taken) (omega (arith, e, pre))) (l .inv .1 e) _ ((c .before .is-moved) .ensures) ((c .if1) .taken)
 
 add-i : tie.Need-add-i Inv-loop μ-loop
 add-i c = omega arith
@@ -46,13 +49,17 @@ loop-again : tie.Need-loop-again Inv-loop μ-loop
 loop-again c =
     let a = (c .before .before .before .before .before .args) in
     let loop-test = (c .before .before .before .loop-test) in
-    let l = (c .before .before .before .before .loop) in
-    (omega (arith, loop-test .taken), λ e. any-on (moves (a .parent .0) (pathAt (a .path))) (a .edges .now) (a .m) (omega (arith, e, (c .before .before .before .before .before .pre))) (l .i) _ (l .inv .1 e) (loop-test .taken) [] (sym ((c .before .is-moved) .ensures) ∙ (c .if1) .left))
+    let pre = (c .before .before .before .before .before .pre) in
+    let l = (c .before .before .before .before .loop) in (
+      omega (arith, loop-test .taken),
+      λ e. any-on (moves (a .parent .0) (pathAt (a .path))) _ _ _ _ (edges-next (a .edges .now) (a .m) [] (l .i) (loop-test .taken) (omega (arith, e, pre))) (l .inv .1 e) _ ((c .before .is-moved) .ensures) ((c .if1) .left),
+    )
 
 returns-2 : tie.Need-returns-2 Inv-loop μ-loop
 returns-2 c =
+    let a = (c .before .before .args) in
     let l = (c .before .loop) in
-    λ e. any-none (moves ((c .before .before .args) .parent .0) (pathAt ((c .before .before .args) .path))) ((c .before .before .args) .edges .now) ((c .before .before .args) .m) (omega (arith, e, (c .before .before .pre))) (l .i) _ (l .inv .1 e) (omega (arith, (c .loop-test) .left))
+    λ e. any-none (moves (a .parent .0) (pathAt (a .path))) _ _ (edges-over (a .edges .now) (a .m) (l .i) (omega (arith, (c .loop-test) .left)) (omega (arith, e, (c .before .before .pre)))) (l .inv .1 e)
 
 pub any-moves-spec : {M : Type 1} → statement M
 any-moves-spec =

@@ -1,6 +1,7 @@
 use mathlib.Core.Path.{_≡_, refl, sym, _∙_, subst}
 use Prim.Native.Nat.{_≤_}
 use lib.ListN.{length}
+use Rattle.meaning.specs.Limits.{maxEdges}
 use Rattle.meaning.specs.BorrowGraph.{GEdge, Name, wellFormed, pairOk, borrowStrong}
 use Rattle.meaning.specs.Laws.Pass.{wf-neat}
 use Rattle.references.specs.Models.{edgesIn, pathAt, told}
@@ -15,9 +16,13 @@ use Rattle.borrow_graph_edit.proofs.borrow.factor_below.Statement.{stat
 use Rattle.borrow_graph_edit.proofs.borrow.factor_below.Tie as tie
 
 -- what the last edge makes of the rows with the moved edges
-last : (c : tie.After-add-edge) → let a = (c .before .before .before .before .before .before .before .before .before .before .before .before .args) in let es = edgesIn (a .edges .now) (a .m) in let r = (c .add-edge) .result in
-    length (a .edges .now) ≡ 96 → (ns : List Name) → wellFormed (graphWith ns es) && pairOk ns (a .parent .0) (a .child .0) ≡ true
-    → (told (r .refusal) (graphWith ns (edgesIn ((c .add-edge) .last .0) (r .edges))) ≡ borrowStrong (graphWith ns es) (a .parent .0) (pathAt (a .path)) (a .child .0)) × (length ((c .add-edge) .last .0) ≡ 96)
+last : (c : tie.After-add-edge) →
+    let a = (c .before .before .before .before .before .before .before .before .before .before .before .before .args) in
+    let es = edgesIn (a .edges .now) (a .m) in
+    let r = (c .add-edge) .result in
+    let fs = edgesIn ((c .add-edge) .last .0) (r .edges) in
+    length (a .edges .now) ≡ maxEdges → (ns : List Name) → wellFormed (graphWith ns es) && pairOk ns (a .parent .0) (a .child .0) ≡ true
+    → (told (r .refusal) (graphWith ns fs) ≡ borrowStrong (graphWith ns es) (a .parent .0) (pathAt (a .path)) (a .child .0)) × (length ((c .add-edge) .last .0) ≡ maxEdges)
 last c =
     let pre = (c .before .before .before .before .before .before .before .before .before .before .before .before .pre) in
     let none-ends-at = (c .before .before .before .before .before .before .before .before .before .before .none-ends-at) in
@@ -35,9 +40,11 @@ last c =
     let o = take-out .ensures .1 e in
     let fs = edgesIn (take-out .last .0) (take-out .result) in
     let n : length fs ≡ take-out .result = edges-count (take-out .last .0) (take-out .result) (omega (arith, o .0, take-out .ensures .0, pre)) in
-    let v = add-moved .ensures .1 (o .0) e ns (staying-formed ns es p path k t s few fs (o .1)) (moving-fits ns es p path k t s few (take-out .result) fs n (o .1)) (moving-pairs ns es p path k t s few) in
+    let v = add-moved .ensures .1 (o .0) e ns (staying-formed ns es p path k t s few fs (o .1))
+    (moving-fits ns es p path k t s few (take-out .result) fs n (o .1)) (moving-pairs ns es p path k t s few) in
     let hs = edgesIn (add-moved .last .0) (add-moved .result) in
-    let d = subst (λ (x : GEdge). Added x (add-moved .last .0) (add-moved .result) ((c .add-edge) .last .0) ((c .add-edge) .result)) ((c .before .before .edge) .ensures) ((c .add-edge) .ensures .1 (v .0) (wf-neat (graphWith ns hs) (v .1 .formed))) in
+    let d = subst (λ (x : GEdge). Added x (add-moved .last .0) (add-moved .result) ((c .add-edge) .last .0) ((c .add-edge) .result)) ((c .before .before .edge) .ensures)
+    ((c .add-edge) .ensures .1 (v .0) (wf-neat (graphWith ns hs) (v .1 .formed))) in
     let u = added-edits (strong ns es p path k) (add-moved .last .0) (add-moved .result) ((c .add-edge) .last .0) ((c .add-edge) .result) d ns in
     (u .0 ∙ sym (strong-moved ns es p path k t s few fs hs (o .1) (v .1)), u .2)
 
@@ -65,14 +72,22 @@ returns-2 c =
     let r = (c .before .before .add-edge) .result in (
       (c .before .before .before .before .before .before .before .before .before .before .before .before .before .before .pre),
       λ e ns t.
-          let v = last (c .before .before) e ns t in
-          (told-no (r .refusal) (graphWith ns (edgesIn (a .edges .now) (a .m))) ((c .if2) .left) ∙ sym (told-no (r .refusal) (graphWith ns (edgesIn ((c .before .before .add-edge) .last .0) (r .edges))) ((c .if2) .left)) ∙ v .0, λ y. (refl, refl), e),
+          let v = last (c .before .before) e ns t in (
+            told-no (r .refusal) (graphWith ns (edgesIn (a .edges .now) (a .m))) ((c .if2) .left)
+                ∙ sym (told-no (r .refusal) (graphWith ns (edgesIn ((c .before .before .add-edge) .last .0) (r .edges))) ((c .if2) .left)) ∙ v .0,
+            λ y. (refl, refl),
+            e,
+          ),
     )
 
 returns-3 : tie.Need-returns-3
 returns-3 c =
-    let a = (c .before .before .before .args) in
-    ((c .before .before .before .pre), λ e ns t. (sym (strong-ends ns (edgesIn (a .edges .now) (a .m)) (a .parent .0) (pathAt (a .path)) (a .child .0) (sym ((c .before .none-ends-at) .ensures e) ∙ (c .if1) .left)), λ y. (refl, refl), e))
+    let a = (c .before .before .before .args) in (
+      (c .before .before .before .pre),
+      λ e ns t.
+          let ends = sym ((c .before .none-ends-at) .ensures e) ∙ (c .if1) .left in
+          (sym (strong-ends ns (edgesIn (a .edges .now) (a .m)) (a .parent .0) (pathAt (a .path)) (a .child .0) ends), λ y. (refl, refl), e),
+    )
 
 pub factor-below-spec : {M : Type 1} → statement M
 factor-below-spec =

@@ -5,6 +5,7 @@ use mathlib.Core.Path.{_≡_, refl, sym, _∙_}
 use Prim.Native.Nat.{_-_, _≤_}
 use lib.Dec.{eqb}
 use lib.ListN.{length, drop}
+use Rattle.meaning.specs.Limits.{maxEdges}
 use Rattle.meaning.specs.Lists.{all, keep}
 use Rattle.meaning.specs.BorrowGraph.{moves}
 use Rattle.references.specs.Models.{edgesIn, pathAt}
@@ -15,7 +16,10 @@ use Rattle.borrow_graph_edit.proofs.borrow.none_ends_at.Tie as tie
 
 abbrev Inv-loop : tie.InvT-loop
 Inv-loop edges m parent path child i₀ i =
-    (i ≤ m) × (length edges ≡ 96 → all (λ x. not (eqb (child .0) (x .child))) (keep (moves (parent .0) (pathAt path)) (drop i (edgesIn edges m))) ≡ all (λ x. not (eqb (child .0) (x .child))) (keep (moves (parent .0) (pathAt path)) (edgesIn edges m)))
+    (i ≤ m)
+    × (length edges ≡ maxEdges
+    → all (λ x. not (eqb (child .0) (x .child))) (keep (moves (parent .0) (pathAt path)) (drop i (edgesIn edges m)))
+    ≡ all (λ x. not (eqb (child .0) (x .child))) (keep (moves (parent .0) (pathAt path)) (edgesIn edges m)))
 
 abbrev μ-loop : tie.MeasureT-loop
 μ-loop edges m parent path child i₀ i = m - i
@@ -71,7 +75,8 @@ returns-2 : tie.Need-returns-2 Inv-loop μ-loop
 returns-2 c =
     let a = (c .before .before .args) in
     let l = (c .before .loop) in
-    λ e. none-all (moves (a .parent .0) (pathAt (a .path))) (λ x. eqb (a .child .0) (x .child)) (a .edges .now) (a .m) (omega (arith, e, (c .before .before .pre))) (l .i) _ (l .inv .1 e) (omega (arith, (c .loop-test) .left))
+    λ e. none-all (moves (a .parent .0) (pathAt (a .path))) (λ x. eqb (a .child .0) (x .child)) (a .edges .now) (a .m) (omega (arith, e, (c .before .before .pre))) (l .i) _ (l .inv .1 e)
+    (omega (arith, (c .loop-test) .left))
 
 pub none-ends-at-spec : {M : Type 1} → statement M
 none-ends-at-spec =

@@ -1,20 +1,26 @@
-use mathlib.Core.List.{[], _++_}
-use Rattle.borrow_graph_edit.specs.RowLaws.{keep-none, keep-off, keep-here, keep-all}
+use mathlib.Core.List.{List, [], _++_}
+use Rattle.borrow_graph_edit.specs.RowLaws.{keep-none, keep-off, keep-on, keep-all}
 use mathlib.Core.Path.{_≡_, sym, ap, _∙_}
-use mathlib.Core.Bool.{not}
-use Prim.Native.Nat.{_-_, _≤_}
+use mathlib.Core.Bool.{Bool, not}
+use Prim.Native.Nat.{ℕ, _-_, _≤_}
 use lib.ListN.{length, drop, length-set}
+use Rattle.meaning.specs.Limits.{maxEdges}
 use Rattle.meaning.specs.Lists.{keep}
-use Rattle.meaning.specs.BorrowGraph.{moves}
+use Rattle.meaning.specs.BorrowGraph.{GEdge, moves}
 use Rattle.references.specs.Models.{edgesIn, pathAt}
 use native.Mathlib.Omega.{arith}
 use borrow.Author.Needs.{needs}
 use Rattle.borrow_graph_edit.proofs.borrow.take_out.Statement.{statement}
 use Rattle.borrow_graph_edit.proofs.borrow.take_out.Tie as tie
 
+abbrev stays : ℕ → List ℕ → GEdge → Bool
+stays p f x = not (moves p f x)
+
 abbrev Inv-loop : tie.InvT-loop
 Inv-loop edges₀ m parent path j₀ i₀ edges j i =
-    (j ≤ i) × (i ≤ m) × (m ≤ 96) × (length edges₀ ≡ 96 → (length edges ≡ 96) × (edgesIn edges j ++ keep (λ x. not (moves (parent .0) (pathAt path) x)) (drop i (edgesIn edges m)) ≡ keep (λ x. not (moves (parent .0) (pathAt path) x)) (edgesIn edges₀ m)))
+    (j ≤ i) × (i ≤ m) × (m ≤ maxEdges)
+    × (length edges₀ ≡ maxEdges → (length edges ≡ maxEdges)
+    × (edgesIn edges j ++ keep (stays (parent .0) (pathAt path)) (drop i (edgesIn edges m)) ≡ keep (stays (parent .0) (pathAt path)) (edgesIn edges₀ m)))
 
 abbrev μ-loop : tie.MeasureT-loop
 μ-loop edges₀ m parent path j₀ i₀ edges j i = m - i
@@ -47,7 +53,8 @@ loop-again c =
       l .inv .2,
       λ e. let v = l .inv .3 e in (
         v .0,
-        keep-off (λ x. not (moves (a .parent .0) (pathAt (a .path)) x)) (l .edges) (a .m) (omega (arith, v .0, l .inv .2)) (l .edges) (l .j) (l .i) _ (v .1) (loop-test .taken) [] (ap not (sym ((c .before .is-moved) .ensures) ∙ (c .if1) .taken)),
+        keep-off (stays (a .parent .0) (pathAt (a .path))) (l .edges) (a .m) (omega (arith, v .0, l .inv .2)) (l .j) (l .i) _ (v .1) (loop-test .taken) []
+            (ap not (sym ((c .before .is-moved) .ensures) ∙ (c .if1) .taken)),
       ),
     )
 
@@ -82,17 +89,20 @@ loop-again-2 c =
       l .inv .2,
       λ e. let v = l .inv .3 e in (
         simp length-set (v .0),
-        keep-here (λ x. not (moves (a .parent .0) (pathAt (a .path)) x)) (l .edges) (a .m) (omega (arith, v .0, l .inv .2)) (l .j) (l .i) _ (v .1) (loop-test .taken) (l .inv .0) [] (ap not (sym ((c .before .before .is-moved) .ensures) ∙ (c .before .if1) .left)),
+        keep-on (stays (a .parent .0) (pathAt (a .path))) (l .edges) (a .m) (omega (arith, v .0, l .inv .2)) (l .j) (l .i) _ (v .1) (loop-test .taken) []
+            (ap not (sym ((c .before .before .is-moved) .ensures) ∙ (c .before .if1) .left)) (l .inv .0),
       ),
     )
 
 returns : tie.Need-returns Inv-loop μ-loop
 returns c =
+    let a = (c .before .before .args) in
     let l = (c .before .loop) in (
       omega (arith, l .inv .0, l .inv .1),
       λ e. let v = l .inv .3 e in (
         v .0,
-        keep-all (λ x. not (moves ((c .before .before .args) .parent .0) (pathAt ((c .before .before .args) .path)) x)) (l .edges) ((c .before .before .args) .m) (omega (arith, v .0, l .inv .2)) (l .edges) (l .j) (l .i) _ (v .1) (omega (arith, (c .loop-test) .left)),
+        keep-all (stays (a .parent .0) (pathAt (a .path))) (l .edges) (a .m) (omega (arith, v .0, l .inv .2)) (l .j) (l .i) _ (v .1)
+            (omega (arith, (c .loop-test) .left)),
       ),
     )
 

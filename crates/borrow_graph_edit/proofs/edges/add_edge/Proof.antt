@@ -1,7 +1,7 @@
 use mathlib.Core.Path.{_≡_, refl, sym, ap, _∙_}
 use mathlib.Core.Bool.{false}
 use mathlib.Core.List.{List, _∷_, _++_}
-use Prim.Native.Nat.{ℕ, _+_, _-_, _≤_, _<_, min}
+use Prim.Native.Nat.{_+_, _-_}
 use lib.ListN.{length, take, drop}
 use Rattle.meaning.specs.Answers.{Ans, ok}
 use Rattle.meaning.specs.Lists.{keep}
@@ -33,12 +33,16 @@ returns c = c .add-more .ensures
 
 returns-2 : tie.Need-returns-2
 returns-2 c =
+    let pre = (c .before .before .before .before .before .before .before .before .before .pre) in
+    let parent′ = (c .before .before .before .before .before .before .before .parent) in
+    let child′ = (c .before .before .before .before .before .child) in
+    let place = (c .before .before .before .place) in
     let a = (c .before .before .before .before .before .before .before .before .before .args) in
     let es = edgesIn (a .edges .now) (a .m) in (
-      (c .before .before .before .before .before .before .before .before .before .pre),
+      pre,
       λ e w.
-          let n = edges-count (a .edges .now) (a .m) (omega (arith, e, (c .before .before .before .before .before .before .before .before .before .pre))) in
-          let s = (c .before .before .before .place) .ensures .1 e .1 ∙ (λ i. length (edgesAt ((c .before .before .before .before .before .before .before .parent) .ensures i) ((c .before .before .before .before .before .child) .ensures i) es)) in
+          let n = edges-count (a .edges .now) (a .m) (omega (arith, e, pre)) in
+          let s = place .ensures .1 e .1 ∙ (λ i. length (edgesAt (parent′ .ensures i) (child′ .ensures i) es)) in
           (e, sym (first-over es (rowOf (a .t3)) 0 w (row-short (a .t3)) (omega (arith, s, (c .before .if1) .left)) (omega (arith, n, c .if2 .taken))), λ z. (refl, refl)),
     )
 
@@ -57,6 +61,7 @@ returns-3 c =
     let parent′ = (c .before .before .before .before .before .before .before .before .before .before .before .parent) in
     let child′ = (c .before .before .before .before .before .before .before .before .before .child) in
     let place = (c .before .before .before .before .before .before .before .place) in
+    let if1 = (c .before .before .before .before .before .if1) in
     let if2 = (c .before .before .before .before .if2) in
     let tagged = (c .before .before .tagged) in
     let a = (c .before .before .before .before .before .before .before .before .before .before .before .before .before .args) in
@@ -71,7 +76,7 @@ returns-3 c =
           let z = c .insert-at .ensures e in (
             z .0,
             ap {B = Ans (List GEdge)} ok (z .1 ∙ ap (λ (g : GEdge). take (place .result .low) es ++ (g ∷ drop (place .result .low) es)) y)
-                ∙ sym (first-fits es (rowOf (a .t3)) (place .result .low) w (row-short (a .t3)) (omega (arith, s, (c .before .before .before .before .before .if1) .left)) b (omega (arith, n, if2 .left))),
+                ∙ sym (first-fits es (rowOf (a .t3)) (place .result .low) w (row-short (a .t3)) (omega (arith, s, if1 .left)) b (omega (arith, n, if2 .left))),
             λ q. absurd (q refl),
           ),
     )

@@ -1,17 +1,17 @@
-use mathlib.Core.Path.{_≡_, refl, sym, ap, _∙_}
-use mathlib.Core.Bool.{true}
-use mathlib.Core.List.{List, _∷_, _++_}
-use Prim.Native.Nat.{ℕ, _+_, _-_, _≤_, _<_, min}
+use mathlib.Core.Path.{_≡_, refl, ap, _∙_}
+use mathlib.Core.List.{_++_}
+use Prim.Native.Nat.{_+_, _-_}
 use lib.ListN.{length, take, drop}
-use Rattle.meaning.specs.Answers.{Ans, ok}
+use Rattle.meaning.specs.Limits.{maxEdges, maxSetSize}
+use Rattle.meaning.specs.Answers.{ok}
 use Rattle.meaning.specs.References.{EdgeSet, insert, offer}
 use Rattle.meaning.specs.Lists.{keep}
-use Rattle.meaning.specs.BorrowGraph.{GEdge, isBefore, setAt, setTo}
+use Rattle.meaning.specs.BorrowGraph.{isBefore, setAt}
 use Rattle.meaning.specs.BorrowGraph as G
 use Rattle.meaning.specs.Laws.Pass.{neat-few}
 use Rattle.meaning.specs.Laws.Pair.{Neat}
 use Rattle.meaning.specs.Refinement.Pairs.{edgesAt}
-use Rattle.references.specs.Models.{rowOf, edgesIn, setIn, setEdges, told}
+use Rattle.references.specs.Models.{rowOf, edgesIn, setIn}
 use Rattle.references.specs.ModelLaws.{edges-count, set-count}
 use Rattle.borrow_graph_edit.specs.Replaces.{row-short, taken-in, cut-in, more-over, more-fits}
 use native.Mathlib.Omega.{arith}
@@ -20,25 +20,34 @@ use Rattle.borrow_graph_edit.proofs.edges.add_more.Statement.{statement
 use Rattle.borrow_graph_edit.proofs.edges.add_more.Tie as tie
 
 -- what is known once the edge was inserted into the pair's set
-found : (c : tie.After-insert) (e : length ((c .before .before .before .before .before .before .before .before .before .before .args) .edges .now) ≡ 96) (w : Neat (edgesIn ((c .before .before .before .before .before .before .before .before .before .before .args) .edges .now) ((c .before .before .before .before .before .before .before .before .before .before .args) .m))) →
+found : (c : tie.After-insert) →
     let a = (c .before .before .before .before .before .before .before .before .before .before .args) in
+    let between = (c .before .before .before .between) in
     let es = edgesIn (a .edges .now) (a .m) in
-    (length ((c .insert) .last .0) ≡ 10)
-    × (insert (setAt (rowOf (a .t3) .parent) (rowOf (a .t3) .child) es) (rowOf (a .t3) .edge) ≡ ok (setIn ((c .insert) .last .0) ((c .insert) .result .set)))
-    × ((c .before .before .before .between) .result .low ≡ length (keep (isBefore (rowOf (a .t3) .parent) (rowOf (a .t3) .child)) es))
-    × ((c .before .before .before .between) .result .set .len ≡ length (edgesAt (rowOf (a .t3) .parent) (rowOf (a .t3) .child) es))
+    let x = rowOf (a .t3) in
+    length (a .edges .now) ≡ maxEdges → Neat es
+    → (length ((c .insert) .last .0) ≡ maxSetSize)
+    × (insert (setAt (x .parent) (x .child) es) (x .edge) ≡ ok (setIn ((c .insert) .last .0) ((c .insert) .result .set)))
+    × (between .result .low ≡ length (keep (isBefore (x .parent) (x .child)) es))
+    × (between .result .set .len ≡ length (edgesAt (x .parent) (x .child) es))
 found c e w =
     let a = (c .before .before .before .before .before .before .before .before .before .before .args) in
+    let parent′ = (c .before .before .before .before .before .before .before .before .parent) in
+    let child′ = (c .before .before .before .before .before .before .child) in
+    let between = (c .before .before .before .between) in
+    let insert′ = (c .insert) in
     let es = edgesIn (a .edges .now) (a .m) in
-    let b = (c .before .before .before .between) .ensures .2 e refl in
-    let g = b .1 (neat-few es ((c .before .before .before .before .before .before .before .before .parent) .result .0) ((c .before .before .before .before .before .before .child) .result .0) w) in
-    let s = g .0 ∙ (λ i. setAt ((c .before .before .before .before .before .before .before .before .parent) .ensures i) ((c .before .before .before .before .before .before .child) .ensures i) es) in
-    let t = (c .insert) .ensures (b .0) in (
+    let x = rowOf (a .t3) in
+    let b = between .ensures .2 e refl in
+    let g = b .1 (neat-few es (parent′ .result .0) (child′ .result .0) w) in
+    let s = g .0 ∙ (λ i. setAt (parent′ .ensures i) (child′ .ensures i) es) in
+    let t = insert′ .ensures (b .0) in
+    let k = set-count (between .last .1 .1 .1 .1 .0) (between .result .set .len) (b .0) in (
       t .1,
-      taken-in (setAt (rowOf (a .t3) .parent) (rowOf (a .t3) .child) es) (setIn ((c .insert) .last .0) ((c .insert) .result .set)) (rowOf (a .t3) .edge) ((c .insert) .result .refusal) (row-short (a .t3))
-          (t .0 ∙ ap (λ (u : EdgeSet). offer u (ok (rowOf (a .t3) .edge))) s),
-      g .1 ∙ (λ i. length (keep (isBefore ((c .before .before .before .before .before .before .before .before .parent) .ensures i) ((c .before .before .before .before .before .before .child) .ensures i)) es)),
-      omega (arith, set-count ((c .before .before .before .between) .last .1 .1 .1 .1 .0) ((c .before .before .before .between) .result .set .len) (b .0), (c .before .before .before .between) .ensures .1, ap (λ (u : EdgeSet). length (u .edges)) s),
+      taken-in (setAt (x .parent) (x .child) es) (setIn (insert′ .last .0) (insert′ .result .set)) (x .edge) (insert′ .result .refusal) (row-short (a .t3))
+          (t .0 ∙ ap (λ (u : EdgeSet). offer u (ok (x .edge))) s),
+      g .1 ∙ (λ i. length (keep (isBefore (parent′ .ensures i) (child′ .ensures i)) es)),
+      omega (arith, k, between .ensures .1, ap (λ (u : EdgeSet). length (u .edges)) s),
     )
 
 parent-requires : tie.Need-parent-requires
@@ -73,8 +82,12 @@ returns c =
       λ e w.
           let n = edges-count (a .edges .now) (a .m) (omega (arith, e, pre)) in
           let f = found (c .before .before .before) e w in
-          let k = set-count (insert′ .last .0) (insert′ .result .set .len) (f .0) in
-          (e, more-over (rowOf (a .t3)) es (setIn (insert′ .last .0) (insert′ .result .set)) (f .1) (omega (arith, n, k, f .3, (c .before .len) .ensures, c .if1 .taken, between .ensures .0)), λ z. (refl, refl)),
+          let k = set-count (insert′ .last .0) (insert′ .result .set .len) (f .0) in (
+            e,
+            more-over (rowOf (a .t3)) es (setIn (insert′ .last .0) (insert′ .result .set)) (f .1)
+                (omega (arith, n, k, f .3, (c .before .len) .ensures, c .if1 .taken, between .ensures .0)),
+            λ z. (refl, refl),
+          ),
     )
 
 replace-requires : tie.Need-replace-requires
@@ -98,10 +111,12 @@ returns-2 c =
           let k = set-count (insert′ .last .0) (insert′ .result .set .len) (f .0) in
           let t = setIn (insert′ .last .0) (insert′ .result .set) in
           let z = c .replace .ensures .1 e (f .0) in
-          let y = z .1 ∙ (λ i. take (between .result .low) es ++ (G.tagged (parent′ .ensures i) (child′ .ensures i) (t .blurred) (t .edges) ++ drop (between .result .low + between .result .set .len) es)) in (
+          let low = between .result .low in
+          let old = between .result .set .len in
+          let y = z .1 ∙ (λ i. take low es ++ (G.tagged (parent′ .ensures i) (child′ .ensures i) (t .blurred) (t .edges) ++ drop (low + old) es)) in (
             z .0,
             more-fits (rowOf (a .t3)) es t (f .1) _
-                (y ∙ cut-in es (rowOf (a .t3) .parent) (rowOf (a .t3) .child) (between .result .low) (between .result .set .len) t w (f .2) (f .3))
+                (y ∙ cut-in es (rowOf (a .t3) .parent) (rowOf (a .t3) .child) low old t w (f .2) (f .3))
                 (omega (arith, n, k, f .3, len′ .ensures, if1 .left, between .ensures .0)),
             λ q. absurd (q refl),
           ),

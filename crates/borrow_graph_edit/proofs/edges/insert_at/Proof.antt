@@ -1,21 +1,21 @@
 use mathlib.Core.Path.{_≡_, sym, ap, _∙_}
-use Prim.Native.Nat.{ℕ, _+_, _-_, _≤_, _<_}
+use Prim.Native.Nat.{ℕ, _+_, _-_, _≤_}
 use lib.ListN.{length, length-set}
-use Rattle.references.specs.Models.{edgesIn}
-use Rattle.borrow_graph_edit.specs.Places.{around, room-start, room-on, room-end}
+use Rattle.meaning.specs.Laws.Array.{around, room-start, room-on, room-end}
+use Rattle.references.specs.Models.{rowOf, edgesIn}
+use Rattle.references.specs.ModelLaws.{edges-made}
 use native.Mathlib.Omega.{arith}
-use borrow.Author.Needs.{needs}
 use Rattle.borrow_graph_edit.proofs.edges.insert_at.Statement.{statement}
 use Rattle.borrow_graph_edit.proofs.edges.insert_at.Tie as tie
 
 abbrev Inv-loop : tie.InvT-loop
-Inv-loop edges₀ m k x j₀ edges j = (k ≤ j) × (j ≤ m) × (length edges₀ ≡ 96 → (length edges ≡ 96) × (around edges j (m + 1) ≡ edgesIn edges₀ m))
+Inv-loop edges₀ m k x j₀ edges j = (k ≤ j) × (j ≤ m) × (length edges₀ ≡ 96 → (length edges ≡ 96) × (around rowOf edges j (m + 1) ≡ edgesIn edges₀ m))
 
 abbrev μ-loop : tie.MeasureT-loop
 μ-loop edges₀ m k x j₀ edges j = j
 
 loop-holds : tie.Need-loop-holds Inv-loop μ-loop
-loop-holds c = (omega arith, omega arith, λ e. (e, room-start _ _))
+loop-holds c = (omega arith, omega arith, λ e. (e, room-start rowOf ((c .args) .edges .now) ((c .args) .m) ∙ sym (edges-made ((c .args) .edges .now) ((c .args) .m))))
 
 sub-y : tie.Need-sub-y Inv-loop μ-loop
 sub-y c = omega arith
@@ -47,7 +47,7 @@ loop-again c =
       omega (arith, l .inv .1),
       λ e. (
         simp length-set (l .inv .2 e .0),
-        room-on (l .edges) _ (l .j - 1) (l .j) (a .m + 1) (omega arith) (omega (arith, l .inv .1, l .inv .2 e .0, pre)) (omega (arith, l .inv .1)) ∙ l .inv .2 e .1,
+        room-on rowOf (l .edges) _ (l .j - 1) (l .j) (a .m + 1) (omega arith) (omega (arith, l .inv .1, l .inv .2 e .0, pre)) (omega (arith, l .inv .1)) ∙ l .inv .2 e .1,
       ),
     )
 
@@ -65,7 +65,7 @@ returns c =
     let j : l .j ≡ a .k = omega (arith, l .inv .0, c .loop-test .left) in
     λ e. (
       simp length-set (l .inv .2 e .0),
-      room-end (l .edges) (a .k) (a .m + 1) (a .x) _ (omega (arith, pre, l .inv .2 e .0)) (omega (arith, pre)) (ap (λ (i : ℕ). around (l .edges) i (a .m + 1)) (sym j) ∙ l .inv .2 e .1),
+      edges-made _ (a .m + 1) ∙ room-end rowOf (l .edges) (a .k) (a .m + 1) (a .x) _ (omega (arith, pre, l .inv .2 e .0)) (omega (arith, pre)) (ap (λ (i : ℕ). around rowOf (l .edges) i (a .m + 1)) (sym j) ∙ l .inv .2 e .1),
     )
 
 pub insert-at-spec : {M : Type 1} → statement M

@@ -2,6 +2,7 @@ use mathlib.Core.Path.{_≡_, refl, sym, ap, _∙_}
 use mathlib.Core.Bool.{Bool, true, false, _&&_}
 use mathlib.Core.List.{List}
 use lib.Dec.{leb}
+use Rattle.meaning.specs.Limits.{maxEdges}
 use Rattle.meaning.specs.Answers.{Ans, ok, andThen}
 use Rattle.meaning.specs.Laws.Base.{answered, declined, and-l, and-r, and-i, leb-le, le-leb}
 use Rattle.meaning.specs.BorrowGraph.{GEdge, Graph, joinGraphs, wellFormed, sameNames}
@@ -11,13 +12,28 @@ use Rattle.references.specs.Models.{edgesIn}
 use Rattle.references.specs.ModelLaws.{told-yes, told-no, told-declined}
 use Rattle.borrow_graph.specs.Models.{graphIn, Tells}
 use Rattle.borrow_graph_edit.specs.Models.{replacedIn}
-use native.Mathlib.Omega.{arith}
 use borrow.Author.Needs.{needs}
 use Rattle.borrow_graph_edit.proofs.join.join.Statement.{statement}
 use Rattle.borrow_graph_edit.proofs.join.join.Tie as tie
 
-fits : (c : tie.Then1) → leb ((c .before .before .before .before .args) .graph .edges) 96 && leb ((c .before .before .before .before .args) .other .edges) 96 ≡ true
-fits c = and-l (leb ((c .before .before .before .before .args) .graph .edges) 96 && leb ((c .before .before .before .before .args) .other .edges) 96) ((c .before .joinable) .result) ((c .if1) .taken)
+-- where the join goes on, both have at most 96 edges
+fits : (c : tie.Then1) → let a = (c .before .before .before .before .args) in leb (a .graph .edges) maxEdges && leb (a .other .edges) maxEdges ≡ true
+fits c =
+    let a = (c .before .before .before .before .args) in
+    and-l (leb (a .graph .edges) maxEdges && leb (a .other .edges) maxEdges) ((c .before .joinable) .result) ((c .if1) .taken)
+
+-- and the graphs are joinable
+same : (c : tie.Then1) →
+    let a = (c .before .before .before .before .args) in
+    let g = graphIn (a .names .now) (a .edges .now) (a .graph) in
+    let h = graphIn (a .their-names .now) (a .their-edges .now) (a .other) in
+    Tells (a .names .now) (a .edges .now) (a .graph) → Tells (a .their-names .now) (a .their-edges .now) (a .other)
+    → (wellFormed g && wellFormed h) && sameNames g h ≡ true
+same c t u =
+    let a = (c .before .before .before .before .args) in
+    let joinable = (c .before .joinable) in
+    sym (joinable .ensures (a .edges .now) (a .their-edges .now) t u)
+    ∙ and-r (leb (a .graph .edges) maxEdges && leb (a .other .edges) maxEdges) (joinable .result) ((c .if1) .taken)
 
 joinable-requires : tie.Need-joinable-requires
 joinable-requires c κs = search needs
@@ -25,19 +41,18 @@ joinable-requires c κs = search needs
 join-all-requires : tie.Need-join-all-requires
 join-all-requires c κs =
     let a = (c .before .before .before .before .before .before .before .args) in
-    let earlier = (c .before .before .before) in
-    (leb-le (and-l (leb (a .graph .edges) 96) (leb (a .other .edges) 96) (fits (earlier))), leb-le (and-r (leb (a .graph .edges) 96) (leb (a .other .edges) 96) (fits (earlier))))
+    let f = fits (c .before .before .before) in
+    (leb-le (and-l (leb (a .graph .edges) maxEdges) (leb (a .other .edges) maxEdges) f), leb-le (and-r (leb (a .graph .edges) maxEdges) (leb (a .other .edges) maxEdges) f))
 
 returns : tie.Need-returns
 returns c =
-    let joinable = (c .before .before .before .before .before .before .before .joinable) in
     let join-all = (c .before .before .join-all) in
     λ t u.
     let a = (c .before .before .before .before .before .before .before .before .before .before .args) in
     let g = graphIn (a .names .now) (a .edges .now) (a .graph) in
     let h = graphIn (a .their-names .now) (a .their-edges .now) (a .other) in
     let r = join-all .result in
-    let e : (wellFormed g && wellFormed h) && sameNames g h ≡ true = sym (joinable .ensures (a .edges .now) (a .their-edges .now) t u) ∙ and-r (leb (a .graph .edges) 96 && leb (a .other .edges) 96) (joinable .result) ((c .before .before .before .before .before .before .if1) .taken) in
+    let e = same (c .before .before .before .before .before .before) t u in
     let n = join-neat g h e in
     let z = join-all .ensures .1 refl (t .rows) (u .rows) (n .0) (n .1) in
     let k : Graph = record { names = g .names; edges = edgesIn (join-all .last .0) (r .edges) } in
@@ -52,14 +67,13 @@ returns c =
 
 returns-2 : tie.Need-returns-2
 returns-2 c =
-    let joinable = (c .before .before .before .before .before .before .before .joinable) in
     let join-all = (c .before .before .join-all) in
     λ t u.
     let a = (c .before .before .before .before .before .before .before .before .before .before .args) in
     let g = graphIn (a .names .now) (a .edges .now) (a .graph) in
     let h = graphIn (a .their-names .now) (a .their-edges .now) (a .other) in
     let r = join-all .result in
-    let e : (wellFormed g && wellFormed h) && sameNames g h ≡ true = sym (joinable .ensures (a .edges .now) (a .their-edges .now) t u) ∙ and-r (leb (a .graph .edges) 96 && leb (a .other .edges) 96) (joinable .result) ((c .before .before .before .before .before .before .if1) .taken) in
+    let e = same (c .before .before .before .before .before .before) t u in
     let n = join-neat g h e in
     let z = join-all .ensures .1 refl (t .rows) (u .rows) (n .0) (n .1) in
     let w = told-declined (r .refusal) g (joinGraphs g h) ((c .if2) .left) (join-when g h e (replacedIn (join-all .last .0) r) (z .1)

@@ -1,13 +1,11 @@
-use mathlib.Core.Path.{_≡_, refl, sym, ap, _∙_}
-use lib.ListN.{length}
+use mathlib.Core.Path.{refl, sym, ap, _∙_}
 use Rattle.meaning.specs.Answers.{Ans, andThen}
 use Rattle.meaning.specs.References.{EdgeSet}
 use Rattle.meaning.specs.Laws.Graph.{insertAll}
 use Rattle.meaning.specs.Refinement.Pairs.{replaceOne}
 use Rattle.meaning.specs.Refinement.Passes.{uncovered, joinSet}
 use Rattle.meaning.specs.Laws.Pass.{neat-few, pass-one}
-use Rattle.references.specs.Models.{edgesIn, insertedIn}
-use native.Mathlib.Omega.{arith}
+use Rattle.references.specs.Models.{edgesIn}
 use borrow.Author.Needs.{needs}
 use Rattle.borrow_graph_edit.proofs.join.join_pair.Statement.{statement}
 use Rattle.borrow_graph_edit.proofs.join.join_pair.Tie as tie

@@ -1,13 +1,15 @@
 use mathlib.Core.Path.{_≡_, refl, sym, ap, _∙_}
-use mathlib.Core.List.{List}
-use Prim.Native.Nat.{_-_, _≤_}
-use lib.ListN.{length, drop}
-use Rattle.meaning.specs.References.{Edge}
+use mathlib.Core.List.{List, []}
+use Prim.Native.Nat.{_+_, _-_, _≤_}
+use lib.ListN.{length, drop, getD}
+use Rattle.meaning.specs.Limits.{maxSetSize}
+use Rattle.meaning.specs.Answers.{andThen}
+use Rattle.meaning.specs.References.{Edge, insert}
 use Rattle.meaning.specs.Laws.Graph.{insertAll}
 use Rattle.meaning.specs.Refinement.Passes.{uncovered}
 use Rattle.meaning.specs.Laws.Pass.{offer-ok}
 use Rattle.references.specs.Models.{setEdges, setIn}
-use Rattle.references.specs.ModelLaws.{told-on, told-off}
+use Rattle.references.specs.ModelLaws.{edgeIn, told-on, told-off}
 use Rattle.borrow_graph_edit.specs.JoinLaws.{set-clip, skip-covered, take-uncovered, none-left}
 use native.Mathlib.Omega.{arith}
 use borrow.Author.Needs.{needs}
@@ -15,10 +17,45 @@ use Rattle.borrow_graph_edit.proofs.join.join_sets.Statement.{statement
 use Rattle.borrow_graph_edit.proofs.join.join_sets.Tie as tie
 
 abbrev Inv-loop : tie.InvT-loop
-Inv-loop set₀ ours their-set n old s₀ i₀ set s i = length set₀ ≡ 10 → length their-set ≡ 10 → (length set ≡ 10) × (insertAll (uncovered (setEdges set₀ (ours .len)) (drop i (setEdges their-set n))) (setIn set s) ≡ insertAll (uncovered (setEdges set₀ (ours .len)) (setEdges their-set n)) (setIn set₀ ours))
+Inv-loop set₀ ours their-set n old s₀ i₀ set s i =
+    let us = setEdges set₀ (ours .len) in
+    let ts = setEdges their-set n in
+    length set₀ ≡ maxSetSize → length their-set ≡ maxSetSize
+    → (length set ≡ maxSetSize) × (insertAll (uncovered us (drop i ts)) (setIn set s) ≡ insertAll (uncovered us ts) (setIn set₀ ours))
 
 abbrev μ-loop : tie.MeasureT-loop
 μ-loop set₀ ours their-set n old s₀ i₀ set s i = n - i
+
+-- the next edge of theirs goes in, then those after it
+turn : (c : tie.After-insert Inv-loop μ-loop) →
+    let a = (c .before .before .before .before .before .before .before .before .before .before .before .args) in
+    let n = (c .before .before .before .before .before .before .before .before .before .before .len) .result in
+    let l = (c .before .before .before .before .before .before .before .before .loop) in
+    let us = setEdges (a .set .now) (a .ours .len) in
+    let ts = setEdges (a .their-set .now) n in
+    length (a .set .now) ≡ maxSetSize → length (a .their-set .now) ≡ maxSetSize
+    → andThen (insert (setIn (l .set) (l .s)) (edgeIn (getD (a .their-set .now) (l .i) []))) (λ t. insertAll (uncovered us (drop (l .i + 1) ts)) t)
+    ≡ insertAll (uncovered us ts) (setIn (a .set .now) (a .ours))
+turn c h k =
+    let a = (c .before .before .before .before .before .before .before .before .before .before .before .args) in
+    let len′ = (c .before .before .before .before .before .before .before .before .before .before .len) in
+    let l = (c .before .before .before .before .before .before .before .before .loop) in
+    let loop-test = (c .before .before .before .before .before .before .before .loop-test) in
+    let few : len′ .result ≤ maxSetSize = omega (arith, len′ .ensures) in
+    take-uncovered (setEdges (a .set .now) (a .ours .len)) (a .their-set .now) (len′ .result) (l .i) k few (setIn (l .set) (l .s)) _ (l .inv h k .1) []
+    (loop-test .taken) (sym ((c .before .before .before .covers) .ensures h) ∙ (c .before .before .if1) .left)
+
+-- their edges by the number that the code reads
+whole : (c : tie.After-len Inv-loop μ-loop) →
+    let a = (c .before .args) in
+    let us = setEdges (a .set .now) (a .ours .len) in
+    length (a .their-set .now) ≡ maxSetSize
+    → insertAll (uncovered us (setEdges (a .their-set .now) ((c .len) .result))) (setIn (a .set .now) (a .ours))
+    ≡ insertAll (uncovered us (setEdges (a .their-set .now) (a .theirs .len))) (setIn (a .set .now) (a .ours))
+whole c k =
+    let a = (c .before .args) in
+    ap (λ (es : List Edge). insertAll (uncovered (setEdges (a .set .now) (a .ours .len)) es) (setIn (a .set .now) (a .ours)))
+    (set-clip (a .their-set .now) (a .theirs .len) ((c .len) .result) k ((c .len) .ensures))
 
 len-requires : tie.Need-len-requires Inv-loop μ-loop
 len-requires c κs = search needs
@@ -45,11 +82,15 @@ loop-again : tie.Need-loop-again Inv-loop μ-loop
 loop-again c =
     let a = (c .before .before .before .before .before .before .before .before .before .args) in
     let len′ = (c .before .before .before .before .before .before .before .before .len) in
-    λ h k.
     let l = (c .before .before .before .before .before .before .loop) in
+    let loop-test = (c .before .before .before .before .before .loop-test) in
+    λ h k.
     let q = l .inv h k in
-    let few : len′ .result ≤ 10 = omega (arith, len′ .ensures) in
-    (q .0, skip-covered (setEdges (a .set .now) (a .ours .len)) (a .their-set .now) (len′ .result) (l .i) k few (setIn (l .set) (l .s)) _ (q .1) _ ((c .before .before .before .before .before .loop-test) .taken) (sym ((c .before .covers) .ensures h) ∙ (c .if1) .taken))
+    let few : len′ .result ≤ maxSetSize = omega (arith, len′ .ensures) in (
+      q .0,
+      skip-covered (setEdges (a .set .now) (a .ours .len)) (a .their-set .now) (len′ .result) (l .i) k few (setIn (l .set) (l .s)) _ (q .1) [] (loop-test .taken)
+          (sym ((c .before .covers) .ensures h) ∙ (c .if1) .taken),
+    )
 
 insert-requires : tie.Need-insert-requires Inv-loop μ-loop
 insert-requires c κs = search needs
@@ -62,34 +103,24 @@ loop-less-2 c = omega arith
 
 loop-again-2 : tie.Need-loop-again-2 Inv-loop μ-loop
 loop-again-2 c =
-    let a = (c .before .before .before .before .before .before .before .before .before .before .before .before .before .before .args) in
-    let len′ = (c .before .before .before .before .before .before .before .before .before .before .before .before .before .len) in
-    let loop-test = (c .before .before .before .before .before .before .before .before .before .before .loop-test) in
-    let insert = (c .before .before .before .insert) in
+    let insert′ = (c .before .before .before .insert) in
     λ h k.
-    let l = (c .before .before .before .before .before .before .before .before .before .before .before .loop) in
-    let q = l .inv h k in
-    let few : len′ .result ≤ 10 = omega (arith, len′ .ensures) in
-    let z = insert .ensures (q .0) in (
+    let q = (c .before .before .before .before .before .before .before .before .before .before .before .loop) .inv h k in
+    let z = insert′ .ensures (q .0) in (
       z .1,
-      told-on (insert .result .refusal) (setIn (insert .last .0) (insert .result .set)) _ _ _ (z .0 ∙ offer-ok _ _)
-          (take-uncovered (setEdges (a .set .now) (a .ours .len)) (a .their-set .now) (len′ .result) (l .i) k few (setIn (l .set) (l .s)) _ (q .1) _ (loop-test .taken) (sym ((c .before .before .before .before .before .before .covers) .ensures h) ∙ (c .before .before .before .before .before .if1) .left)) ((c .before .if2) .taken),
+      told-on (insert′ .result .refusal) (setIn (insert′ .last .0) (insert′ .result .set)) _ _ _ (z .0 ∙ offer-ok _ _) (turn (c .before .before .before) h k)
+          ((c .before .if2) .taken),
     )
 
 returns : tie.Need-returns Inv-loop μ-loop
 returns c =
-    let len′ = (c .before .before .before .before .before .before .before .before .before .before .before .before .len) in
-    let loop-test = (c .before .before .before .before .before .before .before .before .before .loop-test) in
-    let insert = (c .before .before .insert) in
+    let insert′ = (c .before .before .insert) in
     λ h k.
-    let l = (c .before .before .before .before .before .before .before .before .before .before .loop) in
-    let a = (c .before .before .before .before .before .before .before .before .before .before .before .before .before .args) in
-    let q = l .inv h k in
-    let few : len′ .result ≤ 10 = omega (arith, len′ .ensures) in
-    let z = insert .ensures (q .0) in (
-      told-off (insert .result .refusal) (setIn (insert .last .0) (insert .result .set)) _ _ _ (z .0 ∙ offer-ok _ _)
-          (take-uncovered (setEdges (a .set .now) (a .ours .len)) (a .their-set .now) (len′ .result) (l .i) k few (setIn (l .set) (l .s)) _ (q .1) _ (loop-test .taken) (sym ((c .before .before .before .before .before .covers) .ensures h) ∙ (c .before .before .before .before .if1) .left)) ((c .if2) .left) (setIn (insert .last .0) (insert .result .set))
-          ∙ ap (λ (es : List Edge). insertAll (uncovered (setEdges (a .set .now) (a .ours .len)) es) (setIn (a .set .now) (a .ours))) (set-clip (a .their-set .now) (a .theirs .len) (len′ .result) k (len′ .ensures)),
+    let q = (c .before .before .before .before .before .before .before .before .before .before .loop) .inv h k in
+    let s = setIn (insert′ .last .0) (insert′ .result .set) in
+    let z = insert′ .ensures (q .0) in (
+      told-off (insert′ .result .refusal) s _ _ _ (z .0 ∙ offer-ok _ _) (turn (c .before .before) h k) ((c .if2) .left) s
+          ∙ whole (c .before .before .before .before .before .before .before .before .before .before .before .before) k,
       z .1,
     )
 
@@ -98,9 +129,10 @@ returns-2 c = λ h k.
     let l = (c .before .loop) in
     let a = (c .before .before .before .before .args) in
     let q = l .inv h k in
-    let few : (c .before .before .before .len) .result ≤ 10 = omega (arith, (c .before .before .before .len) .ensures) in (
-      none-left (setEdges (a .set .now) (a .ours .len)) (a .their-set .now) ((c .before .before .before .len) .result) (l .i) k few (setIn (l .set) (l .s)) _ (q .1) (omega arith)
-          ∙ ap (λ (es : List Edge). insertAll (uncovered (setEdges (a .set .now) (a .ours .len)) es) (setIn (a .set .now) (a .ours))) (set-clip (a .their-set .now) (a .theirs .len) ((c .before .before .before .len) .result) k ((c .before .before .before .len) .ensures)),
+    let len′ = (c .before .before .before .len) in
+    let few : len′ .result ≤ maxSetSize = omega (arith, len′ .ensures) in (
+      none-left (setEdges (a .set .now) (a .ours .len)) (a .their-set .now) (len′ .result) (l .i) k few (setIn (l .set) (l .s)) _ (q .1) (omega arith)
+          ∙ whole (c .before .before .before) k,
       q .0,
     )
 

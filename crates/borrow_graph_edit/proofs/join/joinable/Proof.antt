@@ -1,6 +1,5 @@
 use mathlib.Core.Bool.{_&&_}
 use Rattle.meaning.specs.BorrowGraph.{sameNames}
-use native.Mathlib.Omega.{arith}
 use borrow.Author.Needs.{needs}
 use Rattle.borrow_graph_edit.proofs.join.joinable.Statement.{statement}
 use Rattle.borrow_graph_edit.proofs.join.joinable.Tie as tie
@@ -13,7 +12,10 @@ holds-all-requires-2 c κs = search needs
 
 returns : tie.Need-returns
 unfolding sameNames
-returns c = λ es es₂ t u. λ i. (t .formed i && u .formed i) && ((c .before .before .before .holds-all) .ensures (u .words) (t .words) i && (c .before .before .holds-all2) .ensures (t .words) (u .words) i)
+returns c =
+    let a = (c .before .before .before .holds-all) in
+    let b = (c .before .before .holds-all2) in
+    λ es es₂ t u. λ i. (t .formed i && u .formed i) && (a .ensures (u .words) (t .words) i && b .ensures (t .words) (u .words) i)
 
 pub joinable-spec : {M : Type 1} → statement M
 joinable-spec = tie.close (tie.spec holds-all-requires holds-all-requires-2 returns)

@@ -1,7 +1,8 @@
-use mathlib.Core.Path.{_≡_, refl, sym, ap, _∙_, subst}
-use mathlib.Core.List.{List, []}
-use Prim.Native.Nat.{ℕ, _+_, _-_, _≤_, _<_}
+use mathlib.Core.Path.{_≡_, sym, ap, _∙_, subst}
+use mathlib.Core.List.{List, [], _∷_}
+use Prim.Native.Nat.{_+_, _-_, _≤_}
 use lib.ListN.{length, drop, getD}
+use Rattle.meaning.specs.Limits.{maxEdges}
 use Rattle.meaning.specs.BorrowGraph.{GEdge}
 use Rattle.paths.specs.Models.{orderingOf}
 use Rattle.references.specs.Models.{rowOf, edgesIn}
@@ -13,10 +14,24 @@ use Rattle.borrow_graph_edit.proofs.pairs.place.Statement.{statement}
 use Rattle.borrow_graph_edit.proofs.pairs.place.Tie as tie
 
 abbrev Inv-loop : tie.InvT-loop
-Inv-loop edges m parent child low₀ size₀ i₀ low size i = (low + size ≤ i) × (i ≤ m) × (length edges ≡ 96 → Counts (parent .0) (child .0) (edgesIn edges m) (drop i (edgesIn edges m)) low size)
+Inv-loop edges m parent child low₀ size₀ i₀ low size i =
+    (low + size ≤ i) × (i ≤ m) × (length edges ≡ maxEdges → Counts (parent .0) (child .0) (edgesIn edges m) (drop i (edgesIn edges m)) low size)
 
 abbrev μ-loop : tie.MeasureT-loop
 μ-loop edges m parent child low₀ size₀ i₀ low size i = m - i
+
+-- what is counted, with the next row in front of those left
+ahead : (c : tie.After-side Inv-loop μ-loop) →
+    let l = (c .before .before .before .loop) in
+    let a = (c .before .before .before .before .args) in
+    let es = edgesIn (a .edges .now) (a .m) in
+    length (a .edges .now) ≡ maxEdges → Counts (a .parent .0) (a .child .0) es (rowOf (getD (a .edges .now) (l .i) []) ∷ drop (l .i + 1) es) (l .low) (l .size)
+ahead c e =
+    let l = (c .before .before .before .loop) in
+    let a = (c .before .before .before .before .args) in
+    let es = edgesIn (a .edges .now) (a .m) in
+    subst (λ (xs : List GEdge). Counts (a .parent .0) (a .child .0) es xs (l .low) (l .size))
+    (edges-next (a .edges .now) (a .m) [] (l .i) (omega arith) (omega (arith, e, (c .before .before .before .before .pre)))) (l .inv .2 e)
 
 loop-holds : tie.Need-loop-holds Inv-loop μ-loop
 loop-holds c = (omega arith, omega arith, λ e. record { lower = omega arith; own = omega arith })
@@ -51,7 +66,7 @@ loop-again c =
       omega arith,
       λ e.
           counts-less (a .parent .0) (a .child .0) (edgesIn (a .edges .now) (a .m)) _ _ (l .low) (l .size)
-          (subst (λ (xs : List GEdge). Counts (a .parent .0) (a .child .0) (edgesIn (a .edges .now) (a .m)) xs (l .low) (l .size)) (edges-next (a .edges .now) (a .m) _ (l .i) (omega arith) (omega (arith, e, (c .before .before .before .before .before .before .pre)))) (l .inv .2 e)) o,
+          (ahead (c .before .before) e) o,
     )
 
 enum-told-2 : tie.Need-enum-told-2 Inv-loop μ-loop
@@ -75,7 +90,7 @@ loop-again-2 c =
       omega arith,
       λ e.
           counts-equal (a .parent .0) (a .child .0) (edgesIn (a .edges .now) (a .m)) _ _ (l .low) (l .size)
-          (subst (λ (xs : List GEdge). Counts (a .parent .0) (a .child .0) (edgesIn (a .edges .now) (a .m)) xs (l .low) (l .size)) (edges-next (a .edges .now) (a .m) _ (l .i) (omega arith) (omega (arith, e, (c .before .before .before .before .before .before .pre)))) (l .inv .2 e)) o,
+          (ahead (c .before .before) e) o,
     )
 
 enum-told-3 : tie.Need-enum-told-3 Inv-loop μ-loop
@@ -96,17 +111,19 @@ loop-again-3 c =
       omega arith,
       λ e.
           counts-greater (a .parent .0) (a .child .0) (edgesIn (a .edges .now) (a .m)) _ _ (l .low) (l .size)
-          (subst (λ (xs : List GEdge). Counts (a .parent .0) (a .child .0) (edgesIn (a .edges .now) (a .m)) xs (l .low) (l .size)) (edges-next (a .edges .now) (a .m) _ (l .i) (omega arith) (omega (arith, e, (c .before .before .before .before .before .before .pre)))) (l .inv .2 e)) o,
+          (ahead (c .before .before) e) o,
     )
 
 returns : tie.Need-returns Inv-loop μ-loop
 returns c =
     let l = (c .before .loop) in
-    let a = (c .before .before .args) in (
+    let a = (c .before .before .args) in
+    let es = edgesIn (a .edges .now) (a .m) in (
       omega arith,
       λ e.
-          counts-all (a .parent .0) (a .child .0) (edgesIn (a .edges .now) (a .m)) (l .low) (l .size)
-          (subst (λ (xs : List GEdge). Counts (a .parent .0) (a .child .0) (edgesIn (a .edges .now) (a .m)) xs (l .low) (l .size)) (edges-over (a .edges .now) (a .m) (l .i) (omega arith) (omega (arith, e, (c .before .before .pre)))) (l .inv .2 e)),
+          counts-all (a .parent .0) (a .child .0) es (l .low) (l .size)
+          (subst (λ (xs : List GEdge). Counts (a .parent .0) (a .child .0) es xs (l .low) (l .size))
+          (edges-over (a .edges .now) (a .m) (l .i) (omega arith) (omega (arith, e, (c .before .before .pre)))) (l .inv .2 e)),
     )
 
 pub place-spec : {M : Type 1} → statement M

@@ -1,7 +1,8 @@
-use mathlib.Core.Path.{_≡_, refl, sym, ap, _∙_, subst}
+use mathlib.Core.Path.{_≡_, refl, sym, ap, _∙_}
 use mathlib.Core.List.{List, [], _∷_, _++_, append-nil}
-use Prim.Native.Nat.{ℕ, _+_, _-_, _≤_, _<_, min}
-use lib.ListN.{length, take, drop, getD, length-set, drop-of-length-le}
+use Prim.Native.Nat.{ℕ, _+_, _-_, _≤_}
+use lib.ListN.{length, drop, getD, length-set, drop-of-length-le}
+use Rattle.meaning.specs.Limits.{maxEdges, maxSetSize}
 use Rattle.meaning.specs.BorrowGraph.{GEdge, tagged}
 use Rattle.references.specs.Models.{rowOf, edgesIn, setEdges}
 use Rattle.references.specs.ModelLaws.{edges-next, edges-count, edges-front, edges-push, set-count, set-step}
@@ -12,7 +13,12 @@ use Rattle.borrow_graph_edit.proofs.pairs.replace.Statement.{statement}
 use Rattle.borrow_graph_edit.proofs.pairs.replace.Tie as tie
 
 abbrev Inv-loop : tie.InvT-loop
-Inv-loop edges₀ m low old parent child set s was k end j₀ edges j = (low ≤ j) × (j ≤ end) × (length edges₀ ≡ 96 → length set ≡ 10 → (length edges ≡ 96) × (fits : low + old ≤ length (edgesIn edges₀ m)) × (edgesIn edges j ++ drop j (exchanged (edgesIn edges₀ m) (parent .0) (child .0) low old (s .overflown) (setEdges set (s .len)) fits) ≡ exchanged (edgesIn edges₀ m) (parent .0) (child .0) low old (s .overflown) (setEdges set (s .len)) fits))
+Inv-loop edges₀ m low old parent child set s was k end j₀ edges j =
+    let es = edgesIn edges₀ m in
+    let whole = exchanged es (parent .0) (child .0) low old (s .overflown) (setEdges set (s .len)) in
+    (low ≤ j) × (j ≤ end)
+    × (length edges₀ ≡ maxEdges → length set ≡ maxSetSize
+    → (length edges ≡ maxEdges) × (fits : low + old ≤ length es) × (edgesIn edges j ++ drop j (whole fits) ≡ whole fits))
 
 abbrev μ-loop : tie.MeasureT-loop
 μ-loop edges₀ m low old parent child set s was k end j₀ edges j = end - j
@@ -28,17 +34,20 @@ add-end c = omega arith
 
 loop-holds : tie.Need-loop-holds Inv-loop μ-loop
 loop-holds c =
+    let pre = (c .before .before .pre) in
     let a = (c .before .before .args) in
-    let es = edgesIn (a .edges .now) (a .m) in (
+    let es = edgesIn (a .edges .now) (a .m) in
+    let ds = setEdges (a .set .now) (a .s .len) in (
       omega arith,
-      omega (arith, (c .before .before .pre), (c .len) .ensures),
+      omega (arith, pre, (c .len) .ensures),
       λ e d.
-          let n = edges-count (a .edges .now) (a .m) (omega (arith, e, (c .before .before .pre))) in
-          let fits : a .low + a .old ≤ length es = omega (arith, n, (c .before .before .pre)) in (
+          let n = edges-count (a .edges .now) (a .m) (omega (arith, e, pre)) in
+          let fits : a .low + a .old ≤ length es = omega (arith, n, pre) in (
             e,
             fits,
-            ap (λ (xs : List GEdge). edgesIn (a .edges .now) (a .low) ++ xs) (exchanged-front es (a .parent .0) (a .child .0) (a .low) (a .old) (a .s .overflown) (setEdges (a .set .now) (a .s .len)) fits)
-                ∙ ap (λ (ys : List GEdge). ys ++ (tagged (a .parent .0) (a .child .0) (a .s .overflown) (setEdges (a .set .now) (a .s .len)) ++ drop (a .low + a .old) es)) (edges-front (a .edges .now) (a .m) (a .low) (omega (arith, n, (c .before .before .pre)))),
+            ap (λ (xs : List GEdge). edgesIn (a .edges .now) (a .low) ++ xs) (exchanged-front es (a .parent .0) (a .child .0) (a .low) (a .old) (a .s .overflown) ds fits)
+                ∙ ap (λ (ys : List GEdge). ys ++ (tagged (a .parent .0) (a .child .0) (a .s .overflown) ds ++ drop (a .low + a .old) es))
+                (edges-front (a .edges .now) (a .m) (a .low) (omega (arith, n, pre))),
           ),
     )
 
@@ -71,6 +80,8 @@ loop-less c = omega arith
 
 loop-again : tie.Need-loop-again Inv-loop μ-loop
 loop-again c =
+    let pre = (c .before .before .before .before .before .before .before .pre) in
+    let len′ = (c .before .before .before .before .before .len) in
     let l = (c .before .before .before .before .loop) in
     let a = (c .before .before .before .before .before .before .before .args) in
     let es = edgesIn (a .edges .now) (a .m) in
@@ -82,10 +93,12 @@ loop-again c =
           let n = set-count (a .set .now) (a .s .len) d in (
             simp length-set (h .0),
             h .1,
-            edges-push (l .edges) _ (l .j) (l .j + 1) _ refl (omega (arith, h .0, l .inv .1, (c .before .before .before .before .before .before .before .pre), (c .before .before .before .before .before .len) .ensures))
-                ∙ ap (λ (x : GEdge). edgesIn (l .edges) (l .j) ++ (x ∷ drop (l .j + 1) (exchanged es (a .parent .0) (a .child .0) (a .low) (a .old) (a .s .overflown) ds (h .1)))) ((c .tagged) .ensures)
-                ∙ ap (λ (xs : List GEdge). edgesIn (l .edges) (l .j) ++ xs) (sym (exchanged-set es (a .parent .0) (a .child .0) (a .low) (a .old) (a .s .overflown) ds (h .1) (l .j) _ (l .inv .0)
-                (set-step (a .set .now) (a .s .len) [] (l .j - a .low) (omega (arith, n, (c .before .before .if1) .taken, l .inv .0, (c .before .before .before .before .before .len) .ensures)))))
+            edges-push (l .edges) _ (l .j) (l .j + 1) _ refl (omega (arith, h .0, l .inv .1, pre, len′ .ensures))
+                ∙ ap (λ (x : GEdge). edgesIn (l .edges) (l .j) ++ (x ∷ drop (l .j + 1) (exchanged es (a .parent .0) (a .child .0) (a .low) (a .old) (a .s .overflown) ds (h .1))))
+                ((c .tagged) .ensures)
+                ∙ ap (λ (xs : List GEdge). edgesIn (l .edges) (l .j) ++ xs)
+                (sym (exchanged-set es (a .parent .0) (a .child .0) (a .low) (a .old) (a .s .overflown) ds (h .1) (l .j) _ (l .inv .0)
+                (set-step (a .set .now) (a .s .len) [] (l .j - a .low) (omega (arith, n, (c .before .before .if1) .taken, l .inv .0, len′ .ensures)))))
                 ∙ h .2,
           ),
     )
@@ -134,7 +147,8 @@ loop-again-2 c =
             simp length-set (h .0),
             h .1,
             edges-push (l .edges) _ (l .j) (l .j + 1) _ refl (omega (arith, h .0, l .inv .1, pre, len′ .ensures))
-                ∙ ap (λ (xs : List GEdge). edgesIn (l .edges) (l .j) ++ xs) (sym (exchanged-behind es (a .parent .0) (a .child .0) (a .low) (a .old) (a .s .overflown) ds (h .1) (l .j) i _ (omega (arith, n, len′ .ensures, if1 .left))
+                ∙ ap (λ (xs : List GEdge). edgesIn (l .edges) (l .j) ++ xs)
+                (sym (exchanged-behind es (a .parent .0) (a .child .0) (a .low) (a .old) (a .s .overflown) ds (h .1) (l .j) i _ (omega (arith, n, len′ .ensures, if1 .left))
                 (ap (λ (z : ℕ). drop z es) here ∙ edges-next (a .edges .now) (a .m) [] (l .j - k + a .old) (omega (arith, if1 .left, len′ .ensures, pre)) (omega (arith, e, pre))
                 ∙ ap (λ (z : ℕ). rowOf (getD (a .edges .now) (l .j - k + a .old) []) ∷ drop (z + 1) es) (sym here))))
                 ∙ h .2,
@@ -156,8 +170,11 @@ returns c =
           let w = exchanged-length es (a .parent .0) (a .child .0) (a .low) (a .old) (a .s .overflown) ds (h .1) in
           let m = edges-count (a .edges .now) (a .m) (omega (arith, e, (c .before .before .before .before .pre))) in
           let whole = exchanged es (a .parent .0) (a .child .0) (a .low) (a .old) (a .s .overflown) ds (h .1) in
-          let z : length whole ≤ l .j = omega (arith, w, n, m, j, (c .before .before .len) .ensures, (c .before .before .before .before .pre)) in
-          (h .0, ap (λ (t : ℕ). edgesIn (l .edges) t) (sym j) ∙ sym (append-nil (edgesIn (l .edges) (l .j))) ∙ ap (λ (xs : List GEdge). edgesIn (l .edges) (l .j) ++ xs) (sym (drop-of-length-le whole z)) ∙ h .2),
+          let z : length whole ≤ l .j = omega (arith, w, n, m, j, (c .before .before .len) .ensures, (c .before .before .before .before .pre)) in (
+            h .0,
+            ap (λ (t : ℕ). edgesIn (l .edges) t) (sym j) ∙ sym (append-nil (edgesIn (l .edges) (l .j)))
+                ∙ ap (λ (xs : List GEdge). edgesIn (l .edges) (l .j) ++ xs) (sym (drop-of-length-le whole z)) ∙ h .2,
+          ),
     )
 
 pub replace-spec : {M : Type 1} → statement M

@@ -1,10 +1,7 @@
-use mathlib.Core.Path.{_≡_, refl, sym, ap, _∙_}
-use Prim.Native.Nat.{ℕ, _+_, _-_, _≤_, _<_, min}
-use lib.ListN.{length, take, drop}
-use Rattle.meaning.specs.Refinement.Pairs.{edgesAt}
-use Rattle.references.specs.Models.{edgesIn, setEdges, setIn}
+use mathlib.Core.Path.{sym, _∙_}
+use Prim.Native.Nat.{_-_}
+use Rattle.references.specs.Models.{edgesIn, setIn}
 use Rattle.references.specs.ModelLaws.{edges-count, set-count}
-use Rattle.meaning.specs.Laws.Cut.{cut-le}
 use Rattle.borrow_graph_edit.specs.Replaces.{cut-in, still-told, over-told, fits-told}
 use native.Mathlib.Omega.{arith}
 use borrow.Author.Needs.{needs}
@@ -19,13 +16,15 @@ len-requires c κs = search needs
 
 returns : tie.Need-returns
 returns c =
+    let place = (c .before .before .before .before .before .place) in
+    let len′ = (c .before .before .before .len) in
     let a = (c .before .before .before .before .before .before .before .args) in
     let es = edgesIn (a .edges .now) (a .m) in (
       (c .before .before .before .before .before .before .before .pre),
       λ e d w. (
         e,
-        still-told (a .new .refusal) (setIn (a .set .now) (a .new .set)) (a .shrinking) (a .parent .0) (a .child .0) es ((c .before .before .before .before .before .place) .result .size) ((c .before .before .before .len) .result)
-            ((c .before .before .before .before .before .place) .ensures .1 e .1) ((c .before .before .before .len) .ensures ∙ sym (set-count (a .set .now) (a .new .set .len) d)) (c .if1 .taken),
+        still-told (a .new .refusal) (setIn (a .set .now) (a .new .set)) (a .shrinking) (a .parent .0) (a .child .0) es (place .result .size) (len′ .result)
+            (place .ensures .1 e .1) (len′ .ensures ∙ sym (set-count (a .set .now) (a .new .set .len) d)) (c .if1 .taken),
       ),
     )
 

@@ -1,9 +1,10 @@
 use mathlib.Core.Bool.{not}
 use mathlib.Core.List.{[], _++_}
-use Rattle.borrow_graph_edit.specs.RowLaws.{keep-none, keep-off, keep-here, keep-all}
+use Rattle.borrow_graph_edit.specs.RowLaws.{keep-none, keep-off, keep-on, keep-all}
 use mathlib.Core.Path.{_≡_, sym, ap, _∙_}
 use Prim.Native.Nat.{_-_, _≤_}
 use lib.ListN.{length, drop, length-set}
+use Rattle.meaning.specs.Limits.{maxEdges}
 use Rattle.meaning.specs.Lists.{keep}
 use Rattle.meaning.specs.Refinement.Passes.{apart}
 use Rattle.references.specs.Models.{edgesIn}
@@ -14,7 +15,9 @@ use Rattle.borrow_graph_edit.proofs.release.left_out.Tie as tie
 
 abbrev Inv-loop : tie.InvT-loop
 Inv-loop edges₀ m id j₀ i₀ edges j i =
-    (j ≤ i) × (i ≤ m) × (m ≤ 96) × (length edges₀ ≡ 96 → (length edges ≡ 96) × (edgesIn edges j ++ keep (apart (id .0)) (drop i (edgesIn edges m)) ≡ keep (apart (id .0)) (edgesIn edges₀ m)))
+    (j ≤ i) × (i ≤ m) × (m ≤ maxEdges)
+    × (length edges₀ ≡ maxEdges → (length edges ≡ maxEdges)
+    × (edgesIn edges j ++ keep (apart (id .0)) (drop i (edgesIn edges m)) ≡ keep (apart (id .0)) (edgesIn edges₀ m)))
 
 abbrev μ-loop : tie.MeasureT-loop
 μ-loop edges₀ m id j₀ i₀ edges j i = m - i
@@ -47,7 +50,8 @@ loop-again c =
       l .inv .2,
       λ e. let v = l .inv .3 e in (
         v .0,
-        keep-off (apart (a .id .0)) (l .edges) (a .m) (omega (arith, v .0, l .inv .2)) (l .edges) (l .j) (l .i) _ (v .1) (loop-test .taken) [] (sym ((c .before .touches) .ensures) ∙ ap not ((c .if1) .taken)),
+        keep-off (apart (a .id .0)) (l .edges) (a .m) (omega (arith, v .0, l .inv .2)) (l .j) (l .i) _ (v .1) (loop-test .taken) []
+            (sym ((c .before .touches) .ensures) ∙ ap not ((c .if1) .taken)),
       ),
     )
 
@@ -82,17 +86,19 @@ loop-again-2 c =
       l .inv .2,
       λ e. let v = l .inv .3 e in (
         simp length-set (v .0),
-        keep-here (apart (a .id .0)) (l .edges) (a .m) (omega (arith, v .0, l .inv .2)) (l .j) (l .i) _ (v .1) (loop-test .taken) (l .inv .0) [] (sym ((c .before .before .touches) .ensures) ∙ ap not ((c .before .if1) .left)),
+        keep-on (apart (a .id .0)) (l .edges) (a .m) (omega (arith, v .0, l .inv .2)) (l .j) (l .i) _ (v .1) (loop-test .taken) []
+            (sym ((c .before .before .touches) .ensures) ∙ ap not ((c .before .if1) .left)) (l .inv .0),
       ),
     )
 
 returns : tie.Need-returns Inv-loop μ-loop
 returns c =
+    let a = (c .before .before .args) in
     let l = (c .before .loop) in (
       omega (arith, l .inv),
       λ e. let v = l .inv .3 e in (
         v .0,
-        keep-all (apart ((c .before .before .args) .id .0)) (l .edges) ((c .before .before .args) .m) (omega (arith, v .0, l .inv .2)) (l .edges) (l .j) (l .i) _ (v .1) (omega (arith, (c .loop-test) .left)),
+        keep-all (apart (a .id .0)) (l .edges) (a .m) (omega (arith, v .0, l .inv .2)) (l .j) (l .i) _ (v .1) (omega (arith, (c .loop-test) .left)),
       ),
     )
 

@@ -41,8 +41,8 @@ returns-2 c =
     let t = a′ .t in
     let rows = a′ .edges .now in
     let r = splice .result in
-    λ k xs ys a b. only-way (t .to .single) (t .from .single) (rowOf (getD rows (t .to .at) [])) (rowOf (getD rows (t .from .at) [])) (rowOf (r .row)) xs ys (a .1) (b .1) (r .fits) (splice .ensures .0) (splice .ensures .1) (splice .ensures .2)
-    (parent .result .0) (child .result .0) (parent .ensures) (child .ensures) k
+    λ k xs ys a b. only-way (t .to .single) (t .from .single) (rowOf (getD rows (t .to .at) [])) (rowOf (getD rows (t .from .at) [])) (rowOf (r .row)) xs ys
+    (a .1) (b .1) (r .fits) (splice .ensures .0) (splice .ensures .1) (splice .ensures .2) (parent .result .0) (child .result .0) (parent .ensures) (child .ensures) k
 
 pub one-way-spec : {M : Type 1} → statement M
 one-way-spec =

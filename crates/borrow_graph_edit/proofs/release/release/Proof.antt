@@ -13,7 +13,9 @@ holds-requires : tie.Need-holds-requires
 holds-requires c κs = search needs
 
 release-edges-requires : tie.Need-release-edges-requires
-release-edges-requires c κs = test-few ((c .before .before .before .before .before .args) .g .formed) ((c .before .before .before .holds) .result) ((c .before .before .before .before .before .args) .g .edges) ((c .before .if1) .taken)
+release-edges-requires c κs =
+    let g = (c .before .before .before .before .before .args) .g in
+    test-few (g .formed) ((c .before .before .before .holds) .result) (g .edges) ((c .before .if1) .taken)
 
 without-requires : tie.Need-without-requires
 without-requires c κs = search needs
@@ -21,6 +23,7 @@ without-requires c κs = search needs
 returns : tie.Need-returns
 returns c =
     let holds′ = (c .before .before .before .before .before .before .before .before .holds) in
+    let if1 = (c .before .before .before .before .before .before .if1) in
     let release-edges = (c .before .before .before .before .release-edges) in
     let a = (c .before .before .before .before .before .before .before .before .before .before .args) in
     let ns = a .names .now in
@@ -28,7 +31,7 @@ returns c =
     let g = graphIn ns es (a .g) in
     let n = a .id .0 in
     λ t.
-    let y = test-yes (a .g .formed) (holds′ .result) (a .g .edges) (wellFormed g) (holds (g .names) n) (t .formed) (holds′ .ensures (t .words)) ((c .before .before .before .before .before .before .if1) .taken) in
+    let y = test-yes (a .g .formed) (holds′ .result) (a .g .edges) (wellFormed g) (holds (g .names) n) (t .formed) (holds′ .ensures (t .words)) (if1 .taken) in
     let u = (c .without) .ensures (t .words) in
     answers-named (release g n) ns es (a .g) t (release-edges .last .0) (release-edges .result) (release-edges .ensures .0) (λ h e. release-law g n h e .formed)
     (keep (other n) (g .names)) (release-edges .ensures .1 (t .rows) (g .names) y) ((c .before .before .if2) .taken) ((c .without) .last .0) ((c .without) .result) (u .0) (u .1) (u .2)
@@ -44,17 +47,19 @@ returns-2 c =
     let n = a .id .0 in
     λ t.
     let y = test-yes (a .g .formed) (holds′ .result) (a .g .edges) (wellFormed g) (holds (g .names) n) (t .formed) (holds′ .ensures (t .words)) ((c .before .before .before .before .if1) .taken) in
-    answers-refused (release g n) ns es (a .g) t (release-edges .last .0) (release-edges .result) (release-edges .ensures .0) (keep (other n) (g .names)) (release-edges .ensures .1 (t .rows) (g .names) y) ((c .if2) .left)
+    answers-refused (release g n) ns es (a .g) t (release-edges .last .0) (release-edges .result) (release-edges .ensures .0) (keep (other n) (g .names))
+    (release-edges .ensures .1 (t .rows) (g .names) y) ((c .if2) .left)
 
 returns-3 : tie.Need-returns-3
 returns-3 c =
+    let holds′ = (c .before .before .holds) in
     let a = (c .before .before .before .before .args) in
     let ns = a .names .now in
     let es = a .edges .now in
     let g = graphIn ns es (a .g) in
     let n = a .id .0 in
     λ t. answers-9 (release g n) ns es (a .g) t (release-9 g n
-    (test-no (a .g .formed) ((c .before .before .holds) .result) (a .g .edges) (wellFormed g) (holds (g .names) n) (t .formed) ((c .before .before .holds) .ensures (t .words)) (t .edges) ((c .if1) .left)))
+    (test-no (a .g .formed) (holds′ .result) (a .g .edges) (wellFormed g) (holds (g .names) n) (t .formed) (holds′ .ensures (t .words)) (t .edges) ((c .if1) .left)))
 
 pub release-spec : {M : Type 1} → statement M
 release-spec =

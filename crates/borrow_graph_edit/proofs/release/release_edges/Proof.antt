@@ -14,7 +14,12 @@ splice-one-way-requires c κs = search needs
 returns : tie.Need-returns
 returns c =
     let touching-edges = (c .before .before .before .before .before .touching-edges) in
-    ((c .splice-one-way) .ensures .0, λ e ns t. (c .splice-one-way) .ensures .1 e ns t ((c .before .before .before .one-way) .ensures ((c .before .before .if1) .taken) _ _ (touching-edges .ensures .2 e .0) (touching-edges .ensures .2 e .1)))
+    let one-way = (c .before .before .before .one-way) in (
+      (c .splice-one-way) .ensures .0,
+      λ e ns t.
+          let f = touching-edges .ensures .2 e in
+          (c .splice-one-way) .ensures .1 e ns t (one-way .ensures ((c .before .before .if1) .taken) _ _ (f .0) (f .1)),
+    )
 
 release-through-requires : tie.Need-release-through-requires
 release-through-requires c κs = search needs

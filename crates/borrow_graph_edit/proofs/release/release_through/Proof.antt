@@ -44,8 +44,12 @@ returns-2 c =
       (c .before .before .before .before .before .before .pre),
       λ e ns t.
           let ms = keep (other (a .id .0)) ns in
-          let v = passed (c .before .before) e ns t in
-          (told-no (r .refusal) (graphWith ms (edgesIn (a .edges .now) (a .m))) ((c .if1) .left) ∙ sym (told-no (r .refusal) (graphWith ms (edgesIn ((c .before .before .splice-all) .last .0) (r .edges))) ((c .if1) .left)) ∙ v .0, λ y. (refl, refl), e),
+          let v = passed (c .before .before) e ns t in (
+            told-no (r .refusal) (graphWith ms (edgesIn (a .edges .now) (a .m))) ((c .if1) .left)
+                ∙ sym (told-no (r .refusal) (graphWith ms (edgesIn ((c .before .before .splice-all) .last .0) (r .edges))) ((c .if1) .left)) ∙ v .0,
+            λ y. (refl, refl),
+            e,
+          ),
     )
 
 pub release-through-spec : {M : Type 1} → statement M

@@ -2,6 +2,7 @@ use mathlib.Core.Path.{_≡_, refl, ap, _∙_}
 use mathlib.Core.List.{List, []}
 use Prim.Native.Nat.{_-_, _≤_}
 use lib.ListN.{length, drop, getD}
+use Rattle.meaning.specs.Limits.{maxSetSize}
 use Rattle.meaning.specs.References.{Edge}
 use Rattle.meaning.specs.Laws.Graph.{insertAll}
 use Rattle.meaning.specs.Refinement.Passes.{splices}
@@ -15,8 +16,10 @@ use Rattle.borrow_graph_edit.proofs.release.splice_each.Tie as tie
 
 abbrev Inv-loop : tie.InvT-loop
 Inv-loop set₀ parents children cs n t₀ i₀ set t i =
-    (i ≤ n) × (length set₀ ≡ 10 → length parents ≡ 10 → length children ≡ 10 → (length set ≡ 10)
-    × (insertAll (splices (drop i (setEdges parents n)) (setEdges children (cs .len))) (setIn set t) ≡ insertAll (splices (setEdges parents n) (setEdges children (cs .len))) (setIn set₀ t₀)))
+    let fs = setEdges children (cs .len) in
+    (i ≤ n)
+    × (length set₀ ≡ maxSetSize → length parents ≡ maxSetSize → length children ≡ maxSetSize → (length set ≡ maxSetSize)
+    × (insertAll (splices (drop i (setEdges parents n)) fs) (setIn set t) ≡ insertAll (splices (setEdges parents n) fs) (setIn set₀ t₀)))
 
 abbrev μ-loop : tie.MeasureT-loop
 μ-loop set₀ parents children cs n t₀ i₀ set t i = n - i
@@ -45,16 +48,23 @@ loop-less c = omega arith
 loop-again : tie.Need-loop-again Inv-loop μ-loop
 loop-again c =
     let l = (c .before .before .before .before .before .before .before .loop) in
-    let rows = (c .before .before .before .before .before .before .before .before .before .args) .parents .now in
-    let n = (c .before .before .before .before .before .before .before .before .len) .result in
-    let fs = setEdges ((c .before .before .before .before .before .before .before .before .before .args) .children .now) ((c .before .before .before .before .before .before .before .before .before .args) .cs .len) in (
-      omega (arith, (c .before .before .before .before .before .before .loop-test) .taken),
+    let a = (c .before .before .before .before .before .before .before .before .before .args) in
+    let len′ = (c .before .before .before .before .before .before .before .before .len) in
+    let loop-test = (c .before .before .before .before .before .before .loop-test) in
+    let splice-one = (c .before .before .before .splice-one) in
+    let rows = a .parents .now in
+    let n = len′ .result in
+    let fs = setEdges (a .children .now) (a .cs .len) in (
+      omega (arith, loop-test .taken),
       λ e p k.
           let v = l .inv .1 e p k in
-          let w = (c .before .before .before .splice-one) .ensures (v .0) k in
+          let w = splice-one .ensures (v .0) k in
           let x = rowOf (getD rows (l .i) []) .edge in
-          let g = set-step rows n [] (l .i) (omega (arith, set-count rows n p, (c .before .before .before .before .before .before .loop-test) .taken, (c .before .before .before .before .before .before .before .before .len) .ensures)) in
-          (w .0, told-on ((c .before .before .before .splice-one) .result .refusal) (setIn ((c .before .before .before .splice-one) .last .0) ((c .before .before .before .splice-one) .result .set)) _ _ _ (w .1) (each-turn x _ _ x g (setIn (l .set) (l .t)) _ fs (v .1)) ((c .before .if1) .taken)),
+          let g = set-step rows n [] (l .i) (omega (arith, set-count rows n p, loop-test .taken, len′ .ensures)) in (
+            w .0,
+            told-on (splice-one .result .refusal) (setIn (splice-one .last .0) (splice-one .result .set)) _ _ _ (w .1)
+                (each-turn x _ _ x g (setIn (l .set) (l .t)) _ fs (v .1)) ((c .before .if1) .taken),
+          ),
     )
 
 returns : tie.Need-returns Inv-loop μ-loop
@@ -68,26 +78,29 @@ returns c =
     let fs = setEdges (a .children .now) (a .cs .len) in
     λ e p k.
     let v = l .inv .1 e p k in
+    let u = setIn (splice-one .last .0) (splice-one .result .set) in
     let w = splice-one .ensures (v .0) k in
     let x = rowOf (getD rows (l .i) []) .edge in
     let g = set-step rows n [] (l .i) (omega (arith, set-count rows n p, (c .before .before .before .before .before .loop-test) .taken, len′ .ensures)) in (
       w .0,
-      told-off (splice-one .result .refusal) (setIn (splice-one .last .0) (splice-one .result .set)) _ _ _ (w .1) (each-turn x _ _ x g (setIn (l .set) (l .t)) _ fs (v .1)) ((c .if1) .left) (setIn (splice-one .last .0) (splice-one .result .set))
+      told-off (splice-one .result .refusal) u _ _ _ (w .1) (each-turn x _ _ x g (setIn (l .set) (l .t)) _ fs (v .1)) ((c .if1) .left) u
           ∙ ap (λ (r : List Edge). insertAll (splices r fs) (setIn (a .set .now) (a .s))) (set-cut rows (a .ps .len) n p (len′ .ensures)),
     )
 
 returns-2 : tie.Need-returns-2 Inv-loop μ-loop
 returns-2 c =
     let l = (c .before .loop) in
-    let rows = (c .before .before .before .args) .parents .now in
-    let n = (c .before .before .len) .result in
-    let fs = setEdges ((c .before .before .before .args) .children .now) ((c .before .before .before .args) .cs .len) in
+    let a = (c .before .before .before .args) in
+    let len′ = (c .before .before .len) in
+    let rows = a .parents .now in
+    let n = len′ .result in
+    let fs = setEdges (a .children .now) (a .cs .len) in
     λ e p k.
     let v = l .inv .1 e p k in
-    let g = set-end rows n (l .i) (omega (arith, set-count rows n p, (c .loop-test) .left, (c .before .before .len) .ensures)) in (
+    let g = set-end rows n (l .i) (omega (arith, set-count rows n p, (c .loop-test) .left, len′ .ensures)) in (
       v .0,
       insert-end (splices (drop (l .i) (setEdges rows n)) fs) (setIn (l .set) (l .t)) _ (ap (λ (r : List Edge). splices r fs) g) (v .1)
-          ∙ ap (λ (r : List Edge). insertAll (splices r fs) (setIn ((c .before .before .before .args) .set .now) ((c .before .before .before .args) .s))) (set-cut rows ((c .before .before .before .args) .ps .len) n p ((c .before .before .len) .ensures)),
+          ∙ ap (λ (r : List Edge). insertAll (splices r fs) (setIn (a .set .now) (a .s))) (set-cut rows (a .ps .len) n p (len′ .ensures)),
     )
 
 pub splice-each-spec : {M : Type 1} → statement M

@@ -1,6 +1,7 @@
 use mathlib.Core.List.{List, [], map}
 use Prim.Native.Nat.{_-_, _≤_}
 use lib.ListN.{getD, length, drop}
+use Rattle.meaning.specs.Limits.{maxSetSize}
 use Rattle.meaning.specs.Answers.{Ans}
 use Rattle.meaning.specs.References.{Edge, offer}
 use Rattle.meaning.specs.Laws.Pass.{offer-fitting}
@@ -17,7 +18,10 @@ use Rattle.borrow_graph_edit.proofs.release.splice_one.Tie as tie
 
 abbrev Inv-loop : tie.InvT-loop
 Inv-loop set₀ parent children n t₀ i₀ set t i =
-    (i ≤ n) × (length set₀ ≡ 10 → length children ≡ 10 → (length set ≡ 10) × (insertAll (map (splice (rowOf parent .edge)) (drop i (setEdges children n))) (setIn set t) ≡ insertAll (map (splice (rowOf parent .edge)) (setEdges children n)) (setIn set₀ t₀)))
+    let d = rowOf parent .edge in
+    (i ≤ n)
+    × (length set₀ ≡ maxSetSize → length children ≡ maxSetSize → (length set ≡ maxSetSize)
+    × (insertAll (map (splice d) (drop i (setEdges children n))) (setIn set t) ≡ insertAll (map (splice d) (setEdges children n)) (setIn set₀ t₀)))
 
 abbrev μ-loop : tie.MeasureT-loop
 μ-loop set₀ parent children n t₀ i₀ set t i = n - i
@@ -49,19 +53,24 @@ loop-less c = omega arith
 loop-again : tie.Need-loop-again Inv-loop μ-loop
 loop-again c =
     let l = (c .before .before .before .before .before .before .before .before .loop) in
-    let d = rowOf ((c .before .before .before .before .before .before .before .before .before .before .args) .parent .now) .edge in
-    let rows = (c .before .before .before .before .before .before .before .before .before .before .args) .children .now in
-    let n = (c .before .before .before .before .before .before .before .before .before .len) .result in
+    let a′ = (c .before .before .before .before .before .before .before .before .before .before .args) in
+    let len′ = (c .before .before .before .before .before .before .before .before .before .len) in
+    let loop-test = (c .before .before .before .before .before .before .before .loop-test) in
+    let insert = (c .before .before .before .insert) in
+    let d = rowOf (a′ .parent .now) .edge in
+    let rows = a′ .children .now in
+    let n = len′ .result in
     let x = rowOf (getD rows (l .i) []) .edge in
     let s = setIn (l .set) (l .t) in (
-      omega (arith, (c .before .before .before .before .before .before .before .loop-test) .taken),
+      omega (arith, loop-test .taken),
       λ e k.
           let v = l .inv .1 e k in
-          let w = (c .before .before .before .insert) .ensures (v .0) in
-          let g = set-step rows n [] (l .i) (omega (arith, set-count rows n k, (c .before .before .before .before .before .before .before .loop-test) .taken, (c .before .before .before .before .before .before .before .before .before .len) .ensures)) in (
+          let w = insert .ensures (v .0) in
+          let g = set-step rows n [] (l .i) (omega (arith, set-count rows n k, loop-test .taken, len′ .ensures)) in (
             w .1,
-            told-on ((c .before .before .before .insert) .result .refusal) (setIn ((c .before .before .before .insert) .last .0) ((c .before .before .before .insert) .result .set)) _ _ _
-                (w .0 ∙ ap (λ (a : Ans Edge). offer s a) ((c .before .before .before .before .before .splice) .ensures .0) ∙ offer-fitting s (splice d x)) (one-turn d _ _ x g s _ (v .1)) ((c .before .if1) .taken),
+            told-on (insert .result .refusal) (setIn (insert .last .0) (insert .result .set)) _ _ _
+                (w .0 ∙ ap (λ (a : Ans Edge). offer s a) ((c .before .before .before .before .before .splice) .ensures .0) ∙ offer-fitting s (splice d x))
+                (one-turn d _ _ x g s _ (v .1)) ((c .before .if1) .taken),
           ),
     )
 
@@ -77,28 +86,32 @@ returns c =
     let n = len′ .result in
     let x = rowOf (getD rows (l .i) []) .edge in
     let s = setIn (l .set) (l .t) in
+    let u = setIn (insert .last .0) (insert .result .set) in
     λ e k.
     let v = l .inv .1 e k in
     let w = insert .ensures (v .0) in
     let g = set-step rows n [] (l .i) (omega (arith, set-count rows n k, loop-test .taken, len′ .ensures)) in (
       w .1,
-      told-off (insert .result .refusal) (setIn (insert .last .0) (insert .result .set)) _ _ _
-          (w .0 ∙ ap (λ (a : Ans Edge). offer s a) ((c .before .before .before .before .splice) .ensures .0) ∙ offer-fitting s (splice d x)) (one-turn d _ _ x g s _ (v .1)) ((c .if1) .left) (setIn (insert .last .0) (insert .result .set))
+      told-off (insert .result .refusal) u _ _ _
+          (w .0 ∙ ap (λ (a : Ans Edge). offer s a) ((c .before .before .before .before .splice) .ensures .0) ∙ offer-fitting s (splice d x))
+          (one-turn d _ _ x g s _ (v .1)) ((c .if1) .left) u
           ∙ ap (λ (r : List Edge). insertAll (map (splice d) r) (setIn (a′ .set .now) (a′ .s))) (set-cut rows (a′ .cs .len) n k (len′ .ensures)),
     )
 
 returns-2 : tie.Need-returns-2 Inv-loop μ-loop
 returns-2 c =
     let l = (c .before .loop) in
-    let d = rowOf ((c .before .before .before .args) .parent .now) .edge in
-    let rows = (c .before .before .before .args) .children .now in
-    let n = (c .before .before .len) .result in
+    let a′ = (c .before .before .before .args) in
+    let len′ = (c .before .before .len) in
+    let d = rowOf (a′ .parent .now) .edge in
+    let rows = a′ .children .now in
+    let n = len′ .result in
     λ e k.
     let v = l .inv .1 e k in
-    let g = set-end rows n (l .i) (omega (arith, set-count rows n k, (c .loop-test) .left, (c .before .before .len) .ensures)) in (
+    let g = set-end rows n (l .i) (omega (arith, set-count rows n k, (c .loop-test) .left, len′ .ensures)) in (
       v .0,
       insert-end (map (splice d) (drop (l .i) (setEdges rows n))) (setIn (l .set) (l .t)) _ (ap (λ (r : List Edge). map (splice d) r) g) (v .1)
-          ∙ ap (λ (r : List Edge). insertAll (map (splice d) r) (setIn ((c .before .before .before .args) .set .now) ((c .before .before .before .args) .s))) (set-cut rows ((c .before .before .before .args) .cs .len) n k ((c .before .before .len) .ensures)),
+          ∙ ap (λ (r : List Edge). insertAll (map (splice d) r) (setIn (a′ .set .now) (a′ .s))) (set-cut rows (a′ .cs .len) n k (len′ .ensures)),
     )
 
 pub splice-one-spec : {M : Type 1} → statement M

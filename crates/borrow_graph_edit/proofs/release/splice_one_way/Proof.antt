@@ -23,17 +23,20 @@ returns c =
     let a = (c .before .before .before .before .before .before .args) in
     let n = a .id .0 in
     let es = edgesIn (a .edges .now) (a .m) in
-    let x = rowOf (a .b .row) in (
-      (c .add-edge) .ensures .0,
+    let x = rowOf (a .b .row) in
+    let left-out = (c .before .before .before .before .left-out) in
+    let add-edge = (c .add-edge) in (
+      add-edge .ensures .0,
       λ e ns t w.
-          let d = (c .before .before .before .before .left-out) .ensures .1 e in
+          let d = left-out .ensures .1 e in
           let ms = keep (other n) ns in
-          let fs = edgesIn ((c .before .before .before .before .left-out) .last .0) ((c .before .before .before .before .left-out) .result) in
+          let fs = edgesIn (left-out .last .0) (left-out .result) in
           let q = without-edges ns es fs n (d .1) in
-          let u = added-edits (between (x .parent) (x .edge) (x .child)) ((c .before .before .before .before .left-out) .last .0) ((c .before .before .before .before .left-out) .result) ((c .add-edge) .last .0) ((c .add-edge) .result)
-          ((c .add-edge) .ensures .1 (d .0) (wf-neat (graphWith ms fs) (left-formed (graphWith ns es) n t (graphWith ms fs) q))) ms in
+          let u = added-edits (between (x .parent) (x .edge) (x .child)) (left-out .last .0) (left-out .result) (add-edge .last .0) (add-edge .result)
+          (add-edge .ensures .1 (d .0) (wf-neat (graphWith ms fs) (left-formed (graphWith ns es) n t (graphWith ms fs) q))) ms in
           let z = ap (λ (o : Bool). cond {A = List GEdge} o (between (x .parent) (x .edge) (x .child) ∷ []) []) ((c .before .before .before .if1) .taken) in
-          let v = release-one (graphWith ns es) n t (graphWith ms fs) q (putOf (a .b)) w (x .parent) (x .edge) (x .child) z (row-short (a .b .row)) ((c .add-edge) .result .refusal) (graphWith ms (edgesIn ((c .add-edge) .last .0) ((c .add-edge) .result .edges))) (u .0) in
+          let v = release-one (graphWith ns es) n t (graphWith ms fs) q (putOf (a .b)) w (x .parent) (x .edge) (x .child) z (row-short (a .b .row))
+          (add-edge .result .refusal) (graphWith ms (edgesIn (add-edge .last .0) (add-edge .result .edges))) (u .0) in
           (v .0, λ y. absurd (v .1 y), u .2),
     )
 

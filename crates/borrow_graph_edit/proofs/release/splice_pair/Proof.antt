@@ -12,7 +12,10 @@ use Rattle.borrow_graph_edit.proofs.release.splice_pair.Tie as tie
 returns : tie.Need-returns
 returns c =
     let a = (c .before .before .before .args) in
-    ((c .before .before .before .pre) .0, λ e o k n. (e, pass-cycle (a .shrinking) (spliceSet (edgesIn (a .old .now) (a .m)) (a .id .0)) (a .id .0) (a .parent .0) (a .child .0) (edgesIn (a .edges .now) (a .k)) ((c .if1) .taken)))
+    let new = spliceSet (edgesIn (a .old .now) (a .m)) (a .id .0) in (
+      (c .before .before .before .pre) .0,
+      λ e o k n. (e, pass-cycle (a .shrinking) new (a .id .0) (a .parent .0) (a .child .0) (edgesIn (a .edges .now) (a .k)) ((c .if1) .taken)),
+    )
 
 spliced-requires : tie.Need-spliced-requires
 spliced-requires c κs = search needs

@@ -4,6 +4,7 @@ use mathlib.Core.Path.{_≡_, refl, sym, _∙_}
 use mathlib.Core.List.{[]}
 use Prim.Native.Nat.{_-_, _≤_}
 use lib.ListN.{length, drop, getD}
+use Rattle.meaning.specs.Limits.{maxEdges}
 use Rattle.meaning.specs.Lists.{each}
 use Rattle.meaning.specs.Refinement.Pairs.{replaceLim}
 use Rattle.meaning.specs.Laws.Pair.{Neat}
@@ -17,7 +18,9 @@ use Rattle.borrow_graph_edit.proofs.release.splice_rows.Tie as tie
 
 abbrev Inv-loop : tie.InvT-loop
 Inv-loop edges₀ k old m id shrinking n₀ last₀ i₀ edges n last i =
-    (n ≤ 96) × (i ≤ m) × (length edges₀ ≡ 96 → length old ≡ 96 → Neat (edgesIn edges₀ k) → Neat (edgesIn old m) → (length edges ≡ 96) × Neat (edgesIn edges n)
+    (n ≤ maxEdges) × (i ≤ m)
+    × (length edges₀ ≡ maxEdges → length old ≡ maxEdges → Neat (edgesIn edges₀ k) → Neat (edgesIn old m)
+    → (length edges ≡ maxEdges) × Neat (edgesIn edges n)
     × (replaceLim shrinking (spliceSet (edgesIn old m) (id .0)) (each (parentsFrom (id .0) (last .0) (drop i (edgesIn old m))) (childRow (edgesIn old m) (id .0))) (edgesIn edges n)
     ≡ replaceLim shrinking (spliceSet (edgesIn old m) (id .0)) (splicePairs (edgesIn old m) (id .0)) (edgesIn edges₀ k)))
 
@@ -47,7 +50,10 @@ child-requires : tie.Need-child-requires Inv-loop μ-loop
 child-requires c κs = search needs
 
 splice-row-requires : tie.Need-splice-row-requires Inv-loop μ-loop
-splice-row-requires c κs = ((c .before .before .before .before .before .before .before .before .before .before .before .loop) .inv .0, (c .before .before .before .before .before .before .before .before .before .before .before .before .pre) .1)
+splice-row-requires c κs =
+    let l = (c .before .before .before .before .before .before .before .before .before .before .before .loop) in
+    let pre = (c .before .before .before .before .before .before .before .before .before .before .before .before .pre) in
+    (l .inv .0, pre .1)
 
 add-i : tie.Need-add-i Inv-loop μ-loop
 add-i c = omega arith
@@ -73,11 +79,13 @@ loop-again c =
           let v = l .inv .2 e o k n in
           let w = splice-row .ensures .1 (v .0) o (v .1) n in
           let s = edges-next (a .old .now) (a .m) [] (l .i) (loop-test .taken) (omega (arith, o, pre)) in
-          let u = parent-turn (a .shrinking) new (a .id .0) (l .last .0) f (edgesIn (l .edges) (l .n)) _ _ (parent′ .result .0) (child′ .result .0) (rowOf (getD (a .old .now) (l .i) [])) _ s (parent′ .ensures) (child′ .ensures) (v .2) ((c .before .before .before .before .if1) .taken) in
+          let u = parent-turn (a .shrinking) new (a .id .0) (l .last .0) f (edgesIn (l .edges) (l .n)) _ _ (parent′ .result .0) (child′ .result .0) (rowOf (getD (a .old .now) (l .i) [])) _ s
+          (parent′ .ensures) (child′ .ensures) (v .2) ((c .before .before .before .before .if1) .taken) in
           let r = splice-row .result in
           let fs = edgesIn (splice-row .last .0) (r .edges) in (
             w .0,
-            pass-neat (a .shrinking) new (spliceSet-ok es (a .id .0) n) (f (record { parent = parent′ .result .0; child = a .id .0 })) (edgesIn (l .edges) (l .n)) fs (v .1) (sym (w .1) ∙ told-yes (r .refusal) fs ((c .if2) .taken)),
+            pass-neat (a .shrinking) new (spliceSet-ok es (a .id .0) n) (f (record { parent = parent′ .result .0; child = a .id .0 })) (edgesIn (l .edges) (l .n)) fs (v .1)
+                (sym (w .1) ∙ told-yes (r .refusal) fs ((c .if2) .taken)),
             told-on (r .refusal) fs _ _ _ (w .1) u ((c .if2) .taken),
           ),
     )
@@ -99,7 +107,8 @@ returns c =
           let v = l .inv .2 e o k n in
           let w = splice-row .ensures .1 (v .0) o (v .1) n in
           let s = edges-next (a .old .now) (a .m) [] (l .i) (loop-test .taken) (omega (arith, o, pre)) in
-          let u = parent-turn (a .shrinking) new (a .id .0) (l .last .0) f (edgesIn (l .edges) (l .n)) _ _ (parent .result .0) (child .result .0) (rowOf (getD (a .old .now) (l .i) [])) _ s (parent .ensures) (child .ensures) (v .2) ((c .before .before .before .before .if1) .taken) in
+          let u = parent-turn (a .shrinking) new (a .id .0) (l .last .0) f (edgesIn (l .edges) (l .n)) _ _ (parent .result .0) (child .result .0) (rowOf (getD (a .old .now) (l .i) [])) _ s
+          (parent .ensures) (child .ensures) (v .2) ((c .before .before .before .before .if1) .taken) in
           let r = splice-row .result in
           let fs = edgesIn (splice-row .last .0) (r .edges) in
           (w .0, told-off (r .refusal) fs _ _ _ (w .1) u ((c .if2) .left) fs),
@@ -126,8 +135,12 @@ loop-again-2 c =
       omega (arith, loop-test .taken),
       λ e o k n.
           let v = l .inv .2 e o k n in
-          let s = edges-next (a .old .now) (a .m) [] (l .i) (loop-test .taken) (omega (arith, o, pre)) in
-          (v .0, v .1, parent-skip (a .shrinking) new (a .id .0) (l .last .0) f (edgesIn (l .edges) (l .n)) _ _ (parent .result .0) (child .result .0) (rowOf (getD (a .old .now) (l .i) [])) _ s (parent .ensures) (child .ensures) (v .2) ((c .if1) .left)),
+          let s = edges-next (a .old .now) (a .m) [] (l .i) (loop-test .taken) (omega (arith, o, pre)) in (
+            v .0,
+            v .1,
+            parent-skip (a .shrinking) new (a .id .0) (l .last .0) f (edgesIn (l .edges) (l .n)) _ _ (parent .result .0) (child .result .0) (rowOf (getD (a .old .now) (l .i) [])) _ s
+                (parent .ensures) (child .ensures) (v .2) ((c .if1) .left),
+          ),
     )
 
 returns-2 : tie.Need-returns-2 Inv-loop μ-loop
@@ -138,8 +151,11 @@ returns-2 c =
     let f = childRow es (a .id .0) in (
       l .inv .0,
       λ e o k n.
-          let v = l .inv .2 e o k n in
-          (v .0, parent-end (a .shrinking) (spliceSet es (a .id .0)) (a .id .0) (l .last .0) f (edgesIn (l .edges) (l .n)) _ _ (edges-over (a .old .now) (a .m) (l .i) (omega (arith, (c .loop-test) .left)) (omega (arith, o, (c .before .before .pre)))) (v .2)),
+          let v = l .inv .2 e o k n in (
+            v .0,
+            parent-end (a .shrinking) (spliceSet es (a .id .0)) (a .id .0) (l .last .0) f (edgesIn (l .edges) (l .n)) _ _
+                (edges-over (a .old .now) (a .m) (l .i) (omega (arith, (c .loop-test) .left)) (omega (arith, o, (c .before .before .pre)))) (v .2),
+          ),
     )
 
 pub splice-rows-spec : {M : Type 1} → statement M

@@ -19,7 +19,10 @@ child-requires c κs = search needs
 returns : tie.Need-returns
 returns c =
     let a = (c .before .before .before .before .before .before .args) in
-    (λ i. not (eqb (a .id .0) ((c .before .before .before .before .before .parent) .ensures i) || eqb (a .id .0) ((c .before .before .before .before .child) .ensures i))) ∙ not-or (eqb (a .id .0) (rowOf (a .x .now) .parent)) (eqb (a .id .0) (rowOf (a .x .now) .child))
+    let parent′ = (c .before .before .before .before .before .parent) in
+    let child′ = (c .before .before .before .before .child) in
+    (λ i. not (eqb (a .id .0) (parent′ .ensures i) || eqb (a .id .0) (child′ .ensures i)))
+    ∙ not-or (eqb (a .id .0) (rowOf (a .x .now) .parent)) (eqb (a .id .0) (rowOf (a .x .now) .child))
 
 pub touches-spec : {M : Type 1} → statement M
 touches-spec = tie.close (tie.spec parent-requires child-requires returns)

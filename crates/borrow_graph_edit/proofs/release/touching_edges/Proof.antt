@@ -7,6 +7,7 @@ use Rattle.references.specs.ModelLaws.{edges-next, edges-over}
 use Rattle.borrow_graph_edit.specs.Ways.{seen-hit, seen-miss, seen-lost, seen-all, entering, leaving, Seen}
 use mathlib.Core.List.{[]}
 use lib.ListN.{length, drop, getD}
+use Rattle.meaning.specs.Limits.{maxEdges}
 use Rattle.references.specs.Models.{rowOf, edgesIn}
 use native.Mathlib.Omega.{arith}
 use borrow.Author.Needs.{needs}
@@ -15,7 +16,10 @@ use Rattle.borrow_graph_edit.proofs.release.touching_edges.Tie as tie
 
 abbrev Inv-loop : tie.InvT-loop
 Inv-loop edges m id to₀ from₀ i₀ to from i =
-    (i ≤ m) × (to .at < 96) × (from .at < 96) × (length edges ≡ 96 → Seen (entering (id .0)) (to .empty) (to .single) (rowOf (getD edges (to .at) [])) (drop i (edgesIn edges m)) (edgesIn edges m) × Seen (leaving (id .0)) (from .empty) (from .single) (rowOf (getD edges (from .at) [])) (drop i (edgesIn edges m)) (edgesIn edges m))
+    (i ≤ m) × (to .at < maxEdges) × (from .at < maxEdges)
+    × (length edges ≡ maxEdges
+    → Seen (entering (id .0)) (to .empty) (to .single) (rowOf (getD edges (to .at) [])) (drop i (edgesIn edges m)) (edgesIn edges m)
+    × Seen (leaving (id .0)) (from .empty) (from .single) (rowOf (getD edges (from .at) [])) (drop i (edgesIn edges m)) (edgesIn edges m))
 
 abbrev μ-loop : tie.MeasureT-loop
 μ-loop edges m id to₀ from₀ i₀ to from i = m - i
@@ -50,20 +54,26 @@ loop-less c = omega arith
 loop-again : tie.Need-loop-again Inv-loop μ-loop
 loop-again c =
     let l = (c .before .before .before .before .before .before .before .before .before .before .before .before .loop) in
-    let n = (c .before .before .before .before .before .before .before .before .before .before .before .before .before .args) .id .0 in
-    let rows = (c .before .before .before .before .before .before .before .before .before .before .before .before .before .args) .edges .now in
-    let m = (c .before .before .before .before .before .before .before .before .before .before .before .before .before .args) .m in
+    let a = (c .before .before .before .before .before .before .before .before .before .before .before .before .before .args) in
+    let pre = (c .before .before .before .before .before .before .before .before .before .before .before .before .before .pre) in
+    let loop-test = (c .before .before .before .before .before .before .before .before .before .before .before .loop-test) in
+    let parent′ = (c .before .before .before .before .before .before .before .before .before .parent) in
+    let child′ = (c .before .before .before .before .before .before .before .child) in
+    let n = a .id .0 in
+    let rows = a .edges .now in
+    let es = edgesIn rows (a .m) in
     let x = rowOf (getD rows (l .i) []) in
-    let a = rowOf (getD rows (l .from .at) []) in (
-      omega (arith, (c .before .before .before .before .before .before .before .before .before .before .before .loop-test) .taken),
-      omega (arith, (c .before .before .before .before .before .before .before .before .before .before .before .loop-test) .taken, (c .before .before .before .before .before .before .before .before .before .before .before .before .before .pre)),
+    let out = rowOf (getD rows (l .from .at) []) in (
+      omega (arith, loop-test .taken),
+      omega (arith, loop-test .taken, pre),
       l .inv .2,
       λ e.
-          let s = edges-next rows m [] (l .i) ((c .before .before .before .before .before .before .before .before .before .before .before .loop-test) .taken) (omega (arith, e, (c .before .before .before .before .before .before .before .before .before .before .before .before .before .pre))) in
+          let s = edges-next rows (a .m) [] (l .i) (loop-test .taken) (omega (arith, e, pre)) in
           let v = l .inv .3 e in (
-            seen-hit (entering n) (l .to .empty) (l .to .single) (rowOf (getD rows (l .to .at) [])) (edgesIn rows m) x _ _ s (v .0) (eq-eqb _ _ ((c .before .before .if1) .taken ∙ (c .before .before .before .before .before .before .before .child) .ensures)),
-            subst (λ (k : ℕ). Seen (leaving n) (l .from .empty && not (eqb n k)) (l .from .single && not (eqb n k)) a (drop (l .i + 1) (edgesIn rows m)) (edgesIn rows m)) (sym ((c .before .before .before .before .before .before .before .before .before .parent) .ensures))
-                (seen-lost (leaving n) (l .from .empty) (l .from .single) a (edgesIn rows m) x _ _ s (v .1)),
+            seen-hit (entering n) (l .to .empty) (l .to .single) (rowOf (getD rows (l .to .at) [])) es x _ _ s (v .0)
+                (eq-eqb _ _ ((c .before .before .if1) .taken ∙ child′ .ensures)),
+            subst (λ (k : ℕ). Seen (leaving n) (l .from .empty && not (eqb n k)) (l .from .single && not (eqb n k)) out (drop (l .i + 1) es) es) (sym (parent′ .ensures))
+                (seen-lost (leaving n) (l .from .empty) (l .from .single) out es x _ _ s (v .1)),
           ),
     )
 
@@ -76,18 +86,25 @@ loop-less-2 c = omega arith
 loop-again-2 : tie.Need-loop-again-2 Inv-loop μ-loop
 loop-again-2 c =
     let l = (c .before .before .before .before .before .before .before .before .before .before .before .loop) in
-    let n = (c .before .before .before .before .before .before .before .before .before .before .before .before .args) .id .0 in
-    let rows = (c .before .before .before .before .before .before .before .before .before .before .before .before .args) .edges .now in
-    let m = (c .before .before .before .before .before .before .before .before .before .before .before .before .args) .m in
+    let a = (c .before .before .before .before .before .before .before .before .before .before .before .before .args) in
+    let pre = (c .before .before .before .before .before .before .before .before .before .before .before .before .pre) in
+    let loop-test = (c .before .before .before .before .before .before .before .before .before .before .loop-test) in
+    let parent′ = (c .before .before .before .before .before .before .before .before .parent) in
+    let child′ = (c .before .before .before .before .before .before .child) in
+    let n = a .id .0 in
+    let rows = a .edges .now in
+    let es = edgesIn rows (a .m) in
     let x = rowOf (getD rows (l .i) []) in (
-      omega (arith, (c .before .before .before .before .before .before .before .before .before .before .loop-test) .taken),
+      omega (arith, loop-test .taken),
       l .inv .1,
-      omega (arith, (c .before .before .before .before .before .before .before .before .before .before .loop-test) .taken, (c .before .before .before .before .before .before .before .before .before .before .before .before .pre)),
+      omega (arith, loop-test .taken, pre),
       λ e.
-          let s = edges-next rows m [] (l .i) ((c .before .before .before .before .before .before .before .before .before .before .loop-test) .taken) (omega (arith, e, (c .before .before .before .before .before .before .before .before .before .before .before .before .pre))) in
+          let s = edges-next rows (a .m) [] (l .i) (loop-test .taken) (omega (arith, e, pre)) in
           let v = l .inv .3 e in (
-            seen-miss (entering n) (l .to .empty) (l .to .single) (rowOf (getD rows (l .to .at) [])) (edgesIn rows m) x _ _ s (v .0) (ne-eqb _ _ (λ z. (c .before .if1) .left (z ∙ sym ((c .before .before .before .before .before .before .child) .ensures)))),
-            seen-hit (leaving n) (l .from .empty) (l .from .single) (rowOf (getD rows (l .from .at) [])) (edgesIn rows m) x _ _ s (v .1) ((λ i. eqb n (sym ((c .before .before .before .before .before .before .before .before .parent) .ensures) i)) ∙ (c .if2) .taken),
+            seen-miss (entering n) (l .to .empty) (l .to .single) (rowOf (getD rows (l .to .at) [])) es x _ _ s (v .0)
+                (ne-eqb _ _ (λ z. (c .before .if1) .left (z ∙ sym (child′ .ensures)))),
+            seen-hit (leaving n) (l .from .empty) (l .from .single) (rowOf (getD rows (l .from .at) [])) es x _ _ s (v .1)
+                ((λ i. eqb n (sym (parent′ .ensures) i)) ∙ (c .if2) .taken),
           ),
     )
 
@@ -100,33 +117,43 @@ loop-less-3 c = omega arith
 loop-again-3 : tie.Need-loop-again-3 Inv-loop μ-loop
 loop-again-3 c =
     let l = (c .before .before .before .before .before .before .before .before .before .before .before .loop) in
-    let n = (c .before .before .before .before .before .before .before .before .before .before .before .before .args) .id .0 in
-    let rows = (c .before .before .before .before .before .before .before .before .before .before .before .before .args) .edges .now in
-    let m = (c .before .before .before .before .before .before .before .before .before .before .before .before .args) .m in
+    let a = (c .before .before .before .before .before .before .before .before .before .before .before .before .args) in
+    let pre = (c .before .before .before .before .before .before .before .before .before .before .before .before .pre) in
+    let loop-test = (c .before .before .before .before .before .before .before .before .before .before .loop-test) in
+    let parent′ = (c .before .before .before .before .before .before .before .before .parent) in
+    let child′ = (c .before .before .before .before .before .before .child) in
+    let n = a .id .0 in
+    let rows = a .edges .now in
+    let es = edgesIn rows (a .m) in
     let x = rowOf (getD rows (l .i) []) in (
-      omega (arith, (c .before .before .before .before .before .before .before .before .before .before .loop-test) .taken),
+      omega (arith, loop-test .taken),
       l .inv .1,
       l .inv .2,
       λ e.
-          let s = edges-next rows m [] (l .i) ((c .before .before .before .before .before .before .before .before .before .before .loop-test) .taken) (omega (arith, e, (c .before .before .before .before .before .before .before .before .before .before .before .before .pre))) in
+          let s = edges-next rows (a .m) [] (l .i) (loop-test .taken) (omega (arith, e, pre)) in
           let v = l .inv .3 e in (
-            seen-miss (entering n) (l .to .empty) (l .to .single) (rowOf (getD rows (l .to .at) [])) (edgesIn rows m) x _ _ s (v .0) (ne-eqb _ _ (λ z. (c .before .if1) .left (z ∙ sym ((c .before .before .before .before .before .before .child) .ensures)))),
-            seen-miss (leaving n) (l .from .empty) (l .from .single) (rowOf (getD rows (l .from .at) [])) (edgesIn rows m) x _ _ s (v .1) ((λ i. eqb n (sym ((c .before .before .before .before .before .before .before .before .parent) .ensures) i)) ∙ (c .if2) .left),
+            seen-miss (entering n) (l .to .empty) (l .to .single) (rowOf (getD rows (l .to .at) [])) es x _ _ s (v .0)
+                (ne-eqb _ _ (λ z. (c .before .if1) .left (z ∙ sym (child′ .ensures)))),
+            seen-miss (leaving n) (l .from .empty) (l .from .single) (rowOf (getD rows (l .from .at) [])) es x _ _ s (v .1)
+                ((λ i. eqb n (sym (parent′ .ensures) i)) ∙ (c .if2) .left),
           ),
     )
 
 returns : tie.Need-returns Inv-loop μ-loop
 returns c =
     let l = (c .before .loop) in
-    let n = (c .before .before .args) .id .0 in
-    let rows = (c .before .before .args) .edges .now in
-    let m = (c .before .before .args) .m in (
+    let a = (c .before .before .args) in
+    let n = a .id .0 in
+    let rows = a .edges .now in
+    let es = edgesIn rows (a .m) in (
       l .inv .1,
       l .inv .2,
       λ e.
-          let z = edges-over rows m (l .i) (omega (arith, (c .loop-test) .left)) (omega (arith, e, (c .before .before .pre))) in
-          let v = l .inv .3 e in
-          (seen-all (entering n) (l .to .empty) (l .to .single) (rowOf (getD rows (l .to .at) [])) (edgesIn rows m) _ z (v .0), seen-all (leaving n) (l .from .empty) (l .from .single) (rowOf (getD rows (l .from .at) [])) (edgesIn rows m) _ z (v .1)),
+          let z = edges-over rows (a .m) (l .i) (omega (arith, (c .loop-test) .left)) (omega (arith, e, (c .before .before .pre))) in
+          let v = l .inv .3 e in (
+            seen-all (entering n) (l .to .empty) (l .to .single) (rowOf (getD rows (l .to .at) [])) es _ z (v .0),
+            seen-all (leaving n) (l .from .empty) (l .from .single) (rowOf (getD rows (l .from .at) [])) es _ z (v .1),
+          ),
     )
 
 pub touching-edges-spec : {M : Type 1} → statement M

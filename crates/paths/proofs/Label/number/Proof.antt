@@ -1,5 +1,3 @@
-use mathlib.Core.Path.{_≡_, refl}
-use native.Mathlib.Omega.{arith}
 use borrow.Author.Needs.{needs}
 use Rattle.paths.proofs.Label.number.Statement.{statement}
 use Rattle.paths.proofs.Label.number.Tie as tie

@@ -118,13 +118,19 @@ returns c =
     stepped (a .returns) (a .d) ((c .before .before .before .before .enum-told) .given .1) ((c .pop-top) .ensures (a .locals .now))
 
 returns-2 : tie.Need-returns-2
-returns-2 c = stepped ((c .before .before .before .before .before .before .before .before .args) .returns) ((c .before .before .before .before .before .before .before .before .args) .d) ((c .before .before .before .before .before .before .i) .given .1) ((c .copy-loc) .ensures)
+returns-2 c =
+    let a = (c .before .before .before .before .before .before .before .before .args) in
+    stepped (a .returns) (a .d) ((c .before .before .before .before .before .before .i) .given .1) ((c .copy-loc) .ensures)
 
 returns-3 : tie.Need-returns-3
-returns-3 c = stepped ((c .before .before .before .before .before .before .before .before .args) .returns) ((c .before .before .before .before .before .before .before .before .args) .d) ((c .before .before .before .before .before .before .i2) .given .1) ((c .move-loc) .ensures)
+returns-3 c =
+    let a = (c .before .before .before .before .before .before .before .before .args) in
+    stepped (a .returns) (a .d) ((c .before .before .before .before .before .before .i2) .given .1) ((c .move-loc) .ensures)
 
 returns-4 : tie.Need-returns-4
-returns-4 c = stepped ((c .before .before .before .before .before .before .before .before .args) .returns) ((c .before .before .before .before .before .before .before .before .args) .d) ((c .before .before .before .before .before .before .i3) .given .1) ((c .st-loc) .ensures)
+returns-4 c =
+    let a = (c .before .before .before .before .before .before .before .before .args) in
+    stepped (a .returns) (a .d) ((c .before .before .before .before .before .before .i3) .given .1) ((c .st-loc) .ensures)
 
 returns-5 : tie.Need-returns-5
 returns-5 c =
@@ -168,12 +174,13 @@ returns-12 c =
 
 returns-13 : tie.Need-returns-13
 returns-13 c =
-    let a = (c .before .before .before .before .before .before .before .before .before .args) in
-    let i8 = (c .before .before .before .before .before .before .before .i8) in
-    stepped (a .returns) (a .d) (i8 .given .1) ((c .call) .ensures (a .locals .now))
+    let a = (c .before .before .before .before .before .before .before .args) in
+    stepped (a .returns) (a .d) ((c .before .before .before .before .before .i8) .given .1) ((c .call) .ensures (a .locals .now))
 
 returns-14 : tie.Need-returns-14
-returns-14 c = stepped ((c .before .before .before .before .before .before .before .args) .returns) ((c .before .before .before .before .before .before .before .args) .d) ((c .before .before .before .before .before .enum-told6) .given .1) ((c .ret) .ensures)
+returns-14 c =
+    let a = (c .before .before .before .before .before .before .before .args) in
+    stepped (a .returns) (a .d) ((c .before .before .before .before .before .enum-told6) .given .1) ((c .ret) .ensures)
 
 returns-15 : tie.Need-returns-15
 returns-15 c =

@@ -13,7 +13,10 @@ use Rattle.reference_safety.proofs.block.run_block.Statement.{statement
 use Rattle.reference_safety.proofs.block.run_block.Tie as tie
 
 abbrev Inv-loop : tie.InvT-loop
-Inv-loop listing routine code b locals₀ names₀ edges₀ m₀ n end stack₀ k₀ locals names edges m stack k = Going (routine .returns) (blockOf b) (take (end - k) (drop k (map (decodedAt listing) (take (routine .«code_count») code)))) k (board locals names edges stack m) (words locals₀ names₀ edges₀ (m₀ .state)) (runBlock (routineOf listing code routine) (blockOf b) (stateOf (words locals₀ names₀ edges₀ (m₀ .state))))
+Inv-loop listing routine code b locals₀ names₀ edges₀ m₀ n end stack₀ k₀ locals names edges m stack k =
+    Going (routine .returns) (blockOf b) (take (end - k) (drop k (map (decodedAt listing) (take (routine .«code_count») code)))) k
+    (board locals names edges stack m) (words locals₀ names₀ edges₀ (m₀ .state))
+    (runBlock (routineOf listing code routine) (blockOf b) (stateOf (words locals₀ names₀ edges₀ (m₀ .state))))
 
 abbrev μ-loop : tie.MeasureT-loop
 μ-loop listing routine code b locals₀ names₀ edges₀ m₀ n end stack₀ k₀ locals names edges m stack k = end - k
@@ -40,7 +43,9 @@ loop-holds c =
     let a = (c .before .before .before .before .before .before .before .args) in
     let m = (c .before .before .before .before .before .begin) in
     let q = routineOf (a .listing .now) (a .code .now) (a .routine) in
-    begins q (blockOf (a .b)) (lesser .result) (board (a .locals .now) (a .names .now) (a .edges .now) _ (m .result)) (stateIn (a .routine .locals) (words (a .locals .now) (a .names .now) (a .edges .now) (a .state))) (going (m .result .state .violation) (m .result .state .refusal) (m .ensures .1) (m .ensures .2)) refl (m .ensures .0)
+    begins q (blockOf (a .b)) (lesser .result) (board (a .locals .now) (a .names .now) (a .edges .now) _ (m .result))
+    (stateIn (a .routine .locals) (words (a .locals .now) (a .names .now) (a .edges .now) (a .state)))
+    (going (m .result .state .violation) (m .result .state .refusal) (m .ensures .1) (m .ensures .2)) refl (m .ensures .0)
     (m .ensures .4 (a .locals .now) (a .names .now) (a .edges .now)) (omega (arith, code-len .ensures .1, code-length (decodedAt (a .listing .now)) (a .code .now) (a .routine .«code_count»), code-len .ensures .0, lesser .ensures, (c .before .before .past) .ensures))
 
 mul-decode : tie.Need-mul-decode Inv-loop μ-loop

@@ -23,7 +23,9 @@ unfolding popValues
 returns c =
     let a = (c .before .before .before .before .before .before .before .before .before .args) in
     let pop-under = (c .before .before .before .before .before .before .pop-under) in
-    λ ls. under-runs (a .stack .now) (a .m .depth) (pop-under .result) (λ v us s. pushed us (vectorElementBorrow v (a .mutable) s)) 1 (pop-under .ensures .0) ((c .before .before .before .before .before .refuse) .ensures ls _ _) (gives ((c .before .before .vector-element-borrow) .ensures ls) ((c .pushed) .ensures ls _ _))
+    let refuse = (c .before .before .before .before .before .refuse) in
+    λ ls. under-runs (a .stack .now) (a .m .depth) (pop-under .result) (λ v us s. pushed us (vectorElementBorrow v (a .mutable) s)) 1 (pop-under .ensures .0) (refuse .ensures ls _ _)
+    (gives ((c .before .before .vector-element-borrow) .ensures ls) ((c .pushed) .ensures ls _ _))
 
 pub borrow-element-spec : {M : Type 1} → statement M
 borrow-element-spec =

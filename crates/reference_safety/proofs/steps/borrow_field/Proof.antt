@@ -22,7 +22,9 @@ returns : tie.Need-returns
 returns c =
     let a = (c .before .before .before .before .before .before .before .before .before .before .args) in
     let pop-ref = (c .before .before .before .before .before .before .before .pop-ref) in
-    λ ls. ref-runs (a .stack .now) (a .m .depth) (pop-ref .result) (λ n us s. pushed us (borrowField (a .mutable) n (a .field) s)) (pop-ref .ensures .0) ((c .before .before .before .before .before .before .refuse) .ensures ls _ _) (gives ((c .before .before .borrow-field) .ensures ls) ((c .pushed) .ensures ls _ _))
+    let refuse = (c .before .before .before .before .before .before .refuse) in
+    λ ls. ref-runs (a .stack .now) (a .m .depth) (pop-ref .result) (λ n us s. pushed us (borrowField (a .mutable) n (a .field) s)) (pop-ref .ensures .0) (refuse .ensures ls _ _)
+    (gives ((c .before .before .borrow-field) .ensures ls) ((c .pushed) .ensures ls _ _))
 
 pub borrow-field-spec : {M : Type 1} → statement M
 borrow-field-spec =

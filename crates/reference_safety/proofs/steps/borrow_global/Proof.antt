@@ -23,7 +23,9 @@ unfolding popValues
 returns c =
     let a = (c .before .before .before .before .before .before .before .before .before .args) in
     let pop-values = (c .before .before .before .before .before .before .pop-values) in
-    λ ls. rest-runs (a .stack .now) (a .m .depth) (pop-values .result) (λ us s. pushed us (borrowGlobal (a .mutable) (a .resource) s)) 1 (pop-values .ensures .0) ((c .before .before .before .before .before .refuse) .ensures ls _ _) (gives ((c .before .before .borrow-global) .ensures ls) ((c .pushed) .ensures ls _ _))
+    let refuse = (c .before .before .before .before .before .refuse) in
+    λ ls. rest-runs (a .stack .now) (a .m .depth) (pop-values .result) (λ us s. pushed us (borrowGlobal (a .mutable) (a .resource) s)) 1 (pop-values .ensures .0) (refuse .ensures ls _ _)
+    (gives ((c .before .before .borrow-global) .ensures ls) ((c .pushed) .ensures ls _ _))
 
 pub borrow-global-spec : {M : Type 1} → statement M
 borrow-global-spec =

@@ -26,12 +26,14 @@ push-results-requires c κs = search needs
 
 returns : tie.Need-returns
 returns c = λ ls.
-    let a = (c .before .before .before .before .before .before .before .before .before .before .before .before .args) in
-    let p = (c .before .before .before .before .before .before .before .before .before .pop-many) in
     let k = (c .before .before .before .before .call) in
-    let acquired = take (a .acquired-count) (a .acquired) in
-    let tokens = map tokenAs (take (a .token-count) (a .tokens)) in
-    many-runs (a .stack .now) (a .m .depth) (p .result) (λ vs us s. then (R.call vs acquired tokens s) (λ x. pushAll us (x .operands) (x .state))) (a .parameters) (p .ensures .0) ((c .before .before .before .before .before .before .before .before .refuse) .ensures ls _ _)
+    let r = (c .before .before .before .before .before .before .before .before .before .before) in
+    let p = (r .before .pop-many) in
+    let a = (r .before .before .before .before .args) in
+    let acquired = take (a .d .«acquired_count») (a .d .acquired) in
+    let tokens = map tokenAs (take (a .d .«token_count») (a .d .tokens)) in
+    many-runs (a .stack .now) (a .m .depth) (p .result) (λ vs us s. then (R.call vs acquired tokens s) (λ x. pushAll us (x .operands) (x .state))) (a .parameters)
+    (p .ensures .0) (r .refuse .ensures ls _ _)
     (answers-runs (R.call (operandsOf (p .result .values)) acquired tokens) (operandsOf (k .result .values)) (stackIn (a .stack .now) (p .result .depth)) (k .ensures ls .0) (k .ensures ls .1) ((c .push-results) .ensures ls _ _))
 
 pub call-spec : {M : Type 1} → statement M

@@ -28,12 +28,14 @@ pushed-requires c κs = search needs
 returns : tie.Need-returns
 returns c =
     let refuse = (c .before .before .before .before .before .before .before .before .refuse) in
+    let refuse2 = (c .before .before .before .before .before .refuse2) in
     λ ls.
     let a = (c .before .before .before .before .before .before .before .before .before .before .before .before .args) in
     let p = (c .before .before .before .before .before .before .before .before .before .pop) in
     let q = (c .before .before .before .before .before .before .pop2) in
     pop-runs (a .stack .now) (a .m .depth) (p .result) (λ v us s. pop us (λ w ts. pushed ts (comparison v w s))) (p .ensures .0) (refuse .ensures ls _ _)
-    (pop-runs (a .stack .now) (p .result .depth) (q .result) (λ w ts s. pushed ts (comparison (operandOf (p .result .value)) w s)) (q .ensures .0) ((c .before .before .before .before .before .refuse2) .ensures ls _ _) (gives ((c .before .before .comparison) .ensures ls) ((c .pushed) .ensures ls _ _)))
+    (pop-runs (a .stack .now) (p .result .depth) (q .result) (λ w ts s. pushed ts (comparison (operandOf (p .result .value)) w s)) (q .ensures .0) (refuse2 .ensures ls _ _)
+    (gives ((c .before .before .comparison) .ensures ls) ((c .pushed) .ensures ls _ _)))
 
 pub compare-spec : {M : Type 1} → statement M
 compare-spec =

@@ -24,7 +24,10 @@ returns : tie.Need-returns
 returns c =
     let a = (c .before .before .before .before .before .before .before .before .before .before .args) in
     let pop-under = (c .before .before .before .before .before .before .before .pop-under) in
-    λ ls. under-runs (a .stack .now) (a .m .depth) (pop-under .result) (λ v us s. then (vectorOp v (a .mutable) s) (λ q. pushNew (a .pushes) (tokenOf (a .token)) us q)) (a .takes) (pop-under .ensures .0) ((c .before .before .before .before .before .before .refuse) .ensures ls _ _) (does-runs ((c .before .before .before .vector-op) .ensures ls) ((c .push-new) .ensures ls _))
+    let refuse = (c .before .before .before .before .before .before .refuse) in
+    λ ls. under-runs (a .stack .now) (a .m .depth) (pop-under .result) (λ v us s. then (vectorOp v (a .mutable) s) (λ q. pushNew (a .pushes) (tokenOf (a .token)) us q))
+    (a .takes) (pop-under .ensures .0) (refuse .ensures ls _ _)
+    (does-runs ((c .before .before .before .vector-op) .ensures ls) ((c .push-new) .ensures ls _))
 
 pub vector-op-spec : {M : Type 1} → statement M
 vector-op-spec =

@@ -1,4 +1,4 @@
-use mathlib.Core.Path.{_≡_, refl, sym, ap, _∙_}
+use mathlib.Core.Path.{sym, _∙_}
 use Rattle.references.specs.RowLaws.{by-greater, by-less, by-paths}
 use borrow.Author.Needs.{needs}
 use Rattle.references.proofs.rows.cmp.Statement.{statement}

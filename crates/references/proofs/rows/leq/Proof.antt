@@ -1,4 +1,3 @@
-use mathlib.Core.Path.{refl}
 use Rattle.meaning.specs.References.{covers}
 use borrow.Author.Needs.{needs}
 use Rattle.references.proofs.rows.leq.Statement.{statement}

@@ -1,9 +1,7 @@
 use Rattle.references.specs.RowLaws.{meets-by, path-length, countIn}
-use mathlib.Core.Path.{_≡_, sym, ap, _∙_}
-use Prim.Native.Nat.{ℕ}
+use mathlib.Core.Path.{_≡_, _∙_}
 use lib.Dec.{eqb}
 use mathlib.Core.Bool.{_||_}
-use native.Mathlib.Omega.{arith}
 use borrow.Author.Needs.{needs}
 use Rattle.references.proofs.rows.meets.Statement.{statement}
 use Rattle.references.proofs.rows.meets.Tie as tie

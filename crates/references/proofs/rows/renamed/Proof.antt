@@ -1,8 +1,7 @@
-use mathlib.Core.Path.{_≡_, ap, _∙_}
+use mathlib.Core.Path.{ap, _∙_}
 use mathlib.Core.Bool.{Bool}
 use Rattle.meaning.specs.BorrowGraph.{GEdge}
 use Rattle.references.specs.Models.{rowOf}
-use native.Mathlib.Omega.{arith}
 use borrow.Author.Needs.{needs}
 use Rattle.references.proofs.rows.renamed.Statement.{statement}
 use Rattle.references.proofs.rows.renamed.Tie as tie

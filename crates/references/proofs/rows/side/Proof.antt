@@ -1,4 +1,4 @@
-use mathlib.Core.Path.{_≡_, sym, _∙_}
+use mathlib.Core.Path.{sym}
 use Rattle.references.specs.RowLaws.{side-less, side-equal, side-greater}
 use native.Mathlib.Omega.{arith}
 use borrow.Author.Needs.{needs}

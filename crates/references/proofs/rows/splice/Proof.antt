@@ -1,13 +1,12 @@
 use borrow.Author.Tests.{not-true, not-false}
 use mathlib.Core.Path.{_≡_, sym, ap, _∙_}
 use mathlib.Core.Bool.{Bool, true, false}
-use mathlib.Core.List.{List, _++_}
+use mathlib.Core.List.{_++_}
 use Prim.Native.Nat.{ℕ, _+_, _-_, _*_, _<_, _≤_}
 use lib.ListN.{length, length-append}
-use Rattle.meaning.specs.Answers.{Ans, ok}
-use Rattle.meaning.specs.References.{Edge}
+use Rattle.meaning.specs.Answers.{ok}
+use Rattle.meaning.specs.References.{fitting}
 use Rattle.meaning.specs.BorrowGraph.{GEdge}
-use Rattle.meaning.specs.Refinement.Passes.{fitting}
 use Rattle.meaning.specs.Laws.Area.{bit}
 use Rattle.meaning.specs.Laws.Pass.{fitting-short, splice-strong, splice-weak}
 use Rattle.references.specs.Models.{rowOf}
@@ -96,7 +95,8 @@ returns-3 c =
     let h : length (rowOf x .edge .path ++ rowOf y .edge .path) ≤ 8 = simp length-append (omega (arith, labels .ensures .0, labels2 .ensures .0, if2 .left)) in
     let e : m ≡ countIn y = labels2 .ensures .0 ∙ path-length y _ in
     let q = r .ensures .0 ∙ ap (λ (k : ℕ). pathIn (remade .result) n ++ pathIn y k) e in
-    let g = row-joined (remade .result) (r .result) ((c .marks) .result) n m (rowOf y .edge .strong) _ (rowOf y .edge .path) w (labels .ensures .0) (omega (arith, if2 .left)) q (r .ensures .1) (r .ensures .2) ((c .marks) .ensures ∙ ap (λ (b : Bool). bit false * 32 + bit b * 16 + (n + m)) ((c .before .is-strong2) .ensures)) in (
+    let g = row-joined (remade .result) (r .result) ((c .marks) .result) n m (rowOf y .edge .strong) _ (rowOf y .edge .path) w (labels .ensures .0) (omega (arith, if2 .left)) q
+    (r .ensures .1) (r .ensures .2) ((c .marks) .ensures ∙ ap (λ (b : Bool). bit false * 32 + bit b * 16 + (n + m)) ((c .before .is-strong2) .ensures)) in (
       ap (λ (g : GEdge). ok (g .edge)) g ∙ fitting-short (record { strong = rowOf y .edge .strong; path = rowOf x .edge .path ++ rowOf y .edge .path }) h ∙ ap fitting (splice-strong (rowOf x .edge) (rowOf y .edge) (sym (is-strong .ensures) ∙ s)),
       ap (λ (g : GEdge). g .parent) g ∙ parent′ .ensures,
       ap (λ (g : GEdge). g .child) g ∙ child′ .ensures,

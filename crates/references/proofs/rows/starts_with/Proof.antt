@@ -1,9 +1,7 @@
 use Rattle.references.specs.RowLaws.{starts-by, path-length, countIn}
-use mathlib.Core.Path.{_≡_, sym, ap, _∙_}
-use Prim.Native.Nat.{ℕ}
+use mathlib.Core.Path.{_≡_, _∙_}
 use lib.Dec.{eqb, ltb}
 use mathlib.Core.Bool.{_||_, _&&_}
-use native.Mathlib.Omega.{arith}
 use borrow.Author.Needs.{needs}
 use Rattle.references.proofs.rows.starts_with.Statement.{statement}
 use Rattle.references.proofs.rows.starts_with.Tie as tie

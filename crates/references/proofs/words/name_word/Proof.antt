@@ -1,4 +1,4 @@
-use mathlib.Core.Path.{ap, _∙_}
+use mathlib.Core.Path.{ap}
 use Prim.Native.Nat.{ℕ, _+_, _*_}
 use Rattle.meaning.specs.Laws.Area.{name-word}
 use native.Mathlib.Omega.{arith}

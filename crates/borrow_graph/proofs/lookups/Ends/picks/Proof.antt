@@ -1,4 +1,3 @@
-use mathlib.Core.Path.{refl}
 use borrow.Author.Needs.{needs}
 use Rattle.borrow_graph.proofs.lookups.Ends.picks.Statement.{statement}
 use Rattle.borrow_graph.proofs.lookups.Ends.picks.Tie as tie
