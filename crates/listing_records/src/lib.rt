@@ -22,7 +22,7 @@ ghost use mathlib.Core.Path.{_≡_};
 ghost use Prim.Native.Nat.{_+_, _≤_, _<_};
 ghost use mathlib.Core.Bool.{not, Bool·beq};
 ghost use mathlib.Core.List.{[]};
-ghost use lib.Dec.{eqb};
+ghost use lib.Dec.{eqb, ltb};
 ghost use lib.ListN.{length, getD, take, drop};
 ghost use Rattle.meaning.specs.Limits.{maxBytes, maxInstructions, maxBlocks};
 ghost use Rattle.meaning.specs.Lists.{all};
@@ -296,18 +296,26 @@ fn test_record(s: &[u8], at: usize, locals: u8) -> Test
     }
 }
 
-// That the record at a place, with a body of n bytes, keeps to row k: one test of all its bytes, without a jump. Nine bytes are there, four and
-// the longest body that has a row.
-fn keeps_to_row(s: &[u8], at: usize, n: u16, k: usize, rows: &[[u16; 6]; 18]) -> bool
-    requires { ⌜ (at + 9 ≤ length (now s)) × (k < 18) ⌝ }
-    ensures { λ r. ⌜ r ≡ keepsTo (getD (now (rows .entry)) k []) n (now (s .entry)) at ⌝ }
+// That a byte is below a limit.
+fn below(s: &[u8], i: usize, limit: u16) -> bool
+    requires { ⌜ i < length (now s) ⌝ }
+    ensures { λ r. ⌜ r ≡ ltb (getD (now (s .entry)) i 0) limit ⌝ }
 {
-    let len = n == rows[k][0];
-    let a = wide(s[at + 4]) < rows[k][1];
-    let b = wide(s[at + 5]) < rows[k][2];
-    let c = wide(s[at + 6]) < rows[k][3];
-    let d = wide(s[at + 7]) < rows[k][4];
-    let e = wide(s[at + 8]) < rows[k][5];
+    wide(s[i]) < limit
+}
+
+// That the record at a place, with a body of n bytes, keeps to a row: one test of all its bytes, without a jump. Nine bytes are there, four
+// and the longest body that has a row.
+fn keeps_to_row(s: &[u8], at: usize, n: u16, row: &[u16; 6]) -> bool
+    requires { ⌜ at + 9 ≤ length (now s) ⌝ }
+    ensures { λ r. ⌜ r ≡ keepsTo (now (row .entry)) n (now (s .entry)) at ⌝ }
+{
+    let len = n == row[0];
+    let a = below(s, at + 4, row[1]);
+    let b = below(s, at + 5, row[2]);
+    let c = below(s, at + 6, row[3]);
+    let d = below(s, at + 7, row[4]);
+    let e = below(s, at + 8, row[5]);
     len & a & b & c & d & e
 }
 
@@ -321,7 +329,7 @@ fn test_by_row(s: &[u8], at: usize, locals: u8, rows: &[[u16; 6]; 18]) -> Test
         let n = u16_in(s, at);
         let kind = u16_in(s, at + 2);
         if (10 <= kind) & (kind < 28) {
-            if keeps_to_row(s, at, n, kind as usize - 10, rows) {
+            if keeps_to_row(s, at, n, &rows[kind as usize - 10]) {
                 return Test {
                     number: 0,
                     kind,

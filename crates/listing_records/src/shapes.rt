@@ -88,38 +88,30 @@ pub fn shape_of(kind: u16) -> Shape
 // A byte that may be anything, or is past the body.
 const ANY: u16 = 256;
 
-// The kinds from 10 on: how long a body is, and the least number that each of its bytes may not be. 0 stands for L, which is put in, and,
-// in kind 22, for a field whose width is not fixed: no byte is below it.
-const LIMITS: [[u16; 6]; 18] = [
-    [0, ANY, ANY, ANY, ANY, ANY], // 10
-    [1, 0, ANY, ANY, ANY, ANY], // 11
-    [1, 0, ANY, ANY, ANY, ANY], // 12
-    [1, 0, ANY, ANY, ANY, ANY], // 13
-    [0, ANY, ANY, ANY, ANY, ANY], // 14
-    [0, ANY, ANY, ANY, ANY, ANY], // 15
-    [0, ANY, ANY, ANY, ANY, ANY], // 16
-    [0, ANY, ANY, ANY, ANY, ANY], // 17
-    [2, 0, 2, ANY, ANY, ANY], // 18
-    [3, ANY, ANY, 2, ANY, ANY], // 19
-    [3, ANY, ANY, 2, ANY, ANY], // 20
-    [2, ANY, ANY, ANY, ANY, ANY], // 21
-    [3, 17, 0, 0, ANY, ANY], // 22
-    [0, ANY, ANY, ANY, ANY, ANY], // 23
-    [5, ANY, ANY, ANY, ANY, 3], // 24
-    [0, ANY, ANY, ANY, ANY, ANY], // 25
-    [4, 3, 2, 2, 3, ANY], // 26
-    [1, 2, ANY, ANY, ANY, ANY], // 27
-];
-
-// The rows of limits in a routine of so many locals: copied once for a listing, since a table is made anew at each look-up.
+// The kinds from 10 on, in a routine of so many locals: how long a body is, and the least number that each of its bytes may not be. (0, in
+// kind 22, is for a field whose width is not fixed: no byte is below it.) Made once for a listing, since a table is made anew at each look-up.
 pub(crate) fn limit_rows(locals: u8) -> [[u16; 6]; 18]
     ensures { λ r. ⌜ r ≡ limitRows locals ⌝ }
 {
-    let mut rows = LIMITS;
     let l = locals as u16;
-    rows[1][1] = l;
-    rows[2][1] = l;
-    rows[3][1] = l;
-    rows[8][1] = l;
-    rows
+    [
+        [0, ANY, ANY, ANY, ANY, ANY], // 10
+        [1, l, ANY, ANY, ANY, ANY], // 11
+        [1, l, ANY, ANY, ANY, ANY], // 12
+        [1, l, ANY, ANY, ANY, ANY], // 13
+        [0, ANY, ANY, ANY, ANY, ANY], // 14
+        [0, ANY, ANY, ANY, ANY, ANY], // 15
+        [0, ANY, ANY, ANY, ANY, ANY], // 16
+        [0, ANY, ANY, ANY, ANY, ANY], // 17
+        [2, l, 2, ANY, ANY, ANY], // 18
+        [3, ANY, ANY, 2, ANY, ANY], // 19
+        [3, ANY, ANY, 2, ANY, ANY], // 20
+        [2, ANY, ANY, ANY, ANY, ANY], // 21
+        [3, 17, 0, 0, ANY, ANY], // 22
+        [0, ANY, ANY, ANY, ANY, ANY], // 23
+        [5, ANY, ANY, ANY, ANY, 3], // 24
+        [0, ANY, ANY, ANY, ANY, ANY], // 25
+        [4, 3, 2, 2, 3, ANY], // 26
+        [1, 2, ANY, ANY, ANY, ANY], // 27
+    ]
 }

@@ -1,6 +1,7 @@
 -- What the structs of the code and their arrays mean in the definitions.
 use Prim.Native.Nat.{ℕ}
 use mathlib.Core.Path.{_≡_}
+use mathlib.Core.Bool.{Bool, true, false}
 use mathlib.Core.List.{List, [], _∷_}
 use lib.ListN.{length}
 use Rattle.meaning.specs.Limits.{maxOperands}
@@ -10,6 +11,8 @@ use Rattle.meaning.specs.EntryPoints.{Running}
 use Rattle.meaning.specs.Steps as T
 use Rattle.meaning.specs.Loop.{Result, Block}
 use Rattle.abstract_state.specs.Models.{Words, words, Fits, localsIn, halted, runningOf, outcomeOf, answerOf}
+use Rattle.listing.specs.declared.decode.Instruction.{Instruction}
+use Rattle.listing.specs.declared.decode.Instruction.the-variants.{Pop, CopyLoc, MoveLoc, StLoc, FreezeRef, Compare, ReadRef, WriteRef, BorrowLoc, BorrowField, BorrowGlobal, MoveFrom, Call, Ret, Values, MoveTo, VectorOp, BorrowElement}
 use Rattle.operand_stack.specs.Models.{stackIn}
 use Rattle.reference_safety.specs.declared.machine.Machine.{Machine}
 
@@ -47,6 +50,27 @@ pub record Runs (f : Running → Outcome T.Machine) (a : Words) (ws : List ℕ) 
 pub record Pushed (a : Words) (ws : List ℕ) (d : ℕ) (b : Board) : Type 0 where
   pub ready : Fits a → length ws ≡ maxOperands → Ready b
   pub pushes : Fits a → length ws ≡ maxOperands → machineOf b ≡ T.pushed (stackIn ws d) (answerOf a)
+
+-- whether an instruction is on references, and so leaves the locals alone
+abbrev pub onReferences : Instruction → Bool
+onReferences Pop = false
+onReferences (CopyLoc a) = false
+onReferences (MoveLoc a) = false
+onReferences (StLoc a) = false
+onReferences FreezeRef = true
+onReferences Compare = true
+onReferences ReadRef = true
+onReferences WriteRef = true
+onReferences (BorrowLoc a b) = true
+onReferences (BorrowField a b) = true
+onReferences (BorrowGlobal a b) = true
+onReferences (MoveFrom a) = false
+onReferences (Call a) = false
+onReferences Ret = false
+onReferences (Values a b c) = false
+onReferences MoveTo = false
+onReferences (VectorOp a b c d) = true
+onReferences (BorrowElement a) = true
 
 -- ---- blocks
 

@@ -1,5 +1,5 @@
 // One instruction, and one block from its kept state to the state that its successors get.
-// execute: execute_inner, mod.rs:136. run_block: execute_block, absint.rs:161. finish: the end of execute, mod.rs:405.
+// execute, execute_on_references: execute_inner, mod.rs:136. run_block: execute_block, absint.rs:161. finish: the end of execute, mod.rs:405.
 use crate::machine::Machine;
 use crate::steps::borrow_element;
 use crate::steps::borrow_field;
@@ -47,13 +47,42 @@ ghost use Rattle.meaning.specs.Blocks as Q;
 ghost use Rattle.listing.specs.Models.{decodedOf, blockOf, routineOf};
 ghost use Rattle.abstract_state.specs.Models.{words, runningOf};
 ghost use Rattle.operand_stack.specs.Models.{stackIn};
-ghost use Rattle.reference_safety.specs.Models.{board, Steps, stateIn, Ends};
+ghost use Rattle.reference_safety.specs.Models.{board, Steps, onReferences, stateIn, Ends};
 
 // A block's end: the state that its successors get, or the violation or refusal in that state's numbers, with its place. Without successors,
 // and beside a number, the rest of the state and its arrays are free, except that they fit; the place is free where no number is.
 pub struct Ran {
     pub place: CodeOffset,
     pub state: AbstractState,
+}
+
+// An instruction on references; no other comes here.
+fn execute_on_references(
+    names: &mut [u32; MAX_NAMES],
+    edges: &mut [[u32; EDGE_WORDS]; MAX_EDGES],
+    stack: &mut [u32; MAX_OPERANDS],
+    m: Machine,
+    i: Instruction,
+) -> Machine
+    requires { ⌜ onReferences i ≡ true ⌝ }
+    ensures { λ r. ⌜ ((ls : List ℕ) (returns : ℕ) (d : Decoded) → d .instruction ≡ i → Steps (step returns (decodedOf d)) (board ls (now (names .entry)) (now (edges .entry)) (now (stack .entry)) m) (board ls (now (names .exit)) (now (edges .exit)) (now (stack .exit)) r)) ⌝ }
+{
+    match i {
+        Instruction::FreezeRef => freeze_ref(names, edges, stack, m),
+        Instruction::Compare => compare(names, edges, stack, m),
+        Instruction::ReadRef => read_ref(names, edges, stack, m),
+        Instruction::WriteRef => write_ref(names, edges, stack, m),
+        Instruction::BorrowLoc(local, mutable) => {
+            borrow_loc(names, edges, stack, m, local, mutable)
+        }
+        Instruction::BorrowField(n, mutable) => borrow_field(names, edges, stack, m, n, mutable),
+        Instruction::BorrowGlobal(n, mutable) => borrow_global(names, edges, stack, m, n, mutable),
+        Instruction::VectorOp(n, mutable, k, token) => {
+            vector_op(names, edges, stack, m, n, mutable, k, token)
+        }
+        Instruction::BorrowElement(mutable) => borrow_element(names, edges, stack, m, mutable),
+        _ => m,
+    }
 }
 
 pub fn execute(
@@ -73,24 +102,12 @@ pub fn execute(
         Instruction::CopyLoc(local) => copy_loc(locals, names, edges, stack, m, local),
         Instruction::MoveLoc(local) => move_loc(locals, names, edges, stack, m, local),
         Instruction::StLoc(local) => st_loc(locals, names, edges, stack, m, local),
-        Instruction::FreezeRef => freeze_ref(names, edges, stack, m),
-        Instruction::Compare => compare(names, edges, stack, m),
-        Instruction::ReadRef => read_ref(names, edges, stack, m),
-        Instruction::WriteRef => write_ref(names, edges, stack, m),
-        Instruction::BorrowLoc(local, mutable) => {
-            borrow_loc(names, edges, stack, m, local, mutable)
-        }
-        Instruction::BorrowField(n, mutable) => borrow_field(names, edges, stack, m, n, mutable),
-        Instruction::BorrowGlobal(n, mutable) => borrow_global(names, edges, stack, m, n, mutable),
         Instruction::MoveFrom(n) => move_from(names, edges, stack, m, n),
         Instruction::Call(n) => call(names, edges, stack, m, n, d),
         Instruction::Ret => ret(locals, names, edges, stack, m, returns),
         Instruction::Values(n, k, token) => values(names, stack, m, n, k, token),
         Instruction::MoveTo => move_to(names, edges, stack, m),
-        Instruction::VectorOp(n, mutable, k, token) => {
-            vector_op(names, edges, stack, m, n, mutable, k, token)
-        }
-        Instruction::BorrowElement(mutable) => borrow_element(names, edges, stack, m, mutable),
+        _ => execute_on_references(names, edges, stack, m, i),
     }
 }
 

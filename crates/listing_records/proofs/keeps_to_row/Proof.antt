@@ -4,148 +4,79 @@ use borrow.Author.Needs.{needs}
 use Rattle.listing_records.proofs.keeps_to_row.Statement.{statement}
 use Rattle.listing_records.proofs.keeps_to_row.Tie as tie
 
-mul-len : tie.Need-mul-len
-mul-len c = search needs
+element-copy-out-len : tie.Need-element-copy-out-len
+element-copy-out-len c = search needs
 
-index-1-len : tie.Need-index-1-len
-index-1-len c = search needs
+add-below : tie.Need-add-below
+add-below c = search needs
 
-index-2-len : tie.Need-index-2-len
-index-2-len c = search needs
+element-copy-out-below : tie.Need-element-copy-out-below
+element-copy-out-below c = search needs
 
-add-wide : tie.Need-add-wide
-add-wide c = search needs
+below-requires : tie.Need-below-requires
+below-requires c κs = search needs
 
-shared-slice-read-wide : tie.Need-shared-slice-read-wide
-shared-slice-read-wide c = search needs
+add-below-2 : tie.Need-add-below-2
+add-below-2 c = search needs
 
-wide-requires : tie.Need-wide-requires
-wide-requires c κs = search needs
+element-copy-out-below-2 : tie.Need-element-copy-out-below-2
+element-copy-out-below-2 c = search needs
 
-mul-a : tie.Need-mul-a
-mul-a c = search needs
+below-requires-2 : tie.Need-below-requires-2
+below-requires-2 c κs = search needs
 
-index-1-a : tie.Need-index-1-a
-index-1-a c = search needs
+add-below-3 : tie.Need-add-below-3
+add-below-3 c = search needs
 
-index-2-a : tie.Need-index-2-a
-index-2-a c = search needs
+element-copy-out-below-3 : tie.Need-element-copy-out-below-3
+element-copy-out-below-3 c = search needs
 
-add-wide-2 : tie.Need-add-wide-2
-add-wide-2 c = search needs
+below-requires-3 : tie.Need-below-requires-3
+below-requires-3 c κs = search needs
 
-shared-slice-read-wide-2 : tie.Need-shared-slice-read-wide-2
-shared-slice-read-wide-2 c = search needs
+add-below-4 : tie.Need-add-below-4
+add-below-4 c = search needs
 
-wide-requires-2 : tie.Need-wide-requires-2
-wide-requires-2 c κs = search needs
+element-copy-out-below-4 : tie.Need-element-copy-out-below-4
+element-copy-out-below-4 c = search needs
 
-mul-b : tie.Need-mul-b
-mul-b c = search needs
+below-requires-4 : tie.Need-below-requires-4
+below-requires-4 c κs = search needs
 
-index-1-b : tie.Need-index-1-b
-index-1-b c = search needs
+add-below-5 : tie.Need-add-below-5
+add-below-5 c = search needs
 
-index-2-b : tie.Need-index-2-b
-index-2-b c = search needs
+element-copy-out-below-5 : tie.Need-element-copy-out-below-5
+element-copy-out-below-5 c = search needs
 
-add-wide-3 : tie.Need-add-wide-3
-add-wide-3 c = search needs
-
-shared-slice-read-wide-3 : tie.Need-shared-slice-read-wide-3
-shared-slice-read-wide-3 c = search needs
-
-wide-requires-3 : tie.Need-wide-requires-3
-wide-requires-3 c κs = search needs
-
-mul-c : tie.Need-mul-c
-mul-c c = search needs
-
-index-1-c : tie.Need-index-1-c
-index-1-c c = search needs
-
-index-2-c : tie.Need-index-2-c
-index-2-c c = search needs
-
-add-wide-4 : tie.Need-add-wide-4
-add-wide-4 c = search needs
-
-shared-slice-read-wide-4 : tie.Need-shared-slice-read-wide-4
-shared-slice-read-wide-4 c = search needs
-
-wide-requires-4 : tie.Need-wide-requires-4
-wide-requires-4 c κs = search needs
-
-mul-d : tie.Need-mul-d
-mul-d c = search needs
-
-index-1-d : tie.Need-index-1-d
-index-1-d c = search needs
-
-index-2-d : tie.Need-index-2-d
-index-2-d c = search needs
-
-add-wide-5 : tie.Need-add-wide-5
-add-wide-5 c = search needs
-
-shared-slice-read-wide-5 : tie.Need-shared-slice-read-wide-5
-shared-slice-read-wide-5 c = search needs
-
-wide-requires-5 : tie.Need-wide-requires-5
-wide-requires-5 c κs = search needs
-
-mul-e : tie.Need-mul-e
-mul-e c = search needs
-
-index-1-e : tie.Need-index-1-e
-index-1-e c = search needs
-
-index-2-e : tie.Need-index-2-e
-index-2-e c = search needs
+below-requires-5 : tie.Need-below-requires-5
+below-requires-5 c κs = search needs
 
 returns : tie.Need-returns
 unfolding keepsTo
 returns c =
-    let wide = (c .before .before .before .before .before .before .before .before .before .before .before .before .before .wide) in
-    let wide2 = (c .before .before .before .before .before .before .before .before .before .before .wide2) in
-    let wide3 = (c .before .before .before .before .before .before .before .wide3) in
-    rw (wide .ensures, wide2 .ensures, wide3 .ensures, (c .before .before .before .before .wide4) .ensures, (c .before .wide5) .ensures)
+    let at-below3 = c .before .before .before .before in
+    let at-below = at-below3 .before .before .before .before in
+    rw (at-below .below .ensures, at-below3 .before .before .below2 .ensures, at-below3 .below3 .ensures, c .before .before .below4 .ensures, c .below5 .ensures)
 
 pub keeps-to-row-spec : {M : Type 1} → statement M
 keeps-to-row-spec =
     tie.close
     (tie.spec
-    mul-len
-    index-1-len
-    index-2-len
-    add-wide
-    shared-slice-read-wide
-    wide-requires
-    mul-a
-    index-1-a
-    index-2-a
-    add-wide-2
-    shared-slice-read-wide-2
-    wide-requires-2
-    mul-b
-    index-1-b
-    index-2-b
-    add-wide-3
-    shared-slice-read-wide-3
-    wide-requires-3
-    mul-c
-    index-1-c
-    index-2-c
-    add-wide-4
-    shared-slice-read-wide-4
-    wide-requires-4
-    mul-d
-    index-1-d
-    index-2-d
-    add-wide-5
-    shared-slice-read-wide-5
-    wide-requires-5
-    mul-e
-    index-1-e
-    index-2-e
+    element-copy-out-len
+    add-below
+    element-copy-out-below
+    below-requires
+    add-below-2
+    element-copy-out-below-2
+    below-requires-2
+    add-below-3
+    element-copy-out-below-3
+    below-requires-3
+    add-below-4
+    element-copy-out-below-4
+    below-requires-4
+    add-below-5
+    element-copy-out-below-5
+    below-requires-5
     returns)

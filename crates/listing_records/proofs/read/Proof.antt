@@ -47,14 +47,20 @@ add-next-2 c = search needs
 
 returns-2 : tie.Need-returns-2
 unfolding foundAt
-returns-2 c = let w : wholeAt ((c .before .before .before .before .before .before .args) .s .now) ((c .before .before .before .before .before .before .args) .c .at) ≡ true = sym ((c .before .before .before .whole-at) .ensures) ∙ (c .before .before .if2) .taken in
-    let f : leb (length ((c .before .before .before .before .before .before .args) .s .now)) ((c .before .before .before .before .before .before .args) .c .at) ≡ false = lt-leb _ _ ((c .before .before .before .before .if1) .left) in
-    rw (f, w) (cc)
+returns-2 c =
+    let at-whole-at = c .before .before .before in
+    let a = at-whole-at .before .before .before .args in
+    let w : wholeAt (a .s .now) (a .c .at) ≡ true = sym (at-whole-at .whole-at .ensures) ∙ c .before .before .if2 .taken in
+    let f : leb (length (a .s .now)) (a .c .at) ≡ false = lt-leb _ _ (at-whole-at .before .if1 .left) in
+    rw (f, w, c .u16-in2 .ensures, c .before .u16-in .ensures)
 
 returns-3 : tie.Need-returns-3
 unfolding foundAt
-returns-3 c = let w : wholeAt ((c .before .before .before .before .args) .s .now) ((c .before .before .before .before .args) .c .at) ≡ false = sym ((c .before .whole-at) .ensures) ∙ (c .if2) .left in
-    let f : leb (length ((c .before .before .before .before .args) .s .now)) ((c .before .before .before .before .args) .c .at) ≡ false = lt-leb _ _ ((c .before .before .if1) .left) in
+returns-3 c =
+    let at-whole-at = c .before in
+    let a = at-whole-at .before .before .before .args in
+    let w : wholeAt (a .s .now) (a .c .at) ≡ false = sym (at-whole-at .whole-at .ensures) ∙ c .if2 .left in
+    let f : leb (length (a .s .now)) (a .c .at) ≡ false = lt-leb _ _ (at-whole-at .before .if1 .left) in
     rw (f, w)
 
 pub read-spec : {M : Type 1} → statement M

@@ -47,31 +47,42 @@ cast-keeps-to-row c = search needs
 sub-keeps-to-row : tie.Need-sub-keeps-to-row
 sub-keeps-to-row c = omega (arith, kinds c .0)
 
+mul-keeps-to-row : tie.Need-mul-keeps-to-row
+mul-keeps-to-row c = search needs
+
+index-1-keeps-to-row : tie.Need-index-1-keeps-to-row
+index-1-keeps-to-row c = omega (arith, kinds c .0, kinds c .1)
+
 keeps-to-row-requires : tie.Need-keeps-to-row-requires
-keeps-to-row-requires c κs = (omega (arith, nine (c .before .before .before) .0), omega (arith, kinds c .1))
+keeps-to-row-requires c κs = nine (c .before .before .before .before) .0
 
-add-t19 : tie.Need-add-t19
-add-t19 c = omega (arith, nine (c .before .before .before .before .before) .0)
+add-t23 : tie.Need-add-t23
+add-t23 c = omega (arith, nine (c .before .before .before .before .before .before) .0)
 
-cast-t20 : tie.Need-cast-t20
-cast-t20 c = search needs
+cast-t24 : tie.Need-cast-t24
+cast-t24 c = search needs
 
-add-t21 : tie.Need-add-t21
-add-t21 c = omega (arith, nine (c .before .before .before .before .before) .0)
+add-t25 : tie.Need-add-t25
+add-t25 c = omega (arith, nine (c .before .before .before .before .before .before) .0)
 
 returns : tie.Need-returns
 returns c =
-    let a = (c .before .before .before .before .before .before .before .args) in
-    let n = nine (c .before .before .before .before .before) in
-    let k = kinds (c .before .before) in
-    let e : kindAt (a .s .now) (a .at) ≡ 10 + ((c .before .before .before .u16-in2) .result - 10) = sym ((c .before .before .before .u16-in2) .ensures) ∙ omega (arith, k .0) in
-    let h : keepsTo (getD (limitRows (a .locals)) ((c .before .before .before .u16-in2) .result - 10) []) (u16At (a .s .now) (a .at)) (a .s .now) (a .at) ≡ true =
-    rw (← (c .before .before .before .before .u16-in) .ensures, ← ((c .before .before .before .before .before .before .before .pre) .1)) (sym ((c .before .keeps-to-row) .ensures) ∙ (c .if3) .taken) in
+    let at-if2 = c .before .before .before in
+    let at-u16-in2 = at-if2 .before in
+    let at-u16-in = at-u16-in2 .before in
+    let start = at-u16-in .before .before .before in
+    let a = start .args in
+    let n = nine (at-u16-in .before) in
+    let k = kinds at-if2 in
+    let row = at-u16-in2 .u16-in2 .result - 10 in
+    let e : kindAt (a .s .now) (a .at) ≡ 10 + row = sym (at-u16-in2 .u16-in2 .ensures) ∙ omega (arith, k .0) in
+    let h : keepsTo (getD (limitRows (a .locals)) row []) (u16At (a .s .now) (a .at)) (a .s .now) (a .at) ≡ true =
+    rw (← at-u16-in .u16-in .ensures, ← (start .pre .1)) (sym (c .before .keeps-to-row .ensures) ∙ c .if3 .taken) in
     record {
-      number = sym (keeps-fine (a .s .now) (a .locals) (a .at) ((c .before .before .before .u16-in2) .result - 10) (n .0) (omega (arith, k .1)) e h (n .1));
-      kind = λ z. (c .before .before .before .u16-in2) .ensures;
-      next = λ z. ap (λ (m : ℕ). a .at + 4 + m) ((c .before .before .before .before .u16-in) .ensures);
-      inside = λ z. rw ((c .before .before .before .before .u16-in) .ensures) (keeps-inside (a .s .now) (a .locals) (a .at) ((c .before .before .before .u16-in2) .result - 10) (n .0) (omega (arith, k .1)) e h);
+      number = sym (keeps-fine (a .s .now) (a .locals) (a .at) row (n .0) (omega (arith, k .1)) e h (n .1));
+      kind = λ z. at-u16-in2 .u16-in2 .ensures;
+      next = λ z. ap (λ (m : ℕ). a .at + 4 + m) (at-u16-in .u16-in .ensures);
+      inside = λ z. rw (at-u16-in .u16-in .ensures) (keeps-inside (a .s .now) (a .locals) (a .at) row (n .0) (omega (arith, k .1)) e h);
     }
 
 test-record-requires : tie.Need-test-record-requires
@@ -90,10 +101,12 @@ test-by-row-spec =
     u16-in-requires-2
     cast-keeps-to-row
     sub-keeps-to-row
+    mul-keeps-to-row
+    index-1-keeps-to-row
     keeps-to-row-requires
-    add-t19
-    cast-t20
-    add-t21
+    add-t23
+    cast-t24
+    add-t25
     returns
     test-record-requires
     returns-2)
