@@ -1,5 +1,4 @@
-// The verdict of a run: the violation of the lowest entry that ended in error.
-//   verdict_of   verify, from "Report all the join failures" on   mod.rs 56
+// The verdict of a run: the violation of the lowest entry that ended in error. `verdict_of` is mod.rs 56, from "Report all the join failures" on.
 use crate::Ruling;
 use crate::run_state::BlockPostcondition;
 use crate::run_state::RunState;

@@ -1,8 +1,11 @@
-// The run of a routine's blocks.
-//   analyze_function   analyze_function   absint.rs 75
-//   turn, visit        the body of its loop   absint.rs 91 to 157
-//   block_at           the block of a block_id   absint.rs 92
-// execute_block (absint.rs 161) is run_block of reference_safety.
+// The run of a routine's blocks. Where each stands in the Rust (absint.rs):
+//
+//   here               the Rust
+//   analyze_function   75 `analyze_function`
+//   turn, visit        91 to 157, the body of its loop
+//   block_at           92, the block of a `block_id`
+//
+// 161 `execute_block` is `run_block` of the crate reference_safety.
 use crate::kept::start_from;
 use crate::propagate::propagate;
 use crate::run_state::RunState;

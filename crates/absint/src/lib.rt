@@ -1,6 +1,8 @@
-// The block loop (absint.rs) over the lent work area, and the check of a listing from its bytes to the verdict.
-//   verify    verify   mod.rs 47
-//   analyze   verify, with the kept states left to be looked at
+// The block loop (absint.rs) over the lent work area, and the check of a listing from its bytes to the verdict. Where each stands in the Rust:
+//
+//   here      the Rust
+//   verify    mod.rs 47 `verify`
+//   analyze   the same, with the kept states left to be looked at
 mod failure;
 mod interpreter;
 mod kept;

@@ -1,6 +1,8 @@
-// A block's end state goes to its successors.
-//   propagate                    "propagate postcondition of this block to successor blocks"   absint.rs 116
-//   propagate_to, propagate_at   the body of that loop, for one successor   absint.rs 118 to 154
+// A block's end state goes to its successors. Where each stands in the Rust (absint.rs):
+//
+//   here                         the Rust
+//   propagate                    116 "propagate postcondition of this block to successor blocks"
+//   propagate_to, propagate_at   118 to 154, the body of that loop, for one successor
 use crate::kept::start_from;
 use crate::run_state::RunState;
 use absint_area::store;

@@ -1,6 +1,9 @@
-// What a run has by value. The Rust's inv_map (absint.rs 80) is in two parts: each block's `pre` stands in the area, its `post` here.
-//   BlockPostcondition   BlockPostcondition   absint.rs 24
-//   RunState             analyze_function's locals   absint.rs 80 to 82
+// What a run has by value. The Rust's `inv_map` is in two parts: each block's `pre` stands in the area, its `post` here. Where each stands in
+// the Rust (absint.rs):
+//
+//   here                 the Rust
+//   BlockPostcondition   24 `BlockPostcondition`
+//   RunState             80 to 82, the locals of `analyze_function`
 use file_format::CodeOffset;
 use meaning::MAX_BLOCKS;
 ghost use mathlib.Core.Path.{_≡_};

@@ -1,8 +1,16 @@
 // The operand stack of a block (`stack`, mod.rs:29) in place: 16 words that are lent, and a depth. The last word below the depth is the top; a
 // depth beyond 16 reads as 16. An answer's refusal is 0 where there is none. Beside one, the depth is as it was, `value`, `id` and `values` are
 // free, and so are the words from the depth on, except that `push` leaves them as they were.
-// pop: stack.pop().unwrap(), as at mod.rs:143. pop_ref: with ref_id().unwrap(), 156. pop_values: with assert!(is_value()), 109. pop_many: the
-// arguments of call, 74, and Ret's values, 259. push: stack.push, as at 147. push_values: the loop of unpack, 119. push_all: that of call, 95.
+// Where each stands in the Rust (mod.rs):
+//
+//   here          the Rust
+//   pop           `stack.pop().unwrap()`, as at 143
+//   pop_ref       the same with `ref_id().unwrap()`, as at 156
+//   pop_values    the same with `assert!(is_value())`, as at 109
+//   pop_many      the arguments of `call`, 74, and the values of Ret, 259
+//   push          `stack.push`, as at 147
+//   push_values   the loop of `unpack`, 119
+//   push_all      the loop of `call`, 95
 pub mod value;
 
 use abstract_state::state::AbstractValue;

@@ -1,5 +1,9 @@
-// One instruction, and one block from its kept state to the state that its successors get.
-// execute, execute_on_references: execute_inner, mod.rs:136. run_block: execute_block, absint.rs:161. finish: the end of execute, mod.rs:405.
+// One instruction, and one block from its kept state to the state that its successors get. Where each stands in the Rust (mod.rs):
+//
+//   here                             the Rust
+//   execute, execute_on_references   136 `execute_inner`
+//   run_block                        absint.rs 161 `execute_block`
+//   finish                           405 `execute`, from its test for the last instruction on
 use crate::machine::Machine;
 use crate::steps::borrow_element;
 use crate::steps::borrow_field;

@@ -1,6 +1,10 @@
-// The state and the depth of the operand stack that the steps of a block go through, beside their arrays, and the pushes of a step.
-// pushed: stack.push of an entry point's value, as at mod.rs:147. push_results: the loop of call, 95. push_new: pushes of value_for, 286 to 315,
-// and of NonReference, pack and unpack, 113 and 120.
+// The state and the depth of the operand stack that the steps of a block go through, beside their arrays, and the pushes of a step. Where each
+// stands in the Rust (mod.rs):
+//
+//   here           the Rust
+//   pushed         the push of an entry point's value, as at 147
+//   push_results   the loop of `call`, 95
+//   push_new       the pushes of `value_for`, 286 to 315, and of NonReference, 113 in `pack` and 120 in `unpack`
 use abstract_state::core::refuse;
 use abstract_state::state::AbstractState;
 use abstract_state::state::Operands;

@@ -1,11 +1,26 @@
-// One step for each kind of instruction, in the Rust's order of tests (the arms of execute_inner, mod.rs:136). The stack is tested before the
-// state is touched: a taking that is refused stops the state, and what follows leaves a stopped state as it is.
-// (The number of returns matters to Ret alone.)
-// pop_top: Pop, 143. copy_loc: CopyLoc, 145. move_loc: MoveLoc, 149. st_loc: StLoc, 153. freeze_ref: FreezeRef, 155. compare: Eq and Neq, 160.
-// read_ref: ReadRef, 166. write_ref: WriteRef, 171. borrow_loc: MutBorrowLoc and ImmBorrowLoc, 178 and 182. borrow_field: MutBorrowField and
-// ImmBorrowField, 186 and 199. borrow_global: MutBorrowGlobal and ImmBorrowGlobal, 213 and 224. move_from: MoveFrom, 235. call: call, 67.
-// ret: Ret, 257. values: the instructions on values alone, 267 to 348 and 382. move_to: MoveTo, 279. vector_op: VecLen, 349, VecPushBack, 368,
-// VecPopBack, 374, and VecSwap, 391. borrow_element: VecImmBorrow and VecMutBorrow, 355 and 361.
+// One step for each kind of instruction, in the Rust's order of tests. The stack is tested before the state is touched: a taking that is refused
+// stops the state, and what follows leaves a stopped state as it is. (The number of returns matters to Ret alone.) Where each stands in the Rust,
+// as an arm of 136 `execute_inner` (mod.rs):
+//
+//   here             the Rust
+//   pop_top          143 Pop
+//   copy_loc         145 CopyLoc
+//   move_loc         149 MoveLoc
+//   st_loc           153 StLoc
+//   freeze_ref       155 FreezeRef
+//   compare          160 Eq and Neq
+//   read_ref         166 ReadRef
+//   write_ref        171 WriteRef
+//   borrow_loc       178 MutBorrowLoc, 182 ImmBorrowLoc
+//   borrow_field     186 MutBorrowField, 199 ImmBorrowField
+//   borrow_global    213 MutBorrowGlobal, 224 ImmBorrowGlobal
+//   move_from        235 MoveFrom
+//   call             67 `call`
+//   ret              257 Ret
+//   values           267 to 348 and 382, the instructions on values alone
+//   move_to          279 MoveTo
+//   vector_op        349 VecLen, 368 VecPushBack, 374 VecPopBack, 391 VecSwap
+//   borrow_element   355 VecImmBorrow, 361 VecMutBorrow
 use crate::machine::Machine;
 use crate::machine::push_new;
 use crate::machine::push_results;
