@@ -75,6 +75,10 @@ pub record StartsFrom (k : Option State) (l : ℕ) (ls ns : List ℕ) (es : List
   pub there : r .present ≡ true → From k l (words ls ns es (r .state))
   pub absent : r .present ≡ false → k ≡ none
 
+-- more than the turns of a run within the limits (TurnLaws, `most-few`), so that its counts fit their 32 bits
+abbrev pub turnsEnd : ℕ
+turnsEnd = 1048576
+
 -- each kept state has the form that the blocks of a run hand on, so that its graph is well formed
 abbrev pub Sound : ℕ → List ℕ → Type 0
 Sound l ws = (j : ℕ) (k : State) → keptOf l ws j ≡ some k → Strong l k
@@ -121,7 +125,7 @@ module _ (s cs : List ℕ) (d : D.Routine) where
     pub going : t .stopped ≡ false
     pub within : t .next < d .«block_count»
     pub sound : Sound (d .locals) ws
-    pub few : t .turns < 1048576
+    pub few : t .turns < turnsEnd
     pub fewer : t .visits ≤ t .turns
 
   pub record Turned (ws ws′ : List ℕ) (t r : RunState) : Type 0 where

@@ -39,7 +39,7 @@ use Rattle.listing.specs.declared.Routine as D
 use Rattle.abstract_state.specs.Models.{Words, halted, localsIn, runningOf, answerOf, operandOf, stateOf}
 use Rattle.abstract_state_join.specs.Models.{firstRunning}
 use Rattle.reference_safety.specs.Models.{placed, endFor}
-use Rattle.absint.specs.Models.{statusesOf, nextOf, Propagated, At, Readable, Ready, Turned, Started, Analyzed}
+use Rattle.absint.specs.Models.{statusesOf, nextOf, turnsEnd, Propagated, At, Readable, Ready, Turned, Started, Analyzed}
 use Rattle.absint.specs.LoopLaws.{past-block}
 use Rattle.absint.specs.PropagateLaws.{going, stored-here}
 use Rattle.absint.specs.declared.run_state.RunState.{RunState}
@@ -184,7 +184,7 @@ module _ (s cs : List ℕ) (d : D.Routine) (ws : List ℕ) (t : RunState) (p : R
 -- ---- the whole run
 
 -- the bound on visits within the limits: 16 blocks of 16 locals
-pub most-few : (b l n : ℕ) → b ≤ 16 → l ≤ 16 → n < mostVisits b l → n < 1048576
+pub most-few : (b l n : ℕ) → b ≤ 16 → l ≤ 16 → n < mostVisits b l → n < turnsEnd
 most-few b l n h k m =
     let x : l * l ≤ 16 * 16 = mul-le-mul k k in
     let y : mostChanges l ≤ 2832 = omega (arith, x, k) in

@@ -12,7 +12,7 @@ ghost use Prim.Native.Nat.{_+_, _<_};
 ghost use lib.ListN.{length, set};
 ghost use Rattle.meaning.specs.Limits.{maxBlocks};
 ghost use Rattle.meaning.specs.Loop.{fine, failed, at, stopped};
-ghost use Rattle.absint.specs.Models.{statusOf, statusesOf, nextOf, Started, SameCounts};
+ghost use Rattle.absint.specs.Models.{statusOf, statusesOf, nextOf, turnsEnd, Started, SameCounts};
 
 // Code and offset are free where the block has not failed.
 pub(crate) struct BlockPostcondition {
@@ -55,7 +55,7 @@ impl RunState {
 
     // To the block listed after this one.
     pub(crate) fn onward(self) -> Self
-        requires { ⌜ (self .next < maxBlocks) × (self .turns < 1048576) ⌝ }
+        requires { ⌜ (self .next < maxBlocks) × (self .turns < turnsEnd) ⌝ }
         ensures { λ r. ⌜ (self .stopped ≡ false → nextOf r ≡ at (self .next + 1)) × (statusesOf r ≡ statusesOf self) × (r .visits ≡ self .visits) × (r .turns ≡ self .turns + 1) ⌝ }
     {
         let mut t = self;

@@ -41,7 +41,7 @@ fn get_refs(ws: &[u32], at: usize, n: usize, names: &mut [u32; MAX_NAMES])
 }
 
 fn get_row(ws: &[u32], at: usize) -> [u32; EDGE_WORDS]
-    requires { ⌜ at + 10 ≤ length (now ws) ⌝ }
+    requires { ⌜ at + edgeWords ≤ length (now ws) ⌝ }
     ensures { λ r. ⌜ rowOf r ≡ edgeIn (wordAt (now (ws .entry))) at ⌝ }
 {
     let mut out = [0u32; EDGE_WORDS];
@@ -55,7 +55,7 @@ fn get_row(ws: &[u32], at: usize) -> [u32; EDGE_WORDS]
 
 fn get_edges(ws: &[u32], at: usize, n: usize, edges: &mut [[u32; EDGE_WORDS]; MAX_EDGES])
     requires { ⌜ (at + edgeWords * maxEdges ≤ length (now ws)) × (n ≤ maxEdges) ⌝ }
-    ensures { λ _. ⌜ (length (now (edges .entry)) ≡ maxEdges → Filled rowOf [] (λ i. edgeIn (wordAt (now (ws .entry))) (at + 10 * i)) maxEdges n (now (edges .exit))) ⌝ }
+    ensures { λ _. ⌜ (length (now (edges .entry)) ≡ maxEdges → Filled rowOf [] (λ i. edgeIn (wordAt (now (ws .entry))) (at + edgeWords * i)) maxEdges n (now (edges .exit))) ⌝ }
 {
     let mut i: usize = 0;
     while i < n {

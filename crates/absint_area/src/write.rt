@@ -86,8 +86,8 @@ fn put_refs(ws: &mut [u32], at: usize, names: &[u32; MAX_NAMES], n: usize)
 }
 
 fn put_row(ws: &mut [u32], at: usize, x: &[u32; EDGE_WORDS])
-    requires { ⌜ at + 10 ≤ length (now ws) ⌝ }
-    ensures { λ _. ⌜ Frame at 10 (now (ws .entry)) (now (ws .exit)) × (edgeIn (wordAt (now (ws .exit))) at ≡ rowOf (now (x .entry))) ⌝ }
+    requires { ⌜ at + edgeWords ≤ length (now ws) ⌝ }
+    ensures { λ _. ⌜ Frame at edgeWords (now (ws .entry)) (now (ws .exit)) × (edgeIn (wordAt (now (ws .exit))) at ≡ rowOf (now (x .entry))) ⌝ }
 {
     let mut i: usize = 0;
     while i < EDGE_WORDS {
