@@ -1,4 +1,5 @@
-/* The static library called from C: a violation, an area too short, an answer too short; and what the area holds after analyze. */
+/* The static library called from C: a violation, an acceptance after a set was blurred, an area too short, an answer too short; and what the
+ * area holds after analyze. */
 #include "buslatim.h"
 
 #include <stdio.h>
@@ -12,6 +13,17 @@ static const uint8_t moved[] = {0x03, 0x00, 0x01, 0x00, 0x00, 0x01, 0x00, 0x05, 
 /* One block that drops an operand which is not there: REFUSED 10 0. */
 static const uint8_t drops[] = {0x03, 0x00, 0x01, 0x00, 0x00, 0x01, 0x00, 0x05, 0x00, 0x02,
                                 0x00, 0x00, 0x00, 0x00, 0x00, 0x00, 0x00, 0x00, 0x0A, 0x00};
+
+/* examples/accept_blurred: ACCEPT, and BLURRED 1. */
+static const uint8_t lends[] = {0x0E, 0x00, 0x01, 0x00, 0x0B, 0x0B, 0x00, 0x00, 0x00, 0x00, 0x00, 0x00, 0x00, 0x00,
+                                0x00, 0x00, 0x00, 0x00, 0x05, 0x00, 0x02, 0x00, 0x00, 0x00, 0x0E, 0x00, 0x00, 0x02,
+                                0x00, 0x12, 0x00, 0x00, 0x00, 0x02, 0x00, 0x12, 0x00, 0x01, 0x00, 0x02, 0x00, 0x12,
+                                0x00, 0x02, 0x00, 0x02, 0x00, 0x12, 0x00, 0x03, 0x00, 0x02, 0x00, 0x12, 0x00, 0x04,
+                                0x00, 0x02, 0x00, 0x12, 0x00, 0x05, 0x00, 0x02, 0x00, 0x12, 0x00, 0x06, 0x00, 0x02,
+                                0x00, 0x12, 0x00, 0x07, 0x00, 0x02, 0x00, 0x12, 0x00, 0x08, 0x00, 0x02, 0x00, 0x12,
+                                0x00, 0x09, 0x00, 0x02, 0x00, 0x12, 0x00, 0x0A, 0x00, 0x04, 0x00, 0x16, 0x00, 0x0B,
+                                0x00, 0x01, 0x01, 0x00, 0x00, 0x10, 0x00, 0x00, 0x00, 0x0A, 0x00, 0x00, 0x00, 0x17,
+                                0x00};
 
 /* KEPT: docs/ARCHITECTURE.md, the area; the unit of what stands beside a local in its word. */
 enum { BEYOND = 1, USED = 7, KEPT = 262144 };
@@ -42,15 +54,18 @@ static bool all(const uint32_t *words, size_t from, size_t to, uint32_t value) {
     return true;
 }
 
-static bool answers(uint32_t kind, uint32_t number, uint32_t place, uint32_t visits) {
-    return answer[0] == kind && answer[1] == number && answer[2] == place && answer[3] == visits && answer[4] == USED;
+static bool answers(uint32_t kind, uint32_t number, uint32_t place, uint32_t visits, uint64_t blurred) {
+    return answer[0] == kind && answer[1] == number && answer[2] == place && answer[3] == visits &&
+           ((uint64_t)answer[5] << 32 | answer[4]) == blurred && answer[BUSLATIM_ANSWER_WORDS] == USED;
 }
 
-static bool call(size_t area_len, size_t answer_len) {
+static bool verify(const uint8_t *listing, size_t len, size_t area_len, size_t answer_len) {
     fill(area, BUSLATIM_AREA_WORDS + BEYOND);
     fill(answer, BUSLATIM_ANSWER_WORDS + BEYOND);
-    return reference_safety_verify(moved, sizeof moved, area, area_len, answer, answer_len);
+    return reference_safety_verify(listing, len, area, area_len, answer, answer_len);
 }
+
+static bool call(size_t area_len, size_t answer_len) { return verify(moved, sizeof moved, area_len, answer_len); }
 
 static bool analyze(const uint8_t *listing, size_t len) {
     fill(area, BUSLATIM_AREA_WORDS + BEYOND);
@@ -60,24 +75,27 @@ static bool analyze(const uint8_t *listing, size_t len) {
 
 int main(void) {
     expect(call(BUSLATIM_AREA_WORDS + BEYOND, BUSLATIM_ANSWER_WORDS + BEYOND), "no answer");
-    expect(answers(BUSLATIM_VIOLATION, BUSLATIM_MOVELOC_EXISTS_BORROW, 3, 1), "not VIOLATION 102 3 after one visit");
+    expect(answers(BUSLATIM_VIOLATION, BUSLATIM_MOVELOC_EXISTS_BORROW, 3, 1, 0), "not VIOLATION 102 3 after one visit");
     expect(all(area, 0, BUSLATIM_AREA_WORDS, 0), "the area is not zero");
     expect(all(area, BUSLATIM_AREA_WORDS, BUSLATIM_AREA_WORDS + BEYOND, USED), "a word beyond the area is written");
 
+    expect(verify(lends, sizeof lends, BUSLATIM_AREA_WORDS, BUSLATIM_ANSWER_WORDS), "no answer for a routine that is accepted");
+    expect(answers(BUSLATIM_ACCEPT, 0, 0, 1, 1), "not ACCEPT after one visit that blurred one set");
+
     expect(call(BUSLATIM_AREA_WORDS - 1, BUSLATIM_ANSWER_WORDS), "no answer with a short area");
-    expect(answers(BUSLATIM_REFUSED, BUSLATIM_REFUSED_AREA, 0, 0), "a short area is not REFUSED 7 0");
+    expect(answers(BUSLATIM_REFUSED, BUSLATIM_REFUSED_AREA, 0, 0, 0), "a short area is not REFUSED 7 0");
     expect(all(area, 0, BUSLATIM_AREA_WORDS, USED), "a short area is written");
 
-    expect(!call(BUSLATIM_AREA_WORDS, BUSLATIM_ANSWER_WORDS - 1), "three words are taken for an answer");
+    expect(!call(BUSLATIM_AREA_WORDS, BUSLATIM_ANSWER_WORDS - 1), "five words are taken for an answer");
     expect(all(answer, 0, BUSLATIM_ANSWER_WORDS + BEYOND, USED), "a short answer is written");
     expect(all(area, 0, BUSLATIM_AREA_WORDS, USED), "the area is written though the answer is short");
 
     expect(analyze(moved, sizeof moved - 1), "analyze: no answer for a cut listing");
-    expect(answers(BUSLATIM_REFUSED, BUSLATIM_REFUSED_ENDS_EARLY, 36, 0), "a cut listing is not REFUSED 1 36");
+    expect(answers(BUSLATIM_REFUSED, BUSLATIM_REFUSED_ENDS_EARLY, 36, 0, 0), "a cut listing is not REFUSED 1 36");
     expect(all(area, 0, BUSLATIM_AREA_WORDS, USED), "the area is written though the listing is cut");
 
     expect(analyze(drops, sizeof drops), "analyze: no answer");
-    expect(answers(BUSLATIM_REFUSED, BUSLATIM_REFUSED_EMPTY_STACK, 0, 1), "not REFUSED 10 0 after one visit");
+    expect(answers(BUSLATIM_REFUSED, BUSLATIM_REFUSED_EMPTY_STACK, 0, 1, 0), "not REFUSED 10 0 after one visit");
     expect(area[0] / KEPT == 1, "the first block has no kept state after refusal 10");
     puts("called from C");
     return 0;

@@ -82,15 +82,18 @@ static uint8_t *read_all(const char *name, size_t *len) {
 
 static uint32_t word(const uint8_t *at) { return at[0] | at[1] << 8 | at[2] << 16 | (uint32_t)at[3] << 24; }
 
+/* An entry's words besides its listing: the length before it; whose answer it is and the answer after it. */
+enum { ENTRY = 4 * (1 + 1 + BUSLATIM_ANSWER_WORDS) };
+
 static void stored(const char *name) {
     size_t len, at = 4;
     uint8_t *bytes = read_all(name, &len);
     if (len < 4) fail("the stored list is too short");
     for (uint32_t left = word(bytes); left > 0; left--) {
-        if (at + 4 > len || at + 24 + word(bytes + at) > len) fail("the stored list is cut");
+        if (at + 4 > len || at + ENTRY + word(bytes + at) > len) fail("the stored list is cut");
         uint32_t n = word(bytes + at);
         measure(bytes + at + 4, n);
-        at += 24 + n;
+        at += ENTRY + n;
     }
     free(bytes);
     tell("those of the stored list");

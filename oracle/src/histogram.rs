@@ -1,6 +1,9 @@
 //! How often each outcome was reached, and whose answer it was.
 
-use crate::judge::{Judged, Source};
+use crate::{
+    graph::Blurred,
+    judge::{Judged, Source},
+};
 use std::{collections::BTreeMap, fmt};
 
 #[derive(Default)]
@@ -11,12 +14,33 @@ pub struct Histogram {
     visits: BTreeMap<u32, u64>,
     leftovers: u64,
     vanished: u64,
+    blurred: Blurring,
     all: u64,
+}
+
+/// The compared acceptances whose run blurred sets.
+#[derive(Default)]
+struct Blurring {
+    accepted: u64,
+    vanished: u64,
+    most: u64,
+    /// Sets blurred by each kind of call.
+    by: Blurred,
+}
+
+impl Blurring {
+    fn add(&mut self, judged: &Judged) {
+        let by = judged.blurred;
+        self.accepted += 1;
+        self.vanished += judged.vanished as u64;
+        self.most = self.most.max(by.all());
+        self.by.add(by)
+    }
 }
 
 impl Histogram {
     pub fn add(&mut self, judged: &Judged) {
-        let Judged { answer, source, leftovers, vanished } = judged;
+        let Judged { answer, source, leftovers, vanished, blurred } = judged;
         let column = match source {
             Source::Rust => 0,
             Source::Reader => 1,
@@ -24,7 +48,10 @@ impl Histogram {
         };
         self.outcomes.entry((answer.kind, answer.number)).or_default()[column] += 1;
         if *source == Source::Rust {
-            *self.visits.entry(32 - answer.visits.leading_zeros()).or_default() += 1
+            *self.visits.entry(32 - answer.visits.leading_zeros()).or_default() += 1;
+            if answer.kind == 0 && blurred.all() > 0 {
+                self.blurred.add(judged)
+            }
         }
         self.leftovers += *leftovers as u64;
         self.vanished += *vanished as u64;
@@ -56,6 +83,10 @@ impl fmt::Display for Histogram {
             self.leftovers
         )?;
         writeln!(f, "{} accepted though the last run of a block failed", self.vanished)?;
+        let Blurring { accepted, vanished, most, by: Blurred { borrow, release, join } } = self.blurred;
+        let failed = format!("{vanished} of them though the last run of a block failed");
+        writeln!(f, "{accepted} accepted after sets were blurred, {failed}; at most {most} sets")?;
+        writeln!(f, "  blurred by borrows: {borrow}  by releases: {release}  by graphs' joins: {join}")?;
         write!(f, "visits of the compared:")?;
         for (bits, count) in &self.visits {
             write!(f, "  <{}: {count}", 1u64 << bits)?

@@ -4,6 +4,7 @@ use crate::{
     adapter::Adapted,
     answer::{hex, Answer},
     errors::PartialVMError,
+    graph::{passed_up, Blurred},
     kept, listing,
     panics::{caught, Caught},
 };
@@ -26,6 +27,8 @@ pub struct Judged {
     pub leftovers: bool,
     /// Accepted, though the last run of some block failed.
     pub vanished: bool,
+    /// By which calls sets were blurred.
+    pub blurred: Blurred,
 }
 
 /// How a run of the Rust ended, and after how many visits.
@@ -34,6 +37,7 @@ pub struct Ending {
     pub answer: Answer,
     /// 16 or 20 to 22.
     pub thrown: bool,
+    pub blurred: Blurred,
 }
 
 pub(crate) struct Watched {
@@ -62,15 +66,18 @@ impl Ending {
             Err(Caught::Panic(number) | Caught::Thrown(number)) => (2, *number, stood),
             Err(Caught::Unknown(place)) => panic!("the Rust panics at {place}"),
         };
+        let blurred = passed_up();
         Ending {
-            answer: Answer { kind, number, place, visits },
+            answer: Answer { kind, number, place, visits, blurred: blurred.all() },
             thrown: matches!(run, Err(Caught::Thrown(_))),
+            blurred,
         }
     }
 }
 
 fn plain(adapted: &Adapted) -> Ending {
     adapted.cfg.visits.set(0);
+    passed_up();
     let run = caught(|| adapted.verify());
     Ending::of(adapted, run)
 }
@@ -79,18 +86,20 @@ pub fn judge(listing: &[u8]) -> Judged {
     let routine = match listing::read(listing) {
         Ok(routine) => routine,
         Err(listing::Refusal { number, place }) => {
-            let answer = Answer { kind: 2, number, place, visits: 0 };
-            return Judged { answer, source: Source::Reader, leftovers: false, vanished: false };
+            let answer = Answer { kind: 2, number, place, visits: 0, blurred: 0 };
+            let (source, blurred) = (Source::Reader, Blurred::default());
+            return Judged { answer, source, leftovers: false, vanished: false, blurred };
         }
     };
     let adapted = Adapted::new(&routine);
     let Watched { ending, leftovers, vanished, .. } = adapted.watched(false);
     if leftovers || ending.thrown {
-        return Judged { answer: ending.answer, source: Source::Watched, leftovers, vanished };
+        let Ending { answer, blurred, .. } = ending;
+        return Judged { answer, source: Source::Watched, leftovers, vanished, blurred };
     }
-    let answer = plain(&adapted).answer;
+    let Ending { answer, blurred, .. } = plain(&adapted);
     assert_eq!(answer, ending.answer, "watching changed the run of {}", hex(listing));
-    Judged { answer, source: Source::Rust, leftovers, vanished }
+    Judged { answer, source: Source::Rust, leftovers, vanished, blurred }
 }
 
 /// The kept states by entry, if the listing is read and its run ends without a refusal.

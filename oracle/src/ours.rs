@@ -1,6 +1,6 @@
 //! Our own `verify`, linked as a static library.
 
-use crate::answer::Answer;
+use crate::answer::{Answer, WORDS};
 
 #[cfg(feature = "watched")]
 pub use shown::kept_states;
@@ -30,20 +30,20 @@ pub const AREA: usize = 16_384;
 const BEYOND: usize = 16;
 const USED: u32 = 0xA5A5_A5A5;
 
-fn called(function: Function, listing: &[u8], area: &mut [u32], answer: &mut [u32; 4]) -> bool {
+fn called(function: Function, listing: &[u8], area: &mut [u32], answer: &mut [u32; WORDS]) -> bool {
     let (from, words) = (area.as_mut_ptr(), area.len());
     unsafe { function(listing.as_ptr(), listing.len(), from, words, answer.as_mut_ptr(), answer.len()) }
 }
 
 /// A bare call.
-pub type Call = fn(&[u8], &mut [u32], &mut [u32; 4]) -> bool;
+pub type Call = fn(&[u8], &mut [u32], &mut [u32; WORDS]) -> bool;
 
-pub fn verify_call(listing: &[u8], area: &mut [u32], answer: &mut [u32; 4]) -> bool {
+pub fn verify_call(listing: &[u8], area: &mut [u32], answer: &mut [u32; WORDS]) -> bool {
     called(reference_safety_verify, listing, area, answer)
 }
 
 /// Leaves the kept states in the area.
-pub fn analyze_call(listing: &[u8], area: &mut [u32], answer: &mut [u32; 4]) -> bool {
+pub fn analyze_call(listing: &[u8], area: &mut [u32], answer: &mut [u32; WORDS]) -> bool {
     called(reference_safety_analyze, listing, area, answer)
 }
 
@@ -72,7 +72,7 @@ pub fn verify_short(listing: &[u8]) -> Result<Answer, &'static str> {
 }
 
 fn answered(listing: &[u8], area: &mut [u32]) -> Result<Answer, &'static str> {
-    let mut words = [u32::MAX; 4];
+    let mut words = [u32::MAX; WORDS];
     if !verify_call(listing, area, &mut words) {
         return Err("no answer");
     }
@@ -87,6 +87,7 @@ fn answered(listing: &[u8], area: &mut [u32]) -> Result<Answer, &'static str> {
 mod shown {
     use super::{analyze_call, AREA, USED};
     use crate::{
+        answer::WORDS,
         kept::{Edge, State},
         listing,
     };
@@ -95,7 +96,7 @@ mod shown {
     pub fn kept_states(listing: &[u8]) -> Vec<(u16, State)> {
         let routine = listing::read(listing).expect("a listing that is read");
         let mut area = vec![USED; AREA];
-        analyze_call(listing, &mut area, &mut [0; 4]);
+        analyze_call(listing, &mut area, &mut [0; WORDS]);
         let blocks = routine.blocks.iter().zip(area.chunks(1_024));
         let mut kept: Vec<(u16, State)> = blocks
             .filter(|(_, words)| words[0] >> 18 != 0)

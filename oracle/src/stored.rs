@@ -1,11 +1,12 @@
 //! The stored list: listings with the oracle's answers, to be replayed without the Rust.
 //!
 //! All numbers are 32 bits, little-endian. First the number of entries; then each entry: the listing's length, its
-//! bytes, whose answer it is (0 the Rust's own, 1 an exporter's refusal, 2 the watched run's), and the answer's four
-//! words: 0 accepted, 1 violation, 2 refused; its number; its place; the visits.
+//! bytes, whose answer it is (0 the Rust's own, 1 an exporter's refusal, 2 the watched run's), and the answer's six
+//! words: 0 accepted, 1 violation, 2 refused; its number; its place; the visits; how many sets the run blurred, low and
+//! high.
 
 use crate::{
-    answer::Answer,
+    answer::{Answer, WORDS},
     generator::{self, cases, load, small},
     judge::{judge, Judged, Source},
 };
@@ -31,8 +32,10 @@ pub fn entry(listing: Vec<u8>) -> Entry {
 }
 
 const LONGEST: usize = 450;
+/// It takes many blocks to blur a set.
+const LONGEST_BLURRING: usize = 700;
 
-/// From each family so many of each outcome and of each scale of visits; more where neither family nor visits vary.
+/// From each family so many of each outcome, of each scale of visits and of blurred sets; more where nothing of that varies.
 fn of_each(answer: &Answer) -> u32 {
     match answer {
         Answer { kind: 2, number: 1..=6 | 16, .. } => 30,
@@ -49,12 +52,15 @@ pub fn choose(seed: u64, generated: u64) -> Vec<Entry> {
     let mut taken = BTreeMap::new();
     for at in 0..generated {
         let (family, listing) = generator::listing(seed, at);
-        if listing.len() > LONGEST {
+        if listing.len() > LONGEST_BLURRING {
             continue;
         }
         let entry = entry(listing);
-        let Answer { kind, number, visits, .. } = entry.answer;
-        let sort = (family, entry.source, kind, number, visits.checked_ilog2());
+        if entry.answer.blurred == 0 && entry.listing.len() > LONGEST {
+            continue;
+        }
+        let Answer { kind, number, visits, blurred, .. } = entry.answer;
+        let sort = (family, entry.source, kind, number, visits.checked_ilog2(), blurred.checked_ilog2());
         let count = taken.entry(sort).or_insert(0);
         *count += 1;
         if *count <= of_each(&entry.answer) {
@@ -88,7 +94,7 @@ pub fn read(bytes: &[u8]) -> Vec<Entry> {
             let listing = bytes[at..at + length].to_vec();
             at += length;
             let source = word(&mut at);
-            Entry { listing, source, answer: Answer::of([(); 4].map(|_| word(&mut at))) }
+            Entry { listing, source, answer: Answer::of([(); WORDS].map(|_| word(&mut at))) }
         })
         .collect();
     assert_eq!(at, bytes.len());

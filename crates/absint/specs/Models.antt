@@ -1,21 +1,21 @@
 -- What the values of the code stand for in the definitions, and what the functions of the loop promise.
-use Prim.Native.Nat.{ℕ, _+_, _≤_, _<_}
+use Prim.Native.Nat.{ℕ, _+_, _*_, _≤_, _<_}
 use mathlib.Core.Path.{_≡_}
 use mathlib.Core.Bool.{true, false, cond}
 use mathlib.Core.Option.{Option, none, some}
 use mathlib.Core.List.{List, map}
 use lib.ListN.{length, drop, getD}
-use Rattle.meaning.specs.Limits.{maxBlocks, areaWords}
+use Rattle.meaning.specs.Limits.{maxBlocks, areaWords, u32Most}
 use Rattle.meaning.specs.Area.{keptOf}
-use Rattle.meaning.specs.AbstractState.{State, join, changed}
+use Rattle.meaning.specs.AbstractState.{State, join, joinBlurs, changed}
 use Rattle.meaning.specs.Blocks.{Routine, exec}
 use Rattle.meaning.specs.Laws.Forms.{Strong}
 use Rattle.meaning.specs.Laws.Promised.{promised}
 use Rattle.meaning.specs.Loop as M
-use Rattle.meaning.specs.Loop.{Result, Status, fine, failed, Next, at, stopped, Run, turn, Failure, Verdict, accept, violation, refusal, verdictFor, toSuccessor}
+use Rattle.meaning.specs.Loop.{Result, Status, fine, failed, Next, at, stopped, Run, turn, Failure, Verdict, accept, violation, refusal, verdictFor, toSuccessor, successorBlurs}
 use Rattle.meaning.specs.Listing.{readListing, read, refused}
 use Rattle.meaning.specs.Verify.{Answered, runOf, keptBy}
-use Rattle.meaning.specs.Laws.Fit.{Does, Reached, propagateOn, lowestBy}
+use Rattle.meaning.specs.Laws.Fit.{Does, Passes, Reached, propagateOn, propagateBlursOn, lowestBy}
 use Rattle.listing.specs.Models.{routineOf}
 use Rattle.listing.specs.declared.Routine as D
 use Rattle.abstract_state.specs.Models.{Words, words, Fits, stateOf}
@@ -44,7 +44,7 @@ rulingOf (Violation c o) = violation c (o .0)
 rulingOf (Refused n p) = refusal n p
 
 abbrev pub verdictOf : W.Verdict → Answered
-verdictOf v = record { verdict = rulingOf (v .ruling); visits = v .visits }
+verdictOf v = record { verdict = rulingOf (v .ruling); visits = v .visits; blurred = v .blurred }
 
 abbrev pub failureOf : LowestFailure → Option Failure
 failureOf l = cond (l .found) (some (record { entry = l .entry .0; code = l .code; offset = l .offset .0 })) none
@@ -57,12 +57,21 @@ verdictIn bs t = cond (t .stopped) (refusal (t .number) (t .place .0)) (verdictF
 pub record SameCounts (t r : RunState) : Type 0 where
   pub visits : r .visits ≡ t .visits
   pub turns : r .turns ≡ t .turns
+  pub blurred : r .blurred ≡ t .blurred
+
+-- m sets more were blurred
+pub record Counted (m : ℕ) (t r : RunState) : Type 0 where
+  pub visits : r .visits ≡ t .visits
+  pub turns : r .turns ≡ t .turns
+  pub blurred : r .blurred ≡ t .blurred + m
+  pub few : m ≤ u32Most
 
 pub record Started (r : RunState) : Type 0 where
   pub next : nextOf r ≡ at 0
   pub fines : (j : ℕ) → getD (statusesOf r) j fine ≡ fine
   pub visits : r .visits ≡ 0
   pub turns : r .turns ≡ 0
+  pub blurred : r .blurred ≡ 0
 
 -- the kept state k of a routine with l locals stands in these words as a block starts from it
 pub record From (k : Option State) (l : ℕ) (x : Words) : Type 0 where
@@ -79,6 +88,14 @@ pub record StartsFrom (k : Option State) (l : ℕ) (ls ns : List ℕ) (es : List
 abbrev pub turnsEnd : ℕ
 turnsEnd = 1048576
 
+-- What a turn's visit and its two joins blur at most, as each fits 32 bits; and the most that a count of 64 bits holds with one such
+-- number to come. All turns of a run blur less (`turnsEnd` of them), so the count fits.
+abbrev pub turnMost : ℕ
+turnMost = 3 * u32Most
+
+abbrev pub blurredEnd : ℕ
+blurredEnd = 9223372036854775807
+
 -- each kept state has the form that the blocks of a run hand on, so that its graph is well formed
 abbrev pub Sound : ℕ → List ℕ → Type 0
 Sound l ws = (j : ℕ) (k : State) → keptOf l ws j ≡ some k → Strong l k
@@ -89,17 +106,26 @@ pub record Sent (l : ℕ) (ws : List ℕ) (x : Words) : Type 0 where
   pub sound : Sound l ws
   pub strong : Strong l (stateOf x)
 
+-- what the joins of a propagation blur, at most so many sets, comes to the count; nothing else is counted
+pub record Passed (bs : List M.Block) (f : (ℕ → State → Result State) → List (M.Slot State) → Next → ℕ) (l : ℕ) (ws : List ℕ) (most : ℕ) (t r : RunState) : Type 0 where
+  pub more : ℕ
+  pub passes : (ex : ℕ → State → Result State) → Passes State join joinBlurs changed ex bs (f ex) (keptOf l ws) (statusesOf t) (nextOf t) more
+  pub few : more ≤ most
+  pub visits : r .visits ≡ t .visits
+  pub turns : r .turns ≡ t .turns
+  pub blurred : r .blurred ≡ t .blurred + more
+
 -- the end state s of block b goes to the successor with entry e
 pub record PropagatedTo (bs : List M.Block) (l : ℕ) (b : M.Block) (s : State) (e : ℕ) (ws ws′ : List ℕ) (t r : RunState) : Type 0 where
-  pub does : (ex : ℕ → State → Result State) → Does State join changed ex bs (toSuccessor State join changed ex bs b s e) (keptOf l ws) (statusesOf t) (nextOf t) (keptOf l ws′) (statusesOf r) (nextOf r)
+  pub does : (ex : ℕ → State → Result State) → Does State join joinBlurs changed ex bs (toSuccessor State join joinBlurs changed ex bs b s e) (keptOf l ws) (statusesOf t) (nextOf t) (keptOf l ws′) (statusesOf r) (nextOf r)
   pub beyond : drop areaWords ws′ ≡ drop areaWords ws
-  pub counts : SameCounts t r
+  pub passed : Passed bs (λ ex. successorBlurs State join joinBlurs changed ex bs s e) l ws u32Most t r
 
 -- and to all its successors
 pub record Propagated (bs : List M.Block) (l : ℕ) (b : M.Block) (s : State) (ws ws′ : List ℕ) (t r : RunState) : Type 0 where
-  pub does : (ex : ℕ → State → Result State) → Does State join changed ex bs (propagateOn State join changed ex bs b s (b .successors)) (keptOf l ws) (statusesOf t) (nextOf t) (keptOf l ws′) (statusesOf r) (nextOf r)
+  pub does : (ex : ℕ → State → Result State) → Does State join joinBlurs changed ex bs (propagateOn State join joinBlurs changed ex bs b s (b .successors)) (keptOf l ws) (statusesOf t) (nextOf t) (keptOf l ws′) (statusesOf r) (nextOf r)
   pub beyond : drop areaWords ws′ ≡ drop areaWords ws
-  pub counts : SameCounts t r
+  pub passed : Passed bs (λ ex. propagateBlursOn State join joinBlurs changed ex bs b s (b .successors)) l ws (2 * u32Most) t r
 
 module _ (s cs : List ℕ) (d : D.Routine) where
   abbrev pub theRoutine : Routine
@@ -107,7 +133,7 @@ module _ (s cs : List ℕ) (d : D.Routine) where
 
   -- the program stands where the run stands
   abbrev pub At : Run State → List ℕ → RunState → Type 0
-  At r ws t = Reached State join changed (exec theRoutine) (theRoutine .blocks) r (keptOf (d .locals) ws) (statusesOf t) (nextOf t) (t .visits)
+  At r ws t = Reached State join joinBlurs changed (exec theRoutine) (theRoutine .blocks) r (keptOf (d .locals) ws) (statusesOf t) (nextOf t) (t .visits) (t .blurred)
 
   -- what the reader promises of the routine, as the code has it
   pub record Readable : Type 0 where
@@ -127,11 +153,13 @@ module _ (s cs : List ℕ) (d : D.Routine) where
     pub sound : Sound (d .locals) ws
     pub few : t .turns < turnsEnd
     pub fewer : t .visits ≤ t .turns
+    pub small : t .blurred ≤ t .turns * turnMost
 
   pub record Turned (ws ws′ : List ℕ) (t r : RunState) : Type 0 where
-    pub step : (x : Run State) → At x ws t → At (turn State join changed (exec theRoutine) (theRoutine .blocks) x) ws′ r
+    pub step : (x : Run State) → At x ws t → At (turn State join joinBlurs changed (exec theRoutine) (theRoutine .blocks) x) ws′ r
     pub turns : r .turns ≡ t .turns + 1
     pub fewer : r .visits ≤ r .turns
+    pub small : r .blurred ≤ r .turns * turnMost
     pub beyond : drop areaWords ws′ ≡ drop areaWords ws
 
   pub record Analyzed (ws ws′ : List ℕ) (r : RunState) : Type 0 where

@@ -1,5 +1,5 @@
 -- One turn of the loop, its start and its end, as the definitions have them.
-use Prim.Native.Nat.{ℕ, zero, suc, _+_, _*_, _≤_, _<_, min}
+use Prim.Native.Nat.{ℕ, zero, suc, _+_, _*_, _≤_, _<_, min, zero-le}
 use native.Mathlib.Nat.{not-suc-le-zero, le-of-suc-le-suc, mul-le-mul}
 use native.Mathlib.Numerals.{add-one}
 use native.Mathlib.Omega.{arith}
@@ -12,10 +12,10 @@ use borrow.Author.Tests.{ne-eqb, eq-eqb, lt-ltb, le-ltb, ltb-false}
 use lib.Dec.{eqb, leb, ltb}
 use lib.ListN.{length, take, drop, getD, set, length-map}
 use Rattle.meaning.specs.Laws.Array.{front-all}
-use Rattle.meaning.specs.Limits.{areaWords}
+use Rattle.meaning.specs.Limits.{areaWords, u32Most}
 use Rattle.meaning.specs.Area.{localIn, keptOf, Stored, forgotten}
 use Rattle.meaning.specs.Laws.Area.{Forgotten, forgotten-law}
-use Rattle.meaning.specs.AbstractState.{State, join, changed, firstState}
+use Rattle.meaning.specs.AbstractState.{State, join, joinBlurs, changed, firstState}
 use Rattle.meaning.specs.EntryPoints as R
 use Rattle.meaning.specs.AbstractState as S
 use Rattle.meaning.specs.Answers as A
@@ -39,7 +39,7 @@ use Rattle.listing.specs.declared.Routine as D
 use Rattle.abstract_state.specs.Models.{Words, halted, localsIn, runningOf, answerOf, operandOf, stateOf}
 use Rattle.abstract_state_join.specs.Models.{firstRunning}
 use Rattle.reference_safety.specs.Models.{placed, endFor}
-use Rattle.absint.specs.Models.{statusesOf, nextOf, turnsEnd, Propagated, At, Readable, Ready, Turned, Started, Analyzed}
+use Rattle.absint.specs.Models.{statusesOf, nextOf, turnsEnd, turnMost, Propagated, At, Readable, Ready, Turned, Started, Analyzed}
 use Rattle.absint.specs.LoopLaws.{past-block}
 use Rattle.absint.specs.PropagateLaws.{going, stored-here}
 use Rattle.absint.specs.declared.run_state.RunState.{RunState}
@@ -48,27 +48,27 @@ use Rattle.absint.specs.declared.run_state.RunState.{RunState}
 
 abbrev given : {A : Type 0} → A → Outcome A → A
 given d (done a) = a
-given d (A.violated c) = d
+given d (A.violated k c) = d
 given d (A.refused n) = d
 
 -- a state whose outcome is known goes on with it
-pub done-inv : {T : Type 0} (v n : ℕ) (a b : T) → halted v n a ≡ done b → a ≡ b
-done-inv {T} v n a b e = go (eqb v 0) (eqb n 0) e
+pub done-inv : {T : Type 0} (k v n : ℕ) (a b : T) → halted k v n a ≡ done b → a ≡ b
+done-inv {T} k v n a b e = go (eqb v 0) (eqb n 0) e
   where
-    go : (x y : Bool) → cond x (cond y (done a) (A.refused n)) (A.violated v) ≡ done b → a ≡ b
+    go : (x y : Bool) → cond x (cond y (done a) (A.refused n)) (A.violated k v) ≡ done b → a ≡ b
     go true true e = ap (given a) e
     go true false e = ap (given a) e
     go false y e = ap (given a) e
 
-module _ (es : List ℕ) (v n : ℕ) (a : Running) (p : ℕ) (o : Result State) (e : placed es p (halted v n a) ≡ o) where
-  pub placed-violated : (v ≡ 0 → ⊥) → o ≡ Result.violated v p
-  placed-violated h = sym e ∙ ap (λ (x : Bool). placed es p (cond x (cond (eqb n 0) (done a) (A.refused n)) (A.violated v))) (ne-eqb v 0 h)
+module _ (es : List ℕ) (k v n : ℕ) (a : Running) (p : ℕ) (o : Result State) (e : placed es p (halted k v n a) ≡ o) where
+  pub placed-violated : (v ≡ 0 → ⊥) → o ≡ Result.violated k v p
+  placed-violated h = sym e ∙ ap (λ (x : Bool). placed es p (cond x (cond (eqb n 0) (done a) (A.refused n)) (A.violated k v))) (ne-eqb v 0 h)
 
   pub placed-refused : v ≡ 0 → (n ≡ 0 → ⊥) → o ≡ Result.refused n p
-  placed-refused z h = sym e ∙ (λ i. placed es p (cond (eq-eqb v 0 z i) (cond (ne-eqb n 0 h i) (done a) (A.refused n)) (A.violated v)))
+  placed-refused z h = sym e ∙ (λ i. placed es p (cond (eq-eqb v 0 z i) (cond (ne-eqb n 0 h i) (done a) (A.refused n)) (A.violated k v)))
 
   pub placed-end : v ≡ 0 → n ≡ 0 → o ≡ endFor es a
-  placed-end z h = sym e ∙ (λ i. placed es p (cond (eq-eqb v 0 z i) (cond (eq-eqb n 0 h i) (done a) (A.refused n)) (A.violated v)))
+  placed-end z h = sym e ∙ (λ i. placed es p (cond (eq-eqb v 0 z i) (cond (eq-eqb n 0 h i) (done a) (A.refused n)) (A.violated k v)))
 
 -- words read the same in routines of as many locals
 pub kept-root : (m l : ℕ) → m ≡ l → (ws : List ℕ) (j : ℕ) → keptOf m ws j ≡ keptOf l ws j
@@ -109,23 +109,29 @@ module _ (s cs : List ℕ) (d : D.Routine) (ws : List ℕ) (t : RunState) (p : R
   inside : i < length (q .blocks)
   inside = omega (arith, p .count, p .within)
 
-  at-next : (x : Run State) → At s cs d x ws t → Reached State join changed (exec q) (q .blocks) x (keptOf (d .locals) ws) (statusesOf t) (at i) (t .visits)
-  at-next x a = subst (λ (n : Next). Reached State join changed (exec q) (q .blocks) x (keptOf (d .locals) ws) (statusesOf t) n (t .visits)) (going t (p .going)) a
+  at-next : (x : Run State) → At s cs d x ws t → Reached State join joinBlurs changed (exec q) (q .blocks) x (keptOf (d .locals) ws) (statusesOf t) (at i) (t .visits) (t .blurred)
+  at-next x a = subst (λ (n : Next). Reached State join joinBlurs changed (exec q) (q .blocks) x (keptOf (d .locals) ws) (statusesOf t) n (t .visits) (t .blurred)) (going t (p .going)) a
 
   -- where the code stands after the turn
-  moved : (x : Run State) (ws′ : List ℕ) (r : RunState) (xs : List Status) (n : Next) (v : ℕ) → statusesOf r ≡ xs → nextOf r ≡ n → r .visits ≡ v
-      → Reached State join changed (exec q) (q .blocks) x (keptOf (d .locals) ws′) xs n v → At s cs d x ws′ r
-  moved x ws′ r xs n v a b c h =
-      subst (λ (m : ℕ). Reached State join changed (exec q) (q .blocks) x (keptOf (d .locals) ws′) (statusesOf r) (nextOf r) m) (sym c)
-      (subst (λ (m : Next). Reached State join changed (exec q) (q .blocks) x (keptOf (d .locals) ws′) (statusesOf r) m v) (sym b)
-      (subst (λ (ys : List Status). Reached State join changed (exec q) (q .blocks) x (keptOf (d .locals) ws′) ys n v) (sym a) h))
+  moved : (x : Run State) (ws′ : List ℕ) (r : RunState) (xs : List Status) (n : Next) (v k : ℕ) → statusesOf r ≡ xs → nextOf r ≡ n → r .visits ≡ v → r .blurred ≡ k
+      → Reached State join joinBlurs changed (exec q) (q .blocks) x (keptOf (d .locals) ws′) xs n v k → At s cs d x ws′ r
+  moved x ws′ r xs n v k a b c e h =
+      subst (λ (m : ℕ). Reached State join joinBlurs changed (exec q) (q .blocks) x (keptOf (d .locals) ws′) (statusesOf r) (nextOf r) (r .visits) m) (sym e)
+      (subst (λ (m : ℕ). Reached State join joinBlurs changed (exec q) (q .blocks) x (keptOf (d .locals) ws′) (statusesOf r) (nextOf r) m k) (sym c)
+      (subst (λ (m : Next). Reached State join joinBlurs changed (exec q) (q .blocks) x (keptOf (d .locals) ws′) (statusesOf r) m v k) (sym b)
+      (subst (λ (ys : List Status). Reached State join joinBlurs changed (exec q) (q .blocks) x (keptOf (d .locals) ws′) ys n v k) (sym a) h)))
 
-  pub turned-over : (r : RunState) → keptOf (d .locals) ws i ≡ none → statusesOf r ≡ statusesOf t → nextOf r ≡ at (suc i) → r .visits ≡ t .visits → r .turns ≡ t .turns + 1 → Turned s cs d ws ws t r
-  turned-over r e a b c k =
+  -- one turn more, with its visit and at most two joins
+  few-more : (r : RunState) (k : ℕ) → k ≤ turnMost → r .turns ≡ t .turns + 1 → r .blurred ≡ t .blurred + k → r .blurred ≤ r .turns * turnMost
+  few-more r k few m e = let z : t .blurred ≤ t .turns * turnMost = p .small in omega (arith, few, m, e, z)
+
+  pub turned-over : (r : RunState) → keptOf (d .locals) ws i ≡ none → statusesOf r ≡ statusesOf t → nextOf r ≡ at (suc i) → r .visits ≡ t .visits → r .turns ≡ t .turns + 1 → r .blurred ≡ t .blurred → Turned s cs d ws ws t r
+  turned-over r e a b c k y =
       record {
-        step = λ x h. moved (turn State join changed (exec q) (q .blocks) x) ws r (statusesOf t) (at (suc i)) (t .visits) a b c (F.step-over State join changed (exec q) (q .blocks) x (keptOf (d .locals) ws) (statusesOf t) i (t .visits) (at-next x h) inside e);
+        step = λ x h. moved (turn State join joinBlurs changed (exec q) (q .blocks) x) ws r (statusesOf t) (at (suc i)) (t .visits) (t .blurred) a b c y (F.step-over State join joinBlurs changed (exec q) (q .blocks) x (keptOf (d .locals) ws) (statusesOf t) i (t .visits) (t .blurred) (at-next x h) inside e);
         turns = k;
         fewer = let z : t .visits ≤ t .turns = p .fewer in omega (arith, c, k, z);
+        small = few-more r 0 zero-le k (omega (arith, y));
         beyond = refl;
       }
 
@@ -133,53 +139,70 @@ module _ (s cs : List ℕ) (d : D.Routine) (ws : List ℕ) (t : RunState) (p : R
     room : length (q .blocks) ≤ length (statusesOf t)
     room = let z : d .«block_count» ≤ 16 = p .blocks in let c = p .count in omega (arith, c, sts, z)
 
-    pub turned-violated : (r : RunState) (c o : ℕ) → exec q i k ≡ Result.violated c o → statusesOf r ≡ set (statusesOf t) i (failed c o) → nextOf r ≡ at (suc i) → r .visits ≡ suc (t .visits) → r .turns ≡ t .turns + 1 → Turned s cs d ws ws t r
-    turned-violated r c o e a b v m =
+    pub turned-violated : (r : RunState) (j c o : ℕ) → exec q i k ≡ Result.violated j c o → statusesOf r ≡ set (statusesOf t) i (failed c o) → nextOf r ≡ at (suc i) → r .visits ≡ suc (t .visits) → r .turns ≡ t .turns + 1 → r .blurred ≡ t .blurred + j → j ≤ u32Most
+        → Turned s cs d ws ws t r
+    turned-violated r j c o e a b v m y f =
         record {
-          step = λ x h. moved (turn State join changed (exec q) (q .blocks) x) ws r (set (statusesOf t) i (failed c o)) (at (suc i)) (suc (t .visits)) a b v
-              (F.step-violated State join changed (exec q) (q .blocks) x (keptOf (d .locals) ws) (statusesOf t) i (t .visits) (at-next x h) inside k old c o room e);
+          step = λ x h. moved (turn State join joinBlurs changed (exec q) (q .blocks) x) ws r (set (statusesOf t) i (failed c o)) (at (suc i)) (suc (t .visits)) (t .blurred + j) a b v y
+              (F.step-violated State join joinBlurs changed (exec q) (q .blocks) x (keptOf (d .locals) ws) (statusesOf t) i (t .visits) (t .blurred) (at-next x h) inside k old j c o room e);
           turns = m;
           fewer = let z : t .visits ≤ t .turns = p .fewer in omega (arith, v, m, z);
+          small = few-more r j (omega (arith, f)) m y;
           beyond = refl;
         }
 
-    pub turned-refused : (r : RunState) (n o : ℕ) → exec q i k ≡ Result.refused n o → statusesOf r ≡ statusesOf t → nextOf r ≡ stopped n o → r .visits ≡ suc (t .visits) → r .turns ≡ t .turns + 1 → Turned s cs d ws ws t r
-    turned-refused r n o e a b v m =
+    pub turned-refused : (r : RunState) (n o : ℕ) → exec q i k ≡ Result.refused n o → statusesOf r ≡ statusesOf t → nextOf r ≡ stopped n o → r .visits ≡ suc (t .visits) → r .turns ≡ t .turns + 1 → r .blurred ≡ t .blurred → Turned s cs d ws ws t r
+    turned-refused r n o e a b v m y =
         record {
-          step = λ x h. moved (turn State join changed (exec q) (q .blocks) x) ws r (statusesOf t) (stopped n o) (suc (t .visits)) a b v (F.step-refused State join changed (exec q) (q .blocks) x (keptOf (d .locals) ws) (statusesOf t) i (t .visits) (at-next x h) inside k old n o e);
+          step = λ x h. moved (turn State join joinBlurs changed (exec q) (q .blocks) x) ws r (statusesOf t) (stopped n o) (suc (t .visits)) (t .blurred) a b v y
+              (F.step-refused State join joinBlurs changed (exec q) (q .blocks) x (keptOf (d .locals) ws) (statusesOf t) i (t .visits) (t .blurred) (at-next x h) inside k old n o e);
           turns = m;
           fewer = let z : t .visits ≤ t .turns = p .fewer in omega (arith, v, m, z);
+          small = few-more r 0 zero-le m (omega (arith, y));
           beyond = refl;
         }
 
     -- the block ended and has no successors
-    pub turned-returned : (r : RunState) → exec q i k ≡ Result.returned → statusesOf r ≡ set (statusesOf t) i fine → nextOf r ≡ at (suc i) → r .visits ≡ suc (t .visits) → r .turns ≡ t .turns + 1 → Turned s cs d ws ws t r
-    turned-returned r e a b v m =
+    pub turned-returned : (r : RunState) (j : ℕ) → exec q i k ≡ Result.returned j → statusesOf r ≡ set (statusesOf t) i fine → nextOf r ≡ at (suc i) → r .visits ≡ suc (t .visits) → r .turns ≡ t .turns + 1 → r .blurred ≡ t .blurred + j → j ≤ u32Most
+        → Turned s cs d ws ws t r
+    turned-returned r j e a b v m y f =
         record {
-          step = λ x h. moved (turn State join changed (exec q) (q .blocks) x) ws r (set (statusesOf t) i fine) (at (suc i)) (suc (t .visits)) a b v (F.step-returned State join changed (exec q) (q .blocks) x (keptOf (d .locals) ws) (statusesOf t) i (t .visits) (at-next x h) inside k old room e);
+          step = λ x h. moved (turn State join joinBlurs changed (exec q) (q .blocks) x) ws r (set (statusesOf t) i fine) (at (suc i)) (suc (t .visits)) (t .blurred + j) a b v y
+              (F.step-returned State join joinBlurs changed (exec q) (q .blocks) x (keptOf (d .locals) ws) (statusesOf t) i (t .visits) (t .blurred) (at-next x h) inside k old j room e);
           turns = m;
           fewer = let z : t .visits ≤ t .turns = p .fewer in omega (arith, v, m, z);
+          small = few-more r j (omega (arith, f)) m y;
           beyond = refl;
         }
 
     -- the block ended: u is what the code had before its end state was propagated
-    pub turned-ended : (e : State) (b : M.Block) (ws′ : List ℕ) (u r : RunState) → exec q i k ≡ Result.ended e → b ≡ getD (q .blocks) i noBlock → statusesOf u ≡ set (statusesOf t) i fine → nextOf u ≡ at (suc i) → u .visits ≡ suc (t .visits) → u .turns ≡ t .turns + 1
-        → Propagated (q .blocks) (d .locals) b e ws ws′ u r → Turned s cs d ws ws′ t r
-    turned-ended e b ws′ u r ran same a c v m h =
+    pub turned-ended : (j : ℕ) (e : State) (b : M.Block) (ws′ : List ℕ) (u r : RunState) → exec q i k ≡ Result.ended j e → b ≡ getD (q .blocks) i noBlock → statusesOf u ≡ set (statusesOf t) i fine → nextOf u ≡ at (suc i) → u .visits ≡ suc (t .visits) → u .turns ≡ t .turns + 1
+        → u .blurred ≡ t .blurred + j → j ≤ u32Most → Propagated (q .blocks) (d .locals) b e ws ws′ u r → Turned s cs d ws ws′ t r
+    turned-ended j e b ws′ u r ran same a c v m y f h =
+        let x : r .blurred ≡ u .blurred + h .passed .more = h .passed .blurred in
+        let z : h .passed .more ≤ 2 * u32Most = h .passed .few in
+        let n : r .turns ≡ t .turns + 1 = h .passed .turns ∙ m in
         record {
-          step = λ x y. moved (turn State join changed (exec q) (q .blocks) x) ws′ r (statusesOf r) (nextOf r) (suc (t .visits)) refl refl (h .counts .visits ∙ v)
-              (F.step-ended State join changed (exec q) (q .blocks) x (keptOf (d .locals) ws) (statusesOf t) i (t .visits) (at-next x y) inside k old e (keptOf (d .locals) ws′) (statusesOf r) (nextOf r) room ran
-              (subst (λ (f : M.Block). F.Does State join changed (exec q) (q .blocks) (F.propagateOn State join changed (exec q) (q .blocks) f e (f .successors)) (keptOf (d .locals) ws) (set (statusesOf t) i fine) (at (suc i)) (keptOf (d .locals) ws′) (statusesOf r) (nextOf r)) same
-              (subst (λ (n : Next). F.Does State join changed (exec q) (q .blocks) (F.propagateOn State join changed (exec q) (q .blocks) b e (b .successors)) (keptOf (d .locals) ws) (set (statusesOf t) i fine) n (keptOf (d .locals) ws′) (statusesOf r) (nextOf r)) c
-              (subst (λ (xs : List Status). F.Does State join changed (exec q) (q .blocks) (F.propagateOn State join changed (exec q) (q .blocks) b e (b .successors)) (keptOf (d .locals) ws) xs (nextOf u) (keptOf (d .locals) ws′) (statusesOf r) (nextOf r)) a (h .does (exec q))))));
-          turns = h .counts .turns ∙ m;
-          fewer = let z : t .visits ≤ t .turns = p .fewer in let y : r .visits ≡ suc (t .visits) = h .counts .visits ∙ v in let x : r .turns ≡ t .turns + 1 = h .counts .turns ∙ m in omega (arith, y, x, z);
+          step = λ x y. moved (turn State join joinBlurs changed (exec q) (q .blocks) x) ws′ r (statusesOf r) (nextOf r) (suc (t .visits)) (t .blurred + j + h .passed .more) refl refl (h .passed .visits ∙ v) (h .passed .blurred ∙ ap (λ (k : ℕ). k + h .passed .more) y′)
+              (F.step-ended State join joinBlurs changed (exec q) (q .blocks) x (keptOf (d .locals) ws) (statusesOf t) i (t .visits) (t .blurred) (at-next x y) inside k old j e (keptOf (d .locals) ws′) (statusesOf r) (nextOf r) (h .passed .more) room ran
+              (subst (λ (f : M.Block). F.Does State join joinBlurs changed (exec q) (q .blocks) (F.propagateOn State join joinBlurs changed (exec q) (q .blocks) f e (f .successors)) (keptOf (d .locals) ws) (set (statusesOf t) i fine) (at (suc i)) (keptOf (d .locals) ws′) (statusesOf r) (nextOf r)) same
+              (subst (λ (n : Next). F.Does State join joinBlurs changed (exec q) (q .blocks) (F.propagateOn State join joinBlurs changed (exec q) (q .blocks) b e (b .successors)) (keptOf (d .locals) ws) (set (statusesOf t) i fine) n (keptOf (d .locals) ws′) (statusesOf r) (nextOf r)) c
+              (subst (λ (xs : List Status). F.Does State join joinBlurs changed (exec q) (q .blocks) (F.propagateOn State join joinBlurs changed (exec q) (q .blocks) b e (b .successors)) (keptOf (d .locals) ws) xs (nextOf u) (keptOf (d .locals) ws′) (statusesOf r) (nextOf r)) a (h .does (exec q)))))
+              (subst (λ (f : M.Block). F.Passes State join joinBlurs changed (exec q) (q .blocks) (F.propagateBlursOn State join joinBlurs changed (exec q) (q .blocks) f e (f .successors)) (keptOf (d .locals) ws) (set (statusesOf t) i fine) (at (suc i)) (h .passed .more)) same
+              (subst (λ (n : Next). F.Passes State join joinBlurs changed (exec q) (q .blocks) (F.propagateBlursOn State join joinBlurs changed (exec q) (q .blocks) b e (b .successors)) (keptOf (d .locals) ws) (set (statusesOf t) i fine) n (h .passed .more)) c
+              (subst (λ (xs : List Status). F.Passes State join joinBlurs changed (exec q) (q .blocks) (F.propagateBlursOn State join joinBlurs changed (exec q) (q .blocks) b e (b .successors)) (keptOf (d .locals) ws) xs (nextOf u) (h .passed .more)) a (h .passed .passes (exec q))))));
+          turns = n;
+          fewer = let z : t .visits ≤ t .turns = p .fewer in let y : r .visits ≡ suc (t .visits) = h .passed .visits ∙ v in omega (arith, y, n, z);
+          small = few-more r (j + h .passed .more) (omega (arith, f, z)) n (omega (arith, x, y));
           beyond = h .beyond;
         }
+      where
+        y′ : u .blurred ≡ t .blurred + j
+        y′ = y
 
     -- the end state has the form too
-    pub ended-strong : (e : State) → exec q i k ≡ Result.ended e → Strong (d .locals) e
-    ended-strong e ran = exec-keeps q (p .promise) i k e ran (p .sound i k old)
+    pub ended-strong : (j : ℕ) (e : State) → exec q i k ≡ Result.ended j e → Strong (d .locals) e
+    ended-strong j e ran = exec-keeps q (p .promise) i j k e ran (p .sound i k old)
 
 -- ---- the whole run
 
@@ -201,18 +224,19 @@ module _ (s cs : List ℕ) (d : D.Routine) (promise : promised (routineOf s cs d
   pub record Going (ws₀ ws : List ℕ) (t : RunState) : Type 0 where
     pub here : At s cs d (whole (t .turns)) ws t
     pub fewer : t .visits ≤ t .turns
+    pub small : t .blurred ≤ t .turns * turnMost
     pub beyond : drop areaWords ws ≡ drop areaWords ws₀
 
   abbrev r : Routine
   r = routineOf s cs d
 
-  begun : (k : ℕ) → whole k ≡ turns State join changed (exec r) (r .blocks) k (F.first State join changed (exec r) (r .blocks) (firstState (r .locals) (r .params)))
+  begun : (k : ℕ) → whole k ≡ turns State join joinBlurs changed (exec r) (r .blocks) k (F.first State join joinBlurs changed (exec r) (r .blocks) (firstState (r .locals) (r .params)))
   unfolding run
   begun k = refl
 
-  more : (k : ℕ) → whole (suc k) ≡ turn State join changed (exec r) (r .blocks) (whole k)
+  more : (k : ℕ) → whole (suc k) ≡ turn State join joinBlurs changed (exec r) (r .blocks) (whole k)
   unfolding run
-  more k = F.steps-more State join changed (exec r) (r .blocks) k (F.first State join changed (exec r) (r .blocks) (firstState (r .locals) (r .params)))
+  more k = F.steps-more State join joinBlurs changed (exec r) (r .blocks) k (F.first State join joinBlurs changed (exec r) (r .blocks) (firstState (r .locals) (r .params)))
 
   -- the first block has the first state, no other one has any
   pub goes : (ws₀ ws₁ ws : List ℕ) (t : RunState) → areaWords ≤ length ws₀ → Forgotten ws₀ ws₁ → Stored (d .locals) (firstState (r .locals) (r .params)) 0 ws₁ ws → Started t → Going ws₀ ws t
@@ -221,22 +245,24 @@ module _ (s cs : List ℕ) (d : D.Routine) (promise : promised (routineOf s cs d
       record {
         here = subst (λ (n : ℕ). At s cs d (whole n) ws t) (sym (p .turns))
             (subst (λ (x : Run State). At s cs d x ws t) (sym (begun 0))
-            (subst (λ (n : Next). Reached State join changed (exec r) (r .blocks) (F.first State join changed (exec r) (r .blocks) (firstState (r .locals) (r .params))) (keptOf (d .locals) ws) (statusesOf t) n (t .visits)) (sym (p .next))
-            (subst (λ (n : ℕ). Reached State join changed (exec r) (r .blocks) (F.first State join changed (exec r) (r .blocks) (firstState (r .locals) (r .params))) (keptOf (d .locals) ws) (statusesOf t) (at 0) n) (sym (p .visits))
-            (F.starts State join changed (exec r) (r .blocks) (firstState (r .locals) (r .params)) (keptOf (d .locals) ws) (statusesOf t)
+            (subst (λ (n : Next). Reached State join joinBlurs changed (exec r) (r .blocks) (F.first State join joinBlurs changed (exec r) (r .blocks) (firstState (r .locals) (r .params))) (keptOf (d .locals) ws) (statusesOf t) n (t .visits) (t .blurred)) (sym (p .next))
+            (subst (λ (n : ℕ). Reached State join joinBlurs changed (exec r) (r .blocks) (F.first State join joinBlurs changed (exec r) (r .blocks) (firstState (r .locals) (r .params))) (keptOf (d .locals) ws) (statusesOf t) (at 0) n (t .blurred)) (sym (p .visits))
+            (subst (λ (n : ℕ). Reached State join joinBlurs changed (exec r) (r .blocks) (F.first State join joinBlurs changed (exec r) (r .blocks) (firstState (r .locals) (r .params))) (keptOf (d .locals) ws) (statusesOf t) (at 0) 0 n) (sym (p .blurred))
+            (F.starts State join joinBlurs changed (exec r) (r .blocks) (firstState (r .locals) (r .params)) (keptOf (d .locals) ws) (statusesOf t)
             some-block (stored-here (d .locals) 0 (firstState (r .locals) (r .params)) ws₁ ws (omega (arith, area, f .size)) (omega arith) w)
             (λ j z. w .others (d .locals) j z ∙ f .kept (d .locals) j)
-            (p .fines)))));
+            (p .fines))))));
         fewer = let a = p .visits in let b = p .turns in omega (arith, a, b);
+        small = let a = p .blurred in omega (arith, a);
         beyond = w .beyond ∙ f .beyond;
       }
 
   module _ (ws₀ ws : List ℕ) (t : RunState) (g : Going ws₀ ws t) where
     -- a block is next: the run has not ended
     module _ (on : t .stopped ≡ false) (m : t .next < d .«block_count») where
-      unended : hasEnded State join changed (exec r) (r .blocks) (whole (t .turns)) ≡ false
+      unended : hasEnded State join joinBlurs changed (exec r) (r .blocks) (whole (t .turns)) ≡ false
       unended =
-          ap (M.endedAt State join changed (exec r) (r .blocks)) (sym (g .here .next) ∙ going t on)
+          ap (M.endedAt State join joinBlurs changed (exec r) (r .blocks)) (sym (g .here .next) ∙ going t on)
           ∙ ap not (lt-ltb (t .next) (length (r .blocks)) (omega (arith, count, m)))
 
       pub bound : t .turns < mostVisits (length (r .blocks)) (r .locals)
@@ -254,6 +280,7 @@ module _ (s cs : List ℕ) (d : D.Routine) (promise : promised (routineOf s cs d
             sound = λ j k e. RunLaws.kept-strong r promise (t .turns) j k (sym (g .here .fits .kept j) ∙ e);
             few = most-few (d .«block_count») (d .locals) (t .turns) few small (subst (λ (n : ℕ). t .turns < mostVisits n (d .locals)) count bound);
             fewer = g .fewer;
+            small = g .small;
           }
 
       pub goes-on : (ws′ : List ℕ) (u : RunState) → Turned s cs d ws ws′ t u → Going ws₀ ws′ u
@@ -263,6 +290,7 @@ module _ (s cs : List ℕ) (d : D.Routine) (promise : promised (routineOf s cs d
                 (subst (λ (x : Run State). At s cs d x ws′ u) (sym (more (t .turns)))
                 (h .step (whole (t .turns)) (g .here)));
             fewer = h .fewer;
+            small = h .small;
             beyond = h .beyond ∙ g .beyond;
           }
 
@@ -271,16 +299,16 @@ module _ (s cs : List ℕ) (d : D.Routine) (promise : promised (routineOf s cs d
     unfolding runOf
     ends o =
         record {
-          end = subst (λ (x : Run State). At s cs d x ws t) (RunLaws.settled r promise (t .turns) (ap (M.endedAt State join changed (exec r) (r .blocks)) (sym (g .here .next)) ∙ over o)) (g .here);
+          end = subst (λ (x : Run State). At s cs d x ws t) (RunLaws.settled r promise (t .turns) (ap (M.endedAt State join joinBlurs changed (exec r) (r .blocks)) (sym (g .here .next)) ∙ over o)) (g .here);
           beyond = g .beyond;
         }
       where
-        past : (b : Bool) → d .«block_count» ≤ t .next → M.endedAt State join changed (exec r) (r .blocks) (cond b (stopped (t .number) (t .place .0)) (at (t .next))) ≡ true
+        past : (b : Bool) → d .«block_count» ≤ t .next → M.endedAt State join joinBlurs changed (exec r) (r .blocks) (cond b (stopped (t .number) (t .place .0)) (at (t .next))) ≡ true
         past true h = refl
         past false h = ap not (le-ltb (t .next) (length (r .blocks)) (omega (arith, count, h)))
 
-        over : (t .stopped ≡ true) ⊎ (d .«block_count» ≤ t .next) → M.endedAt State join changed (exec r) (r .blocks) (nextOf t) ≡ true
-        over (inl h) = ap (λ (b : Bool). M.endedAt State join changed (exec r) (r .blocks) (cond b (stopped (t .number) (t .place .0)) (at (t .next)))) h
+        over : (t .stopped ≡ true) ⊎ (d .«block_count» ≤ t .next) → M.endedAt State join joinBlurs changed (exec r) (r .blocks) (nextOf t) ≡ true
+        over (inl h) = ap (λ (b : Bool). M.endedAt State join joinBlurs changed (exec r) (r .blocks) (cond b (stopped (t .number) (t .place .0)) (at (t .next)))) h
         over (inr h) = past (t .stopped) h
 
 -- ---- the loop's invariant
@@ -308,7 +336,7 @@ pub first-made : (a : Words) (l : ℕ) (ts : List S.Token) → l ≤ 16 → answ
 unfolding firstRunning
 first-made a l ts h e =
     let z : min l 16 ≡ l = omega (arith, h) in
-    let x : runningOf a ≡ firstRunning (min l 16) ts = ap (λ (y : R.Answer). y .state) (done-inv (a .state .violation) (a .state .refusal) (record { state = runningOf a; operand = operandOf (a .state .value) }) (record { state = firstRunning (min l 16) ts; operand = S.Operand.nonRef }) e) in
+    let x : runningOf a ≡ firstRunning (min l 16) ts = ap (λ (y : R.Answer). y .state) (done-inv (a .state .blurred) (a .state .violation) (a .state .refusal) (record { state = runningOf a; operand = operandOf (a .state .value) }) (record { state = firstRunning (min l 16) ts; operand = S.Operand.nonRef }) e) in
     (ap (λ (y : Running). y .root) x ∙ z, (λ k. record { locals = x k .locals; graph = x k .graph }) ∙ ap (λ (n : ℕ). firstState n ts) z)
 
 pub stored-as : (m l : ℕ) (a b : State) (ws ws′ : List ℕ) → m ≡ l → a ≡ b → Stored m a 0 ws ws′ → Stored l b 0 ws ws′
@@ -319,7 +347,7 @@ pub goes-again : (s cs : List ℕ) (d : D.Routine) (promise : promised (routineO
     → areaWords ≤ length ws₀ → Forgotten ws₀ ws₁ → Stored (d .locals) (firstState (routineOf s cs d .locals) (routineOf s cs d .params)) 0 ws₁ ws → Started t → Going s cs d promise count some-block ws ws t
 goes-again s cs d promise count some-block ws₀ ws₁ ws t area f w p =
     let g = goes s cs d promise count some-block ws₀ ws₁ ws t area f w p in
-    record { here = g .here; fewer = g .fewer; beyond = refl }
+    record { here = g .here; fewer = g .fewer; small = g .small; beyond = refl }
 
 pub from : (s cs : List ℕ) (d : D.Routine) (ws₀ ws₁ ws : List ℕ) (t : RunState) → drop areaWords ws₁ ≡ drop areaWords ws₀ → Analyzed s cs d ws₁ ws t → Analyzed s cs d ws₀ ws t
 from s cs d ws₀ ws₁ ws t e a = record { end = a .end; beyond = a .beyond ∙ e }

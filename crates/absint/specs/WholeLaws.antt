@@ -45,18 +45,19 @@ was-refused s cs l e z = sym e ∙ ap (λ (b : Bool). pickListed b (routineOf s 
 -- ---- the answer
 
 module _ (words : ℕ) (s : List ℕ) where
-  pub verify-short : words < areaWords → record { verdict = refusal 7 0; visits = 0 } ≡ Whole.verify words s
+  pub verify-short : words < areaWords → record { verdict = refusal 7 0; visits = 0; blurred = 0 } ≡ Whole.verify words s
   unfolding Whole.verify
   verify-short h = rw (lt-ltb words areaWords h) refl
 
   module _ (h : areaWords ≤ words) where
-    pub verify-refused : (n p : ℕ) → readListing s ≡ refused n p → record { verdict = refusal n p; visits = 0 } ≡ Whole.verify words s
+    pub verify-refused : (n p : ℕ) → readListing s ≡ refused n p → record { verdict = refusal n p; visits = 0; blurred = 0 } ≡ Whole.verify words s
     unfolding Whole.verify
     verify-refused n p e = rw (le-ltb words areaWords h) (ap Whole.answerTo (sym e))
 
-    pub verify-read : (q : Routine) (v : Verdict) (n : ℕ) → readListing s ≡ read q → v ≡ verdict (q .blocks) (runOf q) → n ≡ visits (runOf q) → record { verdict = v; visits = n } ≡ Whole.verify words s
+    pub verify-read : (q : Routine) (v : Verdict) (n m : ℕ) → readListing s ≡ read q → v ≡ verdict (q .blocks) (runOf q) → n ≡ visits (runOf q) → m ≡ runOf q .blurs
+        → record { verdict = v; visits = n; blurred = m } ≡ Whole.verify words s
     unfolding Whole.verify
-    verify-read q v n e a b = rw (le-ltb words areaWords h) ((λ k. record { verdict = a k; visits = b k }) ∙ ap Whole.answerTo (sym e))
+    verify-read q v n m e a b c = rw (le-ltb words areaWords h) ((λ k. record { verdict = a k; visits = b k; blurred = c k }) ∙ ap Whole.answerTo (sym e))
 
 -- the statuses give the verdict
 pub ruled : (s cs : List ℕ) (d : Made.Routine) (ws₀ ws : List ℕ) (t : RunState) → length (statusesOf t) ≡ 16 → d .«block_count» ≤ 16 → length (routineOf s cs d .blocks) ≡ d .«block_count» → Analyzed s cs d ws₀ ws t

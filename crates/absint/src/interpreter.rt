@@ -9,6 +9,7 @@
 use crate::kept::start_from;
 use crate::propagate::propagate;
 use crate::run_state::RunState;
+use crate::run_state::plus;
 use absint_area::forget;
 use absint_area::store;
 use abstract_state::state::AbstractState;
@@ -74,11 +75,13 @@ fn visit(
     let mut u = t.onward();
     u.visits = t.visits + 1;
     if s.violation != 0 {
+        u.blurred = plus(t.blurred, s.blurred);
         return u.fail(i, s.violation, place);
     }
     if s.refusal != 0 {
         return u.stop(s.refusal, place);
     }
+    u.blurred = plus(t.blurred, s.blurred);
     let v = u.clear(i);
     if b.count == 0 {
         return v;

@@ -44,6 +44,7 @@ pub(crate) fn start_from(
             value: AbstractValue::NonReference,
             num_locals,
             next_id: num_locals as u32 + 1,
+            blurred: 0,
             borrow_graph: BorrowGraph {
                 refs: k.refs,
                 edges: k.edges,

@@ -31,9 +31,11 @@ pub enum Ruling {
     Refused(u8, usize),
 }
 
+// `blurred`: how many sets were blurred in the run.
 pub struct Verdict {
     pub ruling: Ruling,
     pub visits: u32,
+    pub blurred: u64,
 }
 
 // The verdict, with the kept states as the loop leaves them still in the area.
@@ -54,6 +56,7 @@ pub fn analyze(listing: &[u8], area: &mut [u32]) -> Verdict
     Verdict {
         ruling: verdict_of(blocks, q.block_count, t),
         visits: t.visits,
+        blurred: t.blurred,
     }
 }
 
@@ -67,10 +70,11 @@ pub fn verify(listing: &[u8], area: &mut [u32]) -> Verdict
 }
 
 fn refused(number: u8, place: usize) -> Verdict
-    ensures { λ r. ⌜ verdictOf r ≡ record { verdict = refusal number place; visits = 0 } ⌝ }
+    ensures { λ r. ⌜ verdictOf r ≡ record { verdict = refusal number place; visits = 0; blurred = 0 } ⌝ }
 {
     Verdict {
         ruling: Ruling::Refused(number, place),
         visits: 0,
+        blurred: 0,
     }
 }

@@ -5,6 +5,7 @@
 //   propagate_to, propagate_at   118 to 154, the body of that loop, for one successor
 use crate::kept::start_from;
 use crate::run_state::RunState;
+use crate::run_state::plus;
 use absint_area::store;
 use abstract_state::state::AbstractState;
 use abstract_state::state::LOCALS;
@@ -18,14 +19,14 @@ use meaning::MAX_NAMES;
 ghost use mathlib.Core.Path.{_≡_};
 ghost use mathlib.Core.Bool.{false};
 ghost use mathlib.Core.List.{List};
-ghost use Prim.Native.Nat.{_≤_, _<_};
+ghost use Prim.Native.Nat.{_+_, _≤_, _<_};
 ghost use lib.ListN.{length};
-ghost use Rattle.meaning.specs.Limits.{maxBlocks, areaWords};
+ghost use Rattle.meaning.specs.Limits.{maxBlocks, areaWords, u32Most};
 ghost use Rattle.meaning.specs.Loop as L;
 ghost use Rattle.meaning.specs.Loop.{position};
 ghost use Rattle.listing.specs.Models.{blockOf, blocksIn};
 ghost use Rattle.abstract_state.specs.Models.{words, stateOf};
-ghost use Rattle.absint.specs.Models.{Sound, Sent, PropagatedTo, Propagated};
+ghost use Rattle.absint.specs.Models.{blurredEnd, Sound, Sent, PropagatedTo, Propagated};
 
 // Where the block with this entry is listed; n, if there is none.
 fn position_of(blocks: [Block; MAX_BLOCKS], n: usize, e: CodeOffset) -> usize
@@ -55,7 +56,7 @@ fn propagate_at(
     s: AbstractState,
     t: RunState,
 ) -> RunState
-    requires { ⌜ (t .stopped ≡ false) × (j < maxBlocks) × (areaWords ≤ length (now area)) × Sent (s .«num_locals») (now area) (words (now locals) (now names) (now edges) s) ⌝ }
+    requires { ⌜ (t .stopped ≡ false) × (j < maxBlocks) × (areaWords ≤ length (now area)) × Sent (s .«num_locals») (now area) (words (now locals) (now names) (now edges) s) × (t .blurred ≤ blurredEnd) ⌝ }
     ensures { λ r. ⌜ ((bs : List L.Block) → j ≡ position bs (e .0) → j < length bs → length bs ≤ maxBlocks →
         PropagatedTo bs (s .«num_locals») (blockOf b) (stateOf (words (now (locals .entry)) (now (names .entry)) (now (edges .entry)) s)) (e .0) (now (area .entry)) (now (area .exit)) t r)
         × Sound (s .«num_locals») (now (area .exit)) ⌝ }
@@ -72,16 +73,18 @@ fn propagate_at(
     let mut e2 = *edges;
     let old = k.state;
     let x = join(&mut ls, &mut ns, &mut es, old, locals, &mut n2, &mut e2, s);
+    let mut u = t;
+    u.blurred = plus(t.blurred, x.blurred);
     if x.refusal != 0 {
         let place = b.exit;
-        return t.stop(x.refusal, place);
+        return u.stop(x.refusal, place);
     }
     if x.changed {
         let new = x.state;
         store(area, j, &ls, &ns, &es, new);
-        return t.revisit(j, e.0 <= b.entry.0);
+        return u.revisit(j, e.0 <= b.entry.0);
     }
-    t
+    u
 }
 
 // To the successor with entry e. Nothing is done where the run has stopped, or where no block has that entry.
@@ -97,7 +100,7 @@ fn propagate_to(
     s: AbstractState,
     t: RunState,
 ) -> RunState
-    requires { ⌜ (n ≤ maxBlocks) × (areaWords ≤ length (now area)) × Sent (s .«num_locals») (now area) (words (now locals) (now names) (now edges) s) ⌝ }
+    requires { ⌜ (n ≤ maxBlocks) × (areaWords ≤ length (now area)) × Sent (s .«num_locals») (now area) (words (now locals) (now names) (now edges) s) × (t .blurred ≤ blurredEnd) ⌝ }
     ensures { λ r. ⌜ PropagatedTo (blocksIn blocks n) (s .«num_locals») (blockOf b) (stateOf (words (now (locals .entry)) (now (names .entry)) (now (edges .entry)) s)) (e .0) (now (area .entry)) (now (area .exit)) t r
         × Sound (s .«num_locals») (now (area .exit)) ⌝ }
 {
@@ -123,7 +126,7 @@ pub(crate) fn propagate(
     s: AbstractState,
     t: RunState,
 ) -> RunState
-    requires { ⌜ (n ≤ maxBlocks) × (areaWords ≤ length (now area)) × Sent (s .«num_locals») (now area) (words (now locals) (now names) (now edges) s) × (1 ≤ b .count) ⌝ }
+    requires { ⌜ (n ≤ maxBlocks) × (areaWords ≤ length (now area)) × Sent (s .«num_locals») (now area) (words (now locals) (now names) (now edges) s) × (1 ≤ b .count) × (t .blurred + u32Most ≤ blurredEnd) ⌝ }
     ensures { λ r. ⌜ Propagated (blocksIn blocks n) (s .«num_locals») (blockOf b) (stateOf (words (now (locals .entry)) (now (names .entry)) (now (edges .entry)) s)) (now (area .entry)) (now (area .exit)) t r ⌝ }
 {
     let first = b.first;

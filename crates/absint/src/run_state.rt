@@ -8,11 +8,11 @@ use file_format::CodeOffset;
 use meaning::MAX_BLOCKS;
 ghost use mathlib.Core.Path.{_≡_};
 ghost use mathlib.Core.Bool.{false, cond};
-ghost use Prim.Native.Nat.{_+_, _<_};
+ghost use Prim.Native.Nat.{_+_, _≤_, _<_};
 ghost use lib.ListN.{length, set};
-ghost use Rattle.meaning.specs.Limits.{maxBlocks};
+ghost use Rattle.meaning.specs.Limits.{maxBlocks, u32Most};
 ghost use Rattle.meaning.specs.Loop.{fine, failed, at, stopped};
-ghost use Rattle.absint.specs.Models.{statusOf, statusesOf, nextOf, turnsEnd, Started, SameCounts};
+ghost use Rattle.absint.specs.Models.{statusOf, statusesOf, nextOf, turnsEnd, blurredEnd, Started, SameCounts};
 
 // Code and offset are free where the block has not failed.
 pub(crate) struct BlockPostcondition {
@@ -22,7 +22,7 @@ pub(crate) struct BlockPostcondition {
 }
 
 // `next` counts until the run is stopped, `number` and `place` from then on; the others are free. `turns` counts visits and blocks passed
-// over.
+// over, `blurred` the sets blurred in visits and joins.
 pub(crate) struct RunState {
     pub next: usize,
     pub stopped: bool,
@@ -30,7 +30,16 @@ pub(crate) struct RunState {
     pub place: CodeOffset,
     pub visits: u32,
     pub turns: u32,
+    pub blurred: u64,
     pub statuses: [BlockPostcondition; MAX_BLOCKS],
+}
+
+// A count of blurred sets goes on.
+pub(crate) fn plus(n: u64, k: u32) -> u64
+    requires { ⌜ n ≤ blurredEnd ⌝ }
+    ensures { λ r. ⌜ (r ≡ n + k) × (k ≤ u32Most) ⌝ }
+{
+    n + k as u64
 }
 
 impl RunState {
@@ -49,6 +58,7 @@ impl RunState {
             place: CodeOffset(0),
             visits: 0,
             turns: 0,
+            blurred: 0,
             statuses: [x; MAX_BLOCKS],
         }
     }
@@ -56,7 +66,7 @@ impl RunState {
     // To the block listed after this one.
     pub(crate) fn onward(self) -> Self
         requires { ⌜ (self .next < maxBlocks) × (self .turns < turnsEnd) ⌝ }
-        ensures { λ r. ⌜ (self .stopped ≡ false → nextOf r ≡ at (self .next + 1)) × (statusesOf r ≡ statusesOf self) × (r .visits ≡ self .visits) × (r .turns ≡ self .turns + 1) ⌝ }
+        ensures { λ r. ⌜ (self .stopped ≡ false → nextOf r ≡ at (self .next + 1)) × (statusesOf r ≡ statusesOf self) × (r .visits ≡ self .visits) × (r .turns ≡ self .turns + 1) × (r .blurred ≡ self .blurred) ⌝ }
     {
         let mut t = self;
         t.next = self.next + 1;

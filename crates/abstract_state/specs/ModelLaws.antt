@@ -12,65 +12,65 @@ use lib.Dec.{eqb, ltb}
 use lib.ListN.{length, getD, set}
 use Rattle.meaning.specs.Answers.{Ans, ok, refuse, guard, Outcome, done, violated, refused, then, lift}
 use Rattle.meaning.specs.Laws.Base.{ok-inj, refuse≢ok}
-use Rattle.meaning.specs.BorrowGraph.{Graph, Borrows, wellFormed, held, newName, fullyBorrowed, borrowed, mutablyBorrowed, borrowedBy}
+use Rattle.meaning.specs.BorrowGraph.{Graph, blursBy, Borrows, wellFormed, held, newName, fullyBorrowed, borrowed, mutablyBorrowed, borrowedBy}
 use Rattle.meaning.specs.BorrowGraph as L
 use Rattle.meaning.specs.AbstractState as S
 use Rattle.meaning.specs.AbstractState.{Operand, nonRef, reference}
 use Rattle.meaning.specs.Area.{localAs, localIn}
 use Rattle.meaning.specs.EntryPoints as R
-use Rattle.meaning.specs.EntryPoints.{Running, Answer, onGraph, newRef}
+use Rattle.meaning.specs.EntryPoints.{Running, Answer, countOn, onGraph, newRef}
 use Rattle.references.specs.Models.{told}
 use Rattle.abstract_state.specs.Models.{Words, words, Fits, Does, Gives, runningOf, outcomeOf, halted, heeding, failing, needing, localsIn}
 use Rattle.abstract_state.specs.declared.state.AbstractState.{AbstractState}
 
 -- ---- states that stop
 
-module _ {A B : Type 0} (v n : ℕ) (a : A) where
+module _ {A B : Type 0} (k v n : ℕ) (a : A) where
   -- a stopped state stays as it is
-  pub stays : (b : B) (f : A → Outcome B) → (eqb v 0 && eqb n 0) ≡ false → halted v n b ≡ then (halted v n a) f
+  pub stays : (b : B) (f : A → Outcome B) → (eqb v 0 && eqb n 0) ≡ false → halted k v n b ≡ then (halted k v n a) f
   stays b f e = go (eqb v 0) (eqb n 0) e
     where
-      go : (x y : Bool) → (x && y) ≡ false → cond x (cond y (done b) (refused n)) (violated v) ≡ then (cond x (cond y (done a) (refused n)) (violated v)) f
+      go : (x y : Bool) → (x && y) ≡ false → cond x (cond y (done b) (refused n)) (violated k v) ≡ then (cond x (cond y (done a) (refused n)) (violated k v)) f
       go true true e = absurd (true≢false e)
       go true false e = refl
       go false y e = refl
 
   -- one that goes on does the next thing
-  pub goes : (f : A → Outcome B) → (eqb v 0 && eqb n 0) ≡ true → f a ≡ then (halted v n a) f
+  pub goes : (f : A → Outcome B) → (eqb v 0 && eqb n 0) ≡ true → f a ≡ then (halted k v n a) f
   goes f e = go (eqb v 0) (eqb n 0) e
     where
-      go : (x y : Bool) → (x && y) ≡ true → f a ≡ then (cond x (cond y (done a) (refused n)) (violated v)) f
+      go : (x y : Bool) → (x && y) ≡ true → f a ≡ then (cond x (cond y (done a) (refused n)) (violated k v)) f
       go true true e = refl
       go true false e = absurd (true≢false (sym e))
       go false y e = absurd (true≢false (sym e))
 
   -- what comes next is judged on the state that goes on only
-  pub here : (f g : A → Outcome B) → f a ≡ g a → then (halted v n a) f ≡ then (halted v n a) g
+  pub here : (f g : A → Outcome B) → f a ≡ g a → then (halted k v n a) f ≡ then (halted k v n a) g
   here f g e = go (eqb v 0) (eqb n 0)
     where
-      go : (x y : Bool) → then (cond x (cond y (done a) (refused n)) (violated v)) f ≡ then (cond x (cond y (done a) (refused n)) (violated v)) g
+      go : (x y : Bool) → then (cond x (cond y (done a) (refused n)) (violated k v)) f ≡ then (cond x (cond y (done a) (refused n)) (violated k v)) g
       go true true = e
       go true false = refl
       go false y = refl
 
-  pub halted-then : (f : A → B) → halted v n (f a) ≡ then (halted v n a) (λ x. done (f x))
+  pub halted-then : (f : A → B) → halted k v n (f a) ≡ then (halted k v n a) (λ x. done (f x))
   halted-then f = go (eqb v 0) (eqb n 0)
     where
-      go : (x y : Bool) → cond x (cond y (done (f a)) (refused n)) (violated v) ≡ then (cond x (cond y (done a) (refused n)) (violated v)) (λ x. done (f x))
+      go : (x y : Bool) → cond x (cond y (done (f a)) (refused n)) (violated k v) ≡ then (cond x (cond y (done a) (refused n)) (violated k v)) (λ x. done (f x))
       go true true = refl
       go true false = refl
       go false y = refl
 
 pub then-done : {A : Type 0} (o : Outcome A) → o ≡ then o done
 then-done (done a) = refl
-then-done (violated c) = refl
+then-done (violated k c) = refl
 then-done (refused n) = refl
 
 -- ---- calls in a row
 
 pub then-then : {A B C : Type 0} (o : Outcome A) (f : A → Outcome B) (g : B → Outcome C) → then (then o f) g ≡ then o (λ a. then (f a) g)
 then-then (done a) f g = refl
-then-then (violated c) f g = refl
+then-then (violated k c) f g = refl
 then-then (refused n) f g = refl
 
 pub does-then : (f g : Running → Outcome Running) (a b c : Words) → Does f a b → Does g b c → Does (λ s. then (f s) g) a c
@@ -89,13 +89,13 @@ gives-then f g a b c p q = record {
 pub does-as : (f g : Running → Outcome Running) (a b : Words) → (Fits a → f (runningOf a) ≡ g (runningOf a)) → Does f a b → Does g a b
 does-as f g a b e p = record {
   fits = p .fits;
-  does = λ h. p .does h ∙ here (a .state .violation) (a .state .refusal) (runningOf a) f g (e h);
+  does = λ h. p .does h ∙ here (a .state .blurred) (a .state .violation) (a .state .refusal) (runningOf a) f g (e h);
 }
 
 pub gives-as : (f g : Running → Outcome Answer) (a b : Words) → (Fits a → f (runningOf a) ≡ g (runningOf a)) → Gives f a b → Gives g a b
 gives-as f g a b e p = record {
   fits = p .fits;
-  gives = λ h. p .gives h ∙ here (a .state .violation) (a .state .refusal) (runningOf a) f g (e h);
+  gives = λ h. p .gives h ∙ here (a .state .blurred) (a .state .violation) (a .state .refusal) (runningOf a) f g (e h);
 }
 
 -- nothing is done
@@ -108,25 +108,26 @@ pub does-here : (f : Running → Outcome Running) (ls ns : List ℕ) (es : List 
 does-here f ls ns es s t g e = record { fits = λ h. record { locals = h .locals; tells = rw g (h .tells) }; does = λ h. e }
 
 -- a state that goes on gets a number more
-module _ {A : Type 0} (v n : ℕ) (a : A) (e : (eqb v 0 && eqb n 0) ≡ true) where
-  pub new-violation : (c : ℕ) → halted c n a ≡ halted c 0 a
+module _ {A : Type 0} (k v n : ℕ) (a : A) (e : (eqb v 0 && eqb n 0) ≡ true) where
+  pub new-violation : (c : ℕ) → halted k c n a ≡ halted k c 0 a
   new-violation c = go (eqb v 0) (eqb n 0) e
     where
-      go : (x y : Bool) → (x && y) ≡ true → cond (eqb c 0) (cond y (done a) (refused n)) (violated c) ≡ halted c 0 a
+      go : (x y : Bool) → (x && y) ≡ true → cond (eqb c 0) (cond y (done a) (refused n)) (violated k c) ≡ halted k c 0 a
       go true true e = refl
       go true false e = absurd (true≢false (sym e))
       go false y e = absurd (true≢false (sym e))
 
-  pub new-refusal : (m : ℕ) → halted v m a ≡ halted 0 m a
-  new-refusal m = go (eqb v 0) e
+  -- (it has no violation, so that the sets blurred are not asked for)
+  pub new-refusal : (j m : ℕ) → halted k v m a ≡ halted j 0 m a
+  new-refusal j m = go (eqb v 0) e
     where
-      go : (x : Bool) → (x && eqb n 0) ≡ true → cond x (cond (eqb m 0) (done a) (refused m)) (violated v) ≡ halted 0 m a
+      go : (x : Bool) → (x && eqb n 0) ≡ true → cond x (cond (eqb m 0) (done a) (refused m)) (violated k v) ≡ halted j 0 m a
       go true e = refl
       go false e = absurd (true≢false (sym e))
 
   -- refused by a number of its own
-  pub stopped : (m : ℕ) → halted v m a ≡ then (halted v n a) (λ s. halted 0 m s)
-  stopped m = new-refusal m ∙ goes v n a (λ s. halted 0 m s) e
+  pub stopped : (m : ℕ) → halted k v m a ≡ then (halted k v n a) (λ s. halted 0 0 m s)
+  stopped m = new-refusal 0 m ∙ goes k v n a (λ s. halted 0 0 m s) e
 
 -- ---- questions
 
@@ -138,37 +139,37 @@ told-then {A} {B} m b f = go (eqb m 0)
     go false = refl
 
 module _ (v n : ℕ) (a : Running) (m : ℕ) (b : Bool) (e : (eqb v 0 && eqb n 0) ≡ true) where
-  pub heeded : halted v m a ≡ then (halted v n a) (heeding (told m b))
-  heeded = new-refusal v n a e m ∙ told-then m b (λ y. done a) ∙ goes v n a (heeding (told m b)) e
+  pub heeded : halted (a .blurs) v m a ≡ then (halted (a .blurs) v n a) (heeding (told m b))
+  heeded = new-refusal (a .blurs) v n a e 0 m ∙ told-then m b (λ y. done a) ∙ goes (a .blurs) v n a (heeding (told m b)) e
 
-  pub failed : (c : ℕ) → (eqb m 0 && b) ≡ true → halted c n a ≡ then (halted v n a) (failing (told m b) c)
-  failed c h = new-violation v n a e c ∙ go (eqb m 0) b h ∙ told-then m b (λ y. halted (cond y c 0) 0 a) ∙ goes v n a (failing (told m b) c) e
+  pub failed : (c : ℕ) → (eqb m 0 && b) ≡ true → halted (a .blurs) c n a ≡ then (halted (a .blurs) v n a) (failing (told m b) c)
+  failed c h = new-violation (a .blurs) v n a e c ∙ go (eqb m 0) b h ∙ told-then m b (λ y. halted (a .blurs) (cond y c 0) 0 a) ∙ goes (a .blurs) v n a (failing (told m b) c) e
     where
-      go : (x y : Bool) → (x && y) ≡ true → halted c 0 a ≡ cond x (halted (cond y c 0) 0 a) (refused m)
+      go : (x y : Bool) → (x && y) ≡ true → halted (a .blurs) c 0 a ≡ cond x (halted (a .blurs) (cond y c 0) 0 a) (refused m)
       go true true h = refl
       go true false h = absurd (true≢false (sym h))
       go false y h = absurd (true≢false (sym h))
 
-  pub not-failed : (c : ℕ) → (eqb m 0 && b) ≡ false → halted v m a ≡ then (halted v n a) (failing (told m b) c)
-  not-failed c h = new-refusal v n a e m ∙ go (eqb m 0) b h ∙ told-then m b (λ y. halted (cond y c 0) 0 a) ∙ goes v n a (failing (told m b) c) e
+  pub not-failed : (c : ℕ) → (eqb m 0 && b) ≡ false → halted (a .blurs) v m a ≡ then (halted (a .blurs) v n a) (failing (told m b) c)
+  not-failed c h = new-refusal (a .blurs) v n a e 0 m ∙ go (eqb m 0) b h ∙ told-then m b (λ y. halted (a .blurs) (cond y c 0) 0 a) ∙ goes (a .blurs) v n a (failing (told m b) c) e
     where
-      go : (x y : Bool) → (x && y) ≡ false → cond x (done a) (refused m) ≡ cond x (halted (cond y c 0) 0 a) (refused m)
+      go : (x y : Bool) → (x && y) ≡ false → cond x (done a) (refused m) ≡ cond x (halted (a .blurs) (cond y c 0) 0 a) (refused m)
       go true true h = absurd (true≢false h)
       go true false h = refl
       go false y h = refl
 
-  pub needed : (c : ℕ) → (eqb m 0 && not b) ≡ true → halted v c a ≡ then (halted v n a) (needing (told m b) c)
-  needed c h = new-refusal v n a e c ∙ go (eqb m 0) b h ∙ told-then m b (λ y. halted 0 (cond y 0 c) a) ∙ goes v n a (needing (told m b) c) e
+  pub needed : (c : ℕ) → (eqb m 0 && not b) ≡ true → halted (a .blurs) v c a ≡ then (halted (a .blurs) v n a) (needing (told m b) c)
+  needed c h = new-refusal (a .blurs) v n a e 0 c ∙ go (eqb m 0) b h ∙ told-then m b (λ y. halted 0 0 (cond y 0 c) a) ∙ goes (a .blurs) v n a (needing (told m b) c) e
     where
-      go : (x y : Bool) → (x && not y) ≡ true → halted 0 c a ≡ cond x (halted 0 (cond y 0 c) a) (refused m)
+      go : (x y : Bool) → (x && not y) ≡ true → halted 0 0 c a ≡ cond x (halted 0 0 (cond y 0 c) a) (refused m)
       go true true h = absurd (true≢false (sym h))
       go true false h = refl
       go false y h = absurd (true≢false (sym h))
 
-  pub not-needed : (c : ℕ) → (eqb m 0 && not b) ≡ false → halted v m a ≡ then (halted v n a) (needing (told m b) c)
-  not-needed c h = new-refusal v n a e m ∙ go (eqb m 0) b h ∙ told-then m b (λ y. halted 0 (cond y 0 c) a) ∙ goes v n a (needing (told m b) c) e
+  pub not-needed : (c : ℕ) → (eqb m 0 && not b) ≡ false → halted (a .blurs) v m a ≡ then (halted (a .blurs) v n a) (needing (told m b) c)
+  not-needed c h = new-refusal (a .blurs) v n a e 0 m ∙ go (eqb m 0) b h ∙ told-then m b (λ y. halted 0 0 (cond y 0 c) a) ∙ goes (a .blurs) v n a (needing (told m b) c) e
     where
-      go : (x y : Bool) → (x && not y) ≡ false → cond x (done a) (refused m) ≡ cond x (halted 0 (cond y 0 c) a) (refused m)
+      go : (x y : Bool) → (x && not y) ≡ false → cond x (done a) (refused m) ≡ cond x (halted 0 0 (cond y 0 c) a) (refused m)
       go true true h = refl
       go true false h = absurd (true≢false h)
       go false y h = refl
@@ -210,18 +211,32 @@ asked g n at m b f e = told-map {A = Borrows} g n m b (record { full = fullyBorr
 
 -- ---- calls on the graph
 
-pub answered : {A G : Type 0} (v n : ℕ) (a : A) (m : ℕ) (g : G) (f : A → G → A) → (eqb v 0 && eqb n 0) ≡ true → halted v m (f a g) ≡ then (halted v n a) (λ s. then (lift (told m g)) (λ h. done (f s h)))
-answered {A} {G} v n a m g f e = new-refusal v n (f a g) e m ∙ told-then m g (λ h. done (f a h)) ∙ goes v n a (λ s. then (lift (told m g)) (λ h. done (f s h))) e
+pub answered : {A G : Type 0} (j k v n : ℕ) (a : A) (m : ℕ) (g : G) (f : A → G → A) → (eqb v 0 && eqb n 0) ≡ true
+    → halted j v m (f a g) ≡ then (halted k v n a) (λ s. then (lift (told m g)) (λ h. done (f s h)))
+answered {A} {G} j k v n a m g f e =
+    new-refusal j v n (f a g) e 0 m ∙ told-then m g (λ h. done (f a h)) ∙ goes k v n a (λ s. then (lift (told m g)) (λ h. done (f s h))) e
 
--- a fresh name is one more
-pub next-named : (m : Bool) (r : Running) (a : Ans Graph) → ltb (r .next) 65536 ≡ true → a ≡ newName (r .graph) (r .next) m
-    → then {B = Running} (onGraph r a) (λ s. done (record { locals = s .locals; graph = s .graph; next = r .next + 1; root = s .root })) ≡ newRef m r
+-- the state after a call that left the graph h and blurred b sets
+abbrev pub counted : ℕ → Running → Graph → Running
+counted b r h = record { locals = r .locals; graph = h; next = r .next; root = r .root; blurs = countOn (r .blurs) b }
+
+pub passed-up : (r : Running) (m b : ℕ) (g : Graph) (x : Ans Graph) → told m g ≡ x → b ≡ blursBy (r .graph) x → then (lift (told m g)) (λ h. done (counted b r h)) ≡ onGraph r x
+passed-up r m b g x e q = go (eqb m 0) e
+  where
+    go : (y : Bool) → cond y (ok g) (refuse m) ≡ x → then (lift (cond y (ok g) (refuse m))) (λ h. done (counted b r h)) ≡ onGraph r x
+    go true e = ap {B = Outcome Running} (λ (k : ℕ). done (counted k r g)) (q ∙ ap (blursBy (r .graph)) (sym e)) ∙ ap (onGraph r) e
+    go false e = ap (onGraph r) e
+
+-- the state with a fresh name
+abbrev pub named : Running → Graph → Running
+named r g = record { locals = r .locals; graph = g; next = r .next + 1; root = r .root; blurs = r .blurs }
+
+pub next-named : (m : Bool) (r : Running) (a : Ans Graph) → ltb (r .next) 65536 ≡ true → a ≡ newName (r .graph) (r .next) m → then (lift a) (λ g. done (named r g)) ≡ newRef m r
 unfolding newRef
 next-named m r a e h = rw (e, sym h) (go a)
   where
-    go : (b : Ans Graph) → then {B = Running} (onGraph r b) (λ s. done (record { locals = s .locals; graph = s .graph; next = r .next + 1; root = s .root }))
-        ≡ then {B = Running} (lift b) (λ g. done (record { locals = r .locals; graph = g; next = suc (r .next); root = r .root }))
-    go (ok g) = ap (λ (k : ℕ). done (record { locals = r .locals; graph = g; next = k; root = r .root })) (add-one (r .next))
+    go : (b : Ans Graph) → then (lift b) (λ g. done (named r g)) ≡ then {B = Running} (lift b) (λ g. done (record { locals = r .locals; graph = g; next = suc (r .next); root = r .root; blurs = r .blurs }))
+    go (ok g) = ap (λ (k : ℕ). done (record { locals = r .locals; graph = g; next = k; root = r .root; blurs = r .blurs })) (add-one (r .next))
     go (refuse k) = refl
 
 -- ---- the word of a local
@@ -281,8 +296,8 @@ local-unset (u ∷ ws) (suc n) zero x h = absurd (not-suc-le-zero h)
 local-unset (u ∷ ws) (suc n) (suc i) x h = ap (λ (l : List S.Local). localIn u ∷ l) (local-unset ws n i x (le-of-suc-le-suc h))
 
 -- the state with other locals
-pub relocated : (v n : ℕ) (r : Running) (i : ℕ) (x : S.Local) (l : List S.Local) → l ≡ set (r .locals) i x
-    → halted v n (record { locals = l; graph = r .graph; next = r .next; root = r .root }) ≡ then (halted v n r) (λ s. done (R.withLocal s i x))
-relocated v n r i x l e =
-    ap {B = Outcome Running} (λ (k : List S.Local). halted v n (record { locals = k; graph = r .graph; next = r .next; root = r .root })) e
-    ∙ halted-then {B = Running} v n r (λ s. R.withLocal s i x)
+pub relocated : (k v n : ℕ) (r : Running) (i : ℕ) (x : S.Local) (l : List S.Local) → l ≡ set (r .locals) i x
+    → halted k v n (record { locals = l; graph = r .graph; next = r .next; root = r .root; blurs = r .blurs }) ≡ then (halted k v n r) (λ s. done (R.withLocal s i x))
+relocated k v n r i x l e =
+    ap {B = Outcome Running} (λ (y : List S.Local). halted k v n (record { locals = y; graph = r .graph; next = r .next; root = r .root; blurs = r .blurs })) e
+    ∙ halted-then {B = Running} k v n r (λ s. R.withLocal s i x)

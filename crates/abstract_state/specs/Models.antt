@@ -61,30 +61,31 @@ runningOf a = record {
   graph = graphIn (a .names) (a .edges) (a .state .«borrow_graph»);
   next = a .state .«next_id»;
   root = a .state .«num_locals»;
+  blurs = a .state .blurred;
 }
 
 abbrev pub stateOf : Words → State
 stateOf a = record { locals = runningOf a .locals; graph = runningOf a .graph }
 
--- done, or where it stopped: the violation's code, the refusal's number
-abbrev pub halted : {A : Type 0} → ℕ → ℕ → A → Outcome A
-halted v n a = cond (eqb v 0) (cond (eqb n 0) (done a) (refused n)) (violated v)
+-- done, or where it stopped: the violation's code, with the number of sets blurred, or the refusal's number
+abbrev pub halted : {A : Type 0} → ℕ → ℕ → ℕ → A → Outcome A
+halted k v n a = cond (eqb v 0) (cond (eqb n 0) (done a) (refused n)) (violated k v)
 
 abbrev pub outcomeOf : Words → Outcome Running
-outcomeOf a = halted (a .state .violation) (a .state .refusal) (runningOf a)
+outcomeOf a = halted (a .state .blurred) (a .state .violation) (a .state .refusal) (runningOf a)
 
 abbrev pub answerOf : Words → Outcome Answer
-answerOf a = halted (a .state .violation) (a .state .refusal) (record { state = runningOf a; operand = operandOf (a .state .value) })
+answerOf a = halted (a .state .blurred) (a .state .violation) (a .state .refusal) (record { state = runningOf a; operand = operandOf (a .state .value) })
 
 -- what a question's answer does to a state: refused where the question was; then, nothing, or the violation of a yes, or the refusal of a no
 abbrev pub heeding : Ans Bool → Running → Outcome Running
 heeding t s = then (lift t) (λ b. done s)
 
 abbrev pub failing : Ans Bool → ℕ → Running → Outcome Running
-failing t c s = then (lift t) (λ b. halted (cond b c 0) 0 s)
+failing t c s = then (lift t) (λ b. halted (s .blurs) (cond b c 0) 0 s)
 
 abbrev pub needing : Ans Bool → ℕ → Running → Outcome Running
-needing t n s = then (lift t) (λ b. halted 0 (cond b 0 n) s)
+needing t n s = then (lift t) (λ b. halted 0 0 (cond b 0 n) s)
 
 -- From a to b the state does f. Of words that fit no state nothing is said.
 pub record Does (f : Running → Outcome Running) (a b : Words) : Type 0 where

@@ -19,8 +19,8 @@ use crate::state::LOCALS;
 use crate::state::Local;
 use crate::words::local_of;
 use crate::words::local_word;
-use borrow_graph::graph::Answer;
 use borrow_graph::graph::YesOrNo;
+use borrow_graph_edit::blurs::Blurring;
 use file_format::LocalIndex;
 use meaning::EDGE_WORDS;
 use meaning::MAX_EDGES;
@@ -38,8 +38,9 @@ ghost use lib.ListN.{getD};
 ghost use Rattle.meaning.specs.AbstractState as S;
 ghost use Rattle.meaning.specs.Answers.{Ans, done};
 ghost use Rattle.meaning.specs.BorrowGraph as L;
-ghost use Rattle.meaning.specs.EntryPoints.{answer, withLocal, onGraph, newRef, addCopy, addBorrow, addFieldBorrow, addLocalBorrow, addResourceBorrow, releaseName};
+ghost use Rattle.meaning.specs.EntryPoints.{answer, withLocal, countOn, onGraph, newRef, addCopy, addBorrow, addFieldBorrow, addLocalBorrow, addResourceBorrow, releaseName};
 ghost use Rattle.borrow_graph.specs.Models as G;
+ghost use Rattle.borrow_graph_edit.specs.Models.{Blurs};
 ghost use Rattle.abstract_state.specs.Models.{operandOf, localOf, localsIn, words, Fits, Does, Gives, halted, heeding, failing, needing};
 
 // A name is below this.
@@ -71,12 +72,13 @@ pub fn give(state: AbstractState, value: AbstractValue) -> AbstractState
         value: value,
         num_locals: state.num_locals,
         next_id: state.next_id,
+        blurred: state.blurred,
         borrow_graph: g,
     }
 }
 
 pub fn refuse(state: AbstractState, number: u8) -> AbstractState
-    ensures { λ r. ⌜ ((ls ns : List ℕ) (es : List (List ℕ)) → Does (λ s. halted 0 number s) (words ls ns es state) (words ls ns es r)) ⌝ }
+    ensures { λ r. ⌜ ((ls ns : List ℕ) (es : List (List ℕ)) → Does (λ s. halted 0 0 number s) (words ls ns es state) (words ls ns es r)) ⌝ }
 {
     let mut s = state;
     if (state.violation == 0) & (state.refusal == 0) {
@@ -157,22 +159,38 @@ pub fn new_ref(names: &mut [u32; MAX_NAMES], state: AbstractState, mutable: bool
     if state.next_id < NAME_END {
         let g = state.borrow_graph;
         let a = borrow_graph::graph::new_ref(names, g, RefID(state.next_id as u16), mutable);
-        let mut s = on_graph(state, a);
+        let h = a.graph;
+        let mut s = state;
+        s.borrow_graph = h;
         s.next_id = state.next_id + 1;
+        if (state.violation == 0) & (state.refusal == 0) {
+            s.refusal = a.refusal;
+        }
         return s;
     }
     refuse(state, 9)
 }
 
+// A count goes on, but not beyond the most that it can hold.
+fn count_on(n: u32, k: u8) -> u32
+    ensures { λ r. ⌜ r ≡ countOn n k ⌝ }
+{
+    if u32::MAX - n < k as u32 {
+        return u32::MAX;
+    }
+    n + k as u32
+}
+
 // What a graph call answered. A stopped state takes its graph too, since the arrays hold that one now.
-fn on_graph(state: AbstractState, a: Answer) -> AbstractState
-    ensures { λ r. ⌜ ((ls ns ns′ : List ℕ) (es es′ : List (List ℕ)) (f : L.Graph → Ans L.Graph) → (G.Tells ns es (state .«borrow_graph») → G.Answers (f (G.graphIn ns es (state .«borrow_graph»))) ns es (state .«borrow_graph») ns′ es′ a) → Does (λ s. onGraph s (f (s .graph))) (words ls ns es state) (words ls ns′ es′ r)) ⌝ }
+fn on_graph(state: AbstractState, a: Blurring) -> AbstractState
+    ensures { λ r. ⌜ ((ls ns ns′ : List ℕ) (es es′ : List (List ℕ)) (f : L.Graph → Ans L.Graph) → (G.Tells ns es (state .«borrow_graph») → Blurs (f (G.graphIn ns es (state .«borrow_graph»))) ns es (state .«borrow_graph») ns′ es′ a) → Does (λ s. onGraph s (f (s .graph))) (words ls ns es state) (words ls ns′ es′ r)) ⌝ }
 {
     let g = a.graph;
     let mut s = state;
     s.borrow_graph = g;
     if (state.violation == 0) & (state.refusal == 0) {
         s.refusal = a.refusal;
+        s.blurred = count_on(state.blurred, a.blurred);
     }
     s
 }

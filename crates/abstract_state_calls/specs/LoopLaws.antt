@@ -14,12 +14,12 @@ use Rattle.abstract_state.specs.ModelLaws.{halted-then, then-then}
 
 pub under : {A B : Type 0} (o : Outcome A) (f g : A → Outcome B) → ((a : A) → f a ≡ g a) → then o f ≡ then o g
 under (done a) f g h = h a
-under (violated c) f g h = refl
+under (violated k c) f g h = refl
 under (refused n) f g h = refl
 
 -- a state with something beside it
-pub beside : {A B C : Type 0} (v n : ℕ) (a : A) (f : A → B) (k : B → Outcome C) → then (halted v n (f a)) k ≡ then (halted v n a) (λ x. k (f x))
-beside {A} {B} {C} v n a f k = ap (λ (o : Outcome B). then o k) (halted-then v n a f) ∙ then-then (halted v n a) (λ x. done (f x)) k
+pub beside : {A B C : Type 0} (j v n : ℕ) (a : A) (f : A → B) (k : B → Outcome C) → then (halted j v n (f a)) k ≡ then (halted j v n a) (λ x. k (f x))
+beside {A} {B} {C} j v n a f k = ap (λ (o : Outcome B). then o k) (halted-then j v n a f) ∙ then-then (halted j v n a) (λ x. done (f x)) k
 
 -- ---- questions of a name
 
@@ -31,18 +31,18 @@ module _ (g : Graph) (n : ℕ) (b : Bool) (r : Running) where
       go true = refl
       go false = refl
 
-  pub failing-at : (c : ℕ) → eqb c 0 ≡ false → failing (L.ofName g n b) c r ≡ needsName g n (fails b c (done r))
+  pub failing-at : (c : ℕ) → eqb c 0 ≡ false → failing (L.ofName g n b) c r ≡ needsName g n (fails (r .blurs) b c (done r))
   failing-at c z = go (wellFormed g && held g n) b
     where
-      go : (x y : Bool) → failing (guard x 9 (ok y)) c r ≡ needs x 9 (fails y c (done r))
+      go : (x y : Bool) → failing (guard x 9 (ok y)) c r ≡ needs x 9 (fails (r .blurs) y c (done r))
       go true true = rw z refl
       go true false = refl
       go false y = refl
 
-pub known-fails-then : {A B : Type 0} (g : Graph) (n : ℕ) (b : Bool) (c : ℕ) (o : Outcome A) (k : A → Outcome B) → then (needsName g n (fails b c o)) k ≡ needsName g n (fails b c (then o k))
-known-fails-then {A} {B} g n b c o k = go (wellFormed g && held g n) b
+pub known-fails-then : {A B : Type 0} (g : Graph) (n j : ℕ) (b : Bool) (c : ℕ) (o : Outcome A) (k : A → Outcome B) → then (needsName g n (fails j b c o)) k ≡ needsName g n (fails j b c (then o k))
+known-fails-then {A} {B} g n j b c o k = go (wellFormed g && held g n) b
   where
-    go : (x y : Bool) → then (needs x 9 (fails y c o)) k ≡ needs x 9 (fails y c (then o k))
+    go : (x y : Bool) → then (needs x 9 (fails j y c o)) k ≡ needs x 9 (fails j y c (then o k))
     go true true = refl
     go true false = refl
     go false y = refl

@@ -22,7 +22,7 @@ idsOf s = map idOf (take (s .len) (s .list))
 
 -- a state with the values that a call answers
 abbrev pub answersOf : Words → List Operand → Outcome Answers
-answersOf b vs = halted (b .state .violation) (b .state .refusal) (record { state = runningOf b; operands = vs })
+answersOf b vs = halted (b .state .blurred) (b .state .violation) (b .state .refusal) (record { state = runningOf b; operands = vs })
 
 -- From a to b the state does f, with these values as the answer.
 pub record Calls (f : Running → Outcome Answers) (a b : Words) (vs : List Operand) : Type 0 where
@@ -38,7 +38,7 @@ acquiring is r = notAcquired is r (done r)
 
 -- nothing may be borrowed from the frame
 abbrev pub framed : Running → Outcome Running
-framed s = needsName (s .graph) (s .root) (fails (borrowed (s .graph) (s .root) none) UNSAFE-RET (done s))
+framed s = needsName (s .graph) (s .root) (fails (s .blurs) (borrowed (s .graph) (s .root) none) UNSAFE-RET (done s))
 
 -- the name that an operand or a local holds, and a name placed if there is one
 abbrev pub nameOf : Operand → Option ℕ

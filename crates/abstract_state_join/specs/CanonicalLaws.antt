@@ -117,20 +117,20 @@ module _ (l : ℕ) (s : State) where
       rw e (λ i. ok (record { locals = sym p i; graph = r i }))
 
 -- a stopped state stays as it is
-pub stays : (v n : ℕ) (r : Running) (f : Running → Outcome Running) → eqb v 0 && eqb n 0 ≡ false → halted v n r ≡ then (halted v n r) f
-stays v n r f e = go (eqb v 0) (eqb n 0) e
+pub stays : (k v n : ℕ) (r : Running) (f : Running → Outcome Running) → eqb v 0 && eqb n 0 ≡ false → halted k v n r ≡ then (halted k v n r) f
+stays k v n r f e = go (eqb v 0) (eqb n 0) e
   where
-    go : (x y : Bool) → x && y ≡ false → cond x (cond y (done r) (refused n)) (violated v) ≡ then (cond x (cond y (done r) (refused n)) (violated v)) f
+    go : (x y : Bool) → x && y ≡ false → cond x (cond y (done r) (refused n)) (violated k v) ≡ then (cond x (cond y (done r) (refused n)) (violated k v)) f
     go true true e = let w : _≡_ {A = ℕ} 0 1 = cc in absurd (omega arith)
     go true false e = refl
     go false y e = refl
 
 -- a state that goes on: refused with 16, or renamed
-pub end-16 : (v n : ℕ) (r q : Running) → eqb v 0 && eqb n 0 ≡ true → canonical (r .root) (record { locals = r .locals; graph = r .graph }) ≡ refuse 16 → halted v 16 q ≡ then (halted v n r) canonicalEnd
+pub end-16 : (b v n : ℕ) (r q : Running) → eqb v 0 && eqb n 0 ≡ true → canonical (r .root) (record { locals = r .locals; graph = r .graph }) ≡ refuse 16 → halted b v 16 q ≡ then (halted b v n r) canonicalEnd
 unfolding canonicalEnd
-end-16 v n r q e k = rw (and-l (eqb v 0) (eqb n 0) e, and-r (eqb v 0) (eqb n 0) e, k)
+end-16 b v n r q e k = rw (and-l (eqb v 0) (eqb n 0) e, and-r (eqb v 0) (eqb n 0) e, k)
 
-pub end-ok : (v n : ℕ) (r : Running) (xs : List S.Local) (g : Graph) → eqb v 0 && eqb n 0 ≡ true → canonical (r .root) (record { locals = r .locals; graph = r .graph }) ≡ ok (record { locals = xs; graph = g })
-    → halted v n (record { locals = xs; graph = g; next = r .root + 1; root = r .root }) ≡ then (halted v n r) canonicalEnd
+pub end-ok : (b v n : ℕ) (r : Running) (xs : List S.Local) (g : Graph) → eqb v 0 && eqb n 0 ≡ true → canonical (r .root) (record { locals = r .locals; graph = r .graph }) ≡ ok (record { locals = xs; graph = g })
+    → halted b v n (record { locals = xs; graph = g; next = r .root + 1; root = r .root; blurs = r .blurs }) ≡ then (halted b v n r) canonicalEnd
 unfolding canonicalEnd
-end-ok v n r xs g e k = rw (and-l (eqb v 0) (eqb n 0) e, and-r (eqb v 0) (eqb n 0) e, k, add-one (r .root))
+end-ok b v n r xs g e k = rw (and-l (eqb v 0) (eqb n 0) e, and-r (eqb v 0) (eqb n 0) e, k, add-one (r .root))

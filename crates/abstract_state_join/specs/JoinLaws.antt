@@ -1,5 +1,6 @@
 -- The join, local by local, and whether it changed the state.
 use Prim.Native.Nat.{ℕ, _+_, _<_, _≤_}
+use native.Mathlib.Nat.{zero-add}
 use native.Mathlib.Omega.{arith}
 use mathlib.Core.Path.{_≡_, refl, sym, ap, _∙_, subst}
 use mathlib.Core.Logic.{_⊎_, inl, inr}
@@ -10,17 +11,17 @@ use lib.ListN.{length, take, drop, getD, set}
 use lib.Seq.{append-snoc}
 use Rattle.meaning.specs.Answers.{Ans, ok, refuse, andThen, guard}
 use Rattle.meaning.specs.Lists.{all, empty}
-use Rattle.meaning.specs.Laws.Base.{and-l, and-i, or-l, or-r, andThen-ok, guard-ok, ok-inj, eqb-self}
+use Rattle.meaning.specs.Laws.Base.{and-l, and-i, or-l, or-r, andThen-ok, guard-ok, ok-inj, refuse≢ok, eqb-self}
 use Rattle.meaning.specs.Laws.Array.{push-map}
-use Rattle.meaning.specs.BorrowGraph.{Name, Graph, holds, held, wellFormed, sameNames, unmatched, release, joinGraphs, covering}
+use Rattle.meaning.specs.BorrowGraph.{Name, Graph, blursTo, blursBy, holds, held, wellFormed, sameNames, unmatched, release, joinGraphs, covering}
 use Rattle.meaning.specs.Laws.Cover.{covered-at, unmatched-none}
 use Rattle.meaning.specs.AbstractState as S
-use Rattle.meaning.specs.AbstractState.{State, Step, absent, joinLocal, joinLocals, join, eqLocal, eqLocals, changed, Operand, nonRef, reference}
+use Rattle.meaning.specs.AbstractState.{State, Step, absent, joinLocal, joinLocals, join, joinBlurs, passed, eqLocal, eqLocals, changed, Operand, nonRef, reference}
 use Rattle.meaning.specs.Laws.State.{Joined, join-law}
 use Rattle.meaning.specs.Laws.Change.{leq, rustChanged, changed-is-rust, eqLocals-eq}
 use Rattle.meaning.specs.EntryPoints as R
 use Rattle.references.specs.Models.{told}
-use Rattle.references.specs.ModelLaws.{told-on, told-off}
+use Rattle.references.specs.ModelLaws.{told-on, told-off, told-yes}
 use Rattle.references.specs.declared.RefID.{RefID}
 use Rattle.meaning.specs.Area.{localIn}
 use Rattle.abstract_state.specs.Models.{localOf, localsIn}
@@ -118,6 +119,10 @@ acted-theirs n k r act l g h e f =
     go true = refl
     go false = refl
 
+-- what a release blurs, told by a number and a graph
+pub released-blurs : (n b : ℕ) (g k : Graph) (a : Ans Graph) → told n k ≡ a → b ≡ blursBy g a → n ≡ 0 → b ≡ blursTo g k
+released-blurs n b g k a e q z = q ∙ ap (blursBy g) (sym e ∙ told-yes n k z)
+
 -- the local that was written is the step's
 pub written : (n : ℕ) (l l′ : S.Local) (g h : Graph) (z : Ans Step) → l′ ≡ l → told n (record { local = l; ours = g; theirs = h }) ≡ z → told n (record { local = l′; ours = g; theirs = h }) ≡ z
 written n l l′ g h z e f = ap (λ (y : S.Local). told {A = Step} n (record { local = y; ours = g; theirs = h })) e ∙ f
@@ -138,63 +143,71 @@ pub eqLocals-end : eqLocals [] [] ≡ true
 unfolding eqLocals
 eqLocals-end = refl
 
--- the locals before, and what the rest gives
-abbrev pub after : List S.Local → S.Parts → Ans S.Parts
-after pre r = ok (record { locals = pre ++ r .locals; ours = r .ours; theirs = r .theirs })
+-- the locals and the sets blurred before, and what the rest gives
+abbrev pub after : List S.Local → ℕ → S.Parts → Ans S.Parts
+after pre k r = ok (record { locals = pre ++ r .locals; ours = r .ours; theirs = r .theirs; blurs = k + r .blurs })
 
-pub start : (a : Ans S.Parts) → andThen a (after []) ≡ a
-start (ok r) = refl
+pub start : (a : Ans S.Parts) → andThen a (after [] 0) ≡ a
+start (ok r) = ap (λ (k : ℕ). ok (record { locals = r .locals; ours = r .ours; theirs = r .theirs; blurs = k })) (zero-add (r .blurs))
 start (refuse n) = refl
 
 -- one more local is written
 pub front-next : (out : List ℕ) (i w : ℕ) → i < length out → map localIn (take (i + 1) (set out i w)) ≡ map localIn (take i out) ++ (localIn w ∷ [])
 front-next out i w h = sym (append-nil (map localIn (take (i + 1) (set out i w)))) ∙ push-map localIn out i (i + 1) w [] refl h
 
--- the rest after a local's step
-abbrev on : List S.Local → List S.Local → List S.Local → Step → Ans S.Parts
-on pre xs ys s = andThen (joinLocals xs ys (s .ours) (s .theirs)) (after (pre ++ (s .local ∷ [])))
+module _ (as′ bs : List S.Local) (a b : S.Local) (xs ys : List S.Local) (g h : Graph) (pre : List S.Local) (k : ℕ) (j : Ans S.Parts)
+    (ex : as′ ≡ a ∷ xs) (ey : bs ≡ b ∷ ys) (inv : andThen (joinLocals as′ bs g h) (after pre k) ≡ j) where
+  -- what a local's step blurs
+  abbrev stepBlurs : Step → ℕ
+  stepBlurs s = blursTo g (s .ours) + blursTo h (s .theirs)
 
-module _ (as′ bs : List S.Local) (a b : S.Local) (xs ys : List S.Local) (g h : Graph) (pre : List S.Local) (j : Ans S.Parts)
-    (ex : as′ ≡ a ∷ xs) (ey : bs ≡ b ∷ ys) (inv : andThen (joinLocals as′ bs g h) (after pre) ≡ j) where
-  turned : andThen (joinLocal a b g h) (on pre xs ys) ≡ j
+  -- the rest after a local's step
+  abbrev on : Step → Ans S.Parts
+  on s = andThen (joinLocals xs ys (s .ours) (s .theirs)) (after (pre ++ (s .local ∷ [])) (k + stepBlurs s))
+
+  turned : andThen (joinLocal a b g h) on ≡ j
   unfolding joinLocals
-  turned = go (joinLocal a b g h) ∙ (λ k. andThen (joinLocals (sym ex k) (sym ey k) g h) (after pre)) ∙ inv
+  turned = go (joinLocal a b g h) ∙ (λ i. andThen (joinLocals (sym ex i) (sym ey i) g h) (after pre k)) ∙ inv
     where
-      inner : (s : Step) (r : Ans S.Parts) → andThen r (after (pre ++ (s .local ∷ []))) ≡ andThen (andThen r (λ t. ok (record { locals = s .local ∷ t .locals; ours = t .ours; theirs = t .theirs }))) (after pre)
-      inner s (ok t) = ap (λ (zs : List S.Local). ok (record { locals = zs; ours = t .ours; theirs = t .theirs })) (append-snoc pre (s .local) (t .locals))
+      inner : (s : Step) (r : Ans S.Parts) → andThen r (after (pre ++ (s .local ∷ [])) (k + stepBlurs s))
+          ≡ andThen (andThen r (λ t. ok (record { locals = s .local ∷ t .locals; ours = t .ours; theirs = t .theirs; blurs = stepBlurs s + t .blurs }))) (after pre k)
+      inner s (ok t) =
+          let e : k + stepBlurs s + t .blurs ≡ k + (stepBlurs s + t .blurs) = omega arith in
+          λ i. ok (record { locals = append-snoc pre (s .local) (t .locals) i; ours = t .ours; theirs = t .theirs; blurs = e i })
       inner s (refuse n) = refl
 
-      go : (z : Ans Step) → andThen z (on pre xs ys)
-          ≡ andThen (andThen z (λ s. andThen (joinLocals xs ys (s .ours) (s .theirs)) (λ t. ok (record { locals = s .local ∷ t .locals; ours = t .ours; theirs = t .theirs })))) (after pre)
+      go : (z : Ans Step) → andThen z on
+          ≡ andThen (andThen z (λ s. andThen (joinLocals xs ys (s .ours) (s .theirs)) (λ t. ok (record { locals = s .local ∷ t .locals; ours = t .ours; theirs = t .theirs; blurs = stepBlurs s + t .blurs })))) (after pre k)
       go (ok s) = inner s (joinLocals xs ys (s .ours) (s .theirs))
       go (refuse n) = refl
 
   -- a step that is told: it goes on, or is refused
   module _ (n : ℕ) (s : Step) (e : told n s ≡ joinLocal a b g h) where
-    pub turn-on : n ≡ 0 → (pre′ : List S.Local) → pre′ ≡ pre ++ (s .local ∷ []) → andThen (joinLocals xs ys (s .ours) (s .theirs)) (after pre′) ≡ j
-    turn-on z pre′ ep =
-        ap (λ (zs : List S.Local). andThen (joinLocals xs ys (s .ours) (s .theirs)) (after zs)) ep
-        ∙ told-on n s (joinLocal a b g h) (on pre xs ys) j e turned z
+    pub turn-on : n ≡ 0 → (pre′ : List S.Local) → pre′ ≡ pre ++ (s .local ∷ []) → (k′ : ℕ) → k′ ≡ k + stepBlurs s → andThen (joinLocals xs ys (s .ours) (s .theirs)) (after pre′ k′) ≡ j
+    turn-on z pre′ ep k′ ek =
+        (λ i. andThen (joinLocals xs ys (s .ours) (s .theirs)) (after (ep i) (ek i)))
+        ∙ told-on n s (joinLocal a b g h) on j e turned z
 
     pub turn-off : (n ≡ 0 → ⊥) → (p : S.Parts) → told n p ≡ j
-    turn-off z p = told-off n s (joinLocal a b g h) (on pre xs ys) j e turned z p
+    turn-off z p = told-off n s (joinLocal a b g h) on j e turned z p
 
 -- a turn of the loop: the local at i is written, its step is told by a number and the graphs
-module _ (ls ls₂ : List ℕ) (n m i w : ℕ) (g h : Graph) (j : Ans S.Parts) (l : length ls ≡ 16) (l₂ : length ls₂ ≡ 16) (hn : n ≤ 16) (hm : m ≤ 16) (hi : i < n) (hj : i < m)
-    (inv : andThen (joinLocals (drop i (localsIn ls n)) (drop i (localsIn ls₂ m)) g h) (after (map localIn (take i ls))) ≡ j) (k : ℕ) (g′ h′ : Graph)
+module _ (ls ls₂ : List ℕ) (n m i w : ℕ) (g h : Graph) (b : ℕ) (j : Ans S.Parts) (l : length ls ≡ 16) (l₂ : length ls₂ ≡ 16) (hn : n ≤ 16) (hm : m ≤ 16) (hi : i < n) (hj : i < m)
+    (inv : andThen (joinLocals (drop i (localsIn ls n)) (drop i (localsIn ls₂ m)) g h) (after (map localIn (take i ls)) b) ≡ j) (k : ℕ) (g′ h′ : Graph)
     (e : told {A = Step} k (record { local = localIn w; ours = g′; theirs = h′ }) ≡ joinLocal (localIn (getD ls i 0)) (localIn (getD ls₂ i 0)) g h) where
-  pub goes-on : k ≡ 0 → andThen (joinLocals (drop (i + 1) (localsIn (set ls i w) n)) (drop (i + 1) (localsIn ls₂ m)) g′ h′) (after (map localIn (take (i + 1) (set ls i w)))) ≡ j
-  goes-on z =
-      ap (λ (zs : List S.Local). andThen (joinLocals zs (drop (i + 1) (localsIn ls₂ m)) g′ h′) (after (map localIn (take (i + 1) (set ls i w))))) (unread ls n i w)
+  pub goes-on : k ≡ 0 → (b′ : ℕ) → b′ ≡ b + (blursTo g g′ + blursTo h h′)
+      → andThen (joinLocals (drop (i + 1) (localsIn (set ls i w) n)) (drop (i + 1) (localsIn ls₂ m)) g′ h′) (after (map localIn (take (i + 1) (set ls i w))) b′) ≡ j
+  goes-on z b′ eb =
+      ap (λ (zs : List S.Local). andThen (joinLocals zs (drop (i + 1) (localsIn ls₂ m)) g′ h′) (after (map localIn (take (i + 1) (set ls i w))) b′)) (unread ls n i w)
       ∙ turn-on (drop i (localsIn ls n)) (drop i (localsIn ls₂ m)) (localIn (getD ls i 0)) (localIn (getD ls₂ i 0))
-      (drop (i + 1) (localsIn ls n)) (drop (i + 1) (localsIn ls₂ m)) g h (map localIn (take i ls)) j
+      (drop (i + 1) (localsIn ls n)) (drop (i + 1) (localsIn ls₂ m)) g h (map localIn (take i ls)) b j
       (local-next ls n n l (omega arith) i hi) (local-next ls₂ m m l₂ (omega arith) i hj)
-      inv k (record { local = localIn w; ours = g′; theirs = h′ }) e z _ (front-next ls i w (omega arith))
+      inv k (record { local = localIn w; ours = g′; theirs = h′ }) e z _ (front-next ls i w (omega arith)) b′ eb
 
   pub ends : (k ≡ 0 → ⊥) → (p : S.Parts) → told k p ≡ j
   ends z p =
       turn-off (drop i (localsIn ls n)) (drop i (localsIn ls₂ m)) (localIn (getD ls i 0)) (localIn (getD ls₂ i 0))
-      (drop (i + 1) (localsIn ls n)) (drop (i + 1) (localsIn ls₂ m)) g h (map localIn (take i ls)) j
+      (drop (i + 1) (localsIn ls n)) (drop (i + 1) (localsIn ls₂ m)) g h (map localIn (take i ls)) b j
       (local-next ls n n l (omega arith) i hi) (local-next ls₂ m m l₂ (omega arith) i hj)
       inv k (record { local = localIn w; ours = g′; theirs = h′ }) e z p
 
@@ -207,15 +220,16 @@ one-left (a ∷ as′) (b ∷ bs) g h (inl e) z = absurd (omega arith)
 one-left (a ∷ as′) (b ∷ bs) g h (inr e) z = absurd (omega arith)
 
 -- the end: no local is left on either side, or on one only
-module _ (as′ bs : List S.Local) (g h : Graph) (pre : List S.Local) (j : Ans S.Parts) (inv : andThen (joinLocals as′ bs g h) (after pre) ≡ j) where
-  pub end-equal : as′ ≡ [] → bs ≡ [] → (zs : List S.Local) → zs ≡ pre → ok (record { locals = zs; ours = g; theirs = h }) ≡ j
+module _ (as′ bs : List S.Local) (g h : Graph) (pre : List S.Local) (k : ℕ) (j : Ans S.Parts) (inv : andThen (joinLocals as′ bs g h) (after pre k) ≡ j) where
+  pub end-equal : as′ ≡ [] → bs ≡ [] → (zs : List S.Local) → zs ≡ pre → ok (record { locals = zs; ours = g; theirs = h; blurs = k }) ≡ j
   unfolding joinLocals
   end-equal ex ey zs e =
-      ap (λ (l : List S.Local). ok (record { locals = l; ours = g; theirs = h })) (e ∙ sym (append-nil pre))
-      ∙ (λ k. andThen (joinLocals (sym ex k) (sym ey k) g h) (after pre)) ∙ inv
+      let z : k ≡ k + 0 = omega arith in
+      (λ i. ok (record { locals = (e ∙ sym (append-nil pre)) i; ours = g; theirs = h; blurs = z i }))
+      ∙ (λ i. andThen (joinLocals (sym ex i) (sym ey i) g h) (after pre k)) ∙ inv
 
   pub end-unequal : (length as′ ≡ 0) ⊎ (length bs ≡ 0) → (length as′ ≡ length bs → ⊥) → refuse 9 ≡ j
-  end-unequal d z = ap (λ (r : Ans S.Parts). andThen r (after pre)) (sym (one-left as′ bs g h d z)) ∙ inv
+  end-unequal d z = ap (λ (r : Ans S.Parts). andThen r (after pre k)) (sym (one-left as′ bs g h d z)) ∙ inv
 
 -- ---- the state
 
@@ -230,13 +244,31 @@ module _ (s o : State) where
       ap (λ (r : Ans S.Parts). andThen r (λ q. andThen (joinGraphs (q .ours) (q .theirs)) (λ g. ok (record { locals = q .locals; graph = g })))) e
       ∙ ap (λ (b : Ans Graph). andThen b (λ g. ok (record { locals = p .locals; graph = g }))) f
 
--- a graph that is told, and the state with it
-pub told-state : (n : ℕ) (xs : List S.Local) (g : Graph) → told {A = State} n (record { locals = xs; graph = g }) ≡ andThen (told n g) (λ k. ok (record { locals = xs; graph = k }))
-told-state n xs g = go (eqb n 0)
-  where
-    go : (b : Bool) → cond {A = Ans State} b (ok (record { locals = xs; graph = g })) (refuse n) ≡ andThen (cond {A = Ans Graph} b (ok g) (refuse n)) (λ k. ok (record { locals = xs; graph = k }))
-    go true = refl
-    go false = refl
+  -- what it passes up
+  pub blurs-early : (n : ℕ) → joinLocals (s .locals) (o .locals) (s .graph) (o .graph) ≡ refuse n → 0 ≡ joinBlurs s o
+  unfolding joinBlurs
+  blurs-early n e = sym (ap (λ (r : Ans S.Parts). passed (andThen r (λ p. andThen (joinGraphs (p .ours) (p .theirs)) (λ g. ok (p .blurs + blursTo (p .ours) g))))) e)
+
+  pub blurs-late : (p : S.Parts) (a : Ans Graph) → joinLocals (s .locals) (o .locals) (s .graph) (o .graph) ≡ ok p → joinGraphs (p .ours) (p .theirs) ≡ a
+      → passed (andThen a (λ g. ok (p .blurs + blursTo (p .ours) g))) ≡ joinBlurs s o
+  unfolding joinBlurs
+  blurs-late p a e f = sym
+      (ap (λ (r : Ans S.Parts). passed (andThen r (λ q. andThen (joinGraphs (q .ours) (q .theirs)) (λ g. ok (q .blurs + blursTo (q .ours) g))))) e
+      ∙ ap (λ (b : Ans Graph). passed (andThen b (λ g. ok (p .blurs + blursTo (p .ours) g)))) f)
+
+  -- a refused join passes up none
+  pub blurs-refused : (n : ℕ) → join s o ≡ refuse n → 0 ≡ joinBlurs s o
+  unfolding join joinBlurs
+  blurs-refused n e = go (joinLocals (s .locals) (o .locals) (s .graph) (o .graph)) e
+    where
+      go : (x : Ans S.Parts) → andThen {B = State} x (λ p. andThen (joinGraphs (p .ours) (p .theirs)) (λ g. ok (record { locals = p .locals; graph = g }))) ≡ refuse n
+          → 0 ≡ passed (andThen x (λ p. andThen (joinGraphs (p .ours) (p .theirs)) (λ g. ok (p .blurs + blursTo (p .ours) g))))
+      go (refuse m) h = refl
+      go (ok p) h = inner (joinGraphs (p .ours) (p .theirs)) h
+        where
+          inner : (x : Ans Graph) → andThen {B = State} x (λ g. ok (record { locals = p .locals; graph = g })) ≡ refuse n → 0 ≡ passed (andThen x (λ g. ok (p .blurs + blursTo (p .ours) g)))
+          inner (ok g) q = absurd (refuse≢ok (sym q))
+          inner (refuse m) q = refl
 
 -- ---- whether it changed the state
 

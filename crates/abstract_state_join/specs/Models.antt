@@ -1,16 +1,16 @@
 -- What the values of the code stand for in the definitions, and what the calls answer.
-use Prim.Native.Nat.{ℕ, suc}
+use Prim.Native.Nat.{ℕ, suc, _+_}
 use mathlib.Core.Path.{_≡_}
 use mathlib.Core.Bool.{Bool, false, cond}
 use mathlib.Core.List.{List, [], _∷_}
 use lib.ListN.{length}
 use Rattle.meaning.specs.Limits.{maxLocals}
 use Rattle.meaning.specs.Answers.{Ans, ok, refuse, andThen, Outcome, done, then, lift, leaves}
-use Rattle.meaning.specs.BorrowGraph.{Graph, release, Change}
+use Rattle.meaning.specs.BorrowGraph.{Graph, blursTo, release, Change}
 use Rattle.meaning.specs.AbstractState as S
 use Rattle.meaning.specs.AbstractState.{State, Step, absent, value, ref, joinLocals, join, changed, canonical, Operand, nonRef, reference, Token, ofValue, ofRef, firstState}
 use Rattle.meaning.specs.EntryPoints.{Running}
-use Rattle.meaning.specs.Blocks.{startMachine}
+use Rattle.meaning.specs.Blocks.{startMachine, startWith}
 use Rattle.references.specs.Models.{told}
 use Rattle.borrow_graph.specs.Models.{graphIn, Tells}
 use Rattle.borrow_graph.specs.declared.graph.BorrowGraph.{BorrowGraph}
@@ -39,9 +39,9 @@ firstAt i (ofRef m ∷ ts) = ref i
 
 -- ---- the end of a block
 
--- where names are changed, fresh names start at L + 1 again
+-- where names are changed, fresh names start at L + 1 again; the sets blurred so far still count
 unfoldable pub canonicalEnd : Running → Outcome Running
-canonicalEnd r = then (lift (canonical (r .root) (record { locals = r .locals; graph = r .graph }))) (λ s. done (startMachine (r .root) s .state))
+canonicalEnd r = then (lift (canonical (r .root) (record { locals = r .locals; graph = r .graph }))) (λ s. done (startWith (r .blurs) (r .root) s))
 
 abbrev pub ownName : ℕ → S.Local → S.Local
 ownName i absent = absent
@@ -72,17 +72,18 @@ pub record Acts (l : S.Local) (step-of : Graph → Graph → Ans Step) (ns : Lis
   pub step : told {A = Step} (r .refusal) (record { local = l; ours = graphIn ns′ es′ (r .ours); theirs = graphIn ns₂′ es₂′ (r .theirs) }) ≡ step-of (graphIn ns es g) (graphIn ns₂ es₂ h)
   pub ours : Tells ns′ es′ (r .ours)
   pub theirs : Tells ns₂′ es₂′ (r .theirs)
+  pub blurs : r .refusal ≡ 0 → r .blurred ≡ blursTo (graphIn ns es g) (graphIn ns′ es′ (r .ours)) + blursTo (graphIn ns₂ es₂ h) (graphIn ns₂′ es₂′ (r .theirs))
 
 -- The locals of a and b joined, in their arrays.
 pub record LocalsJoin (a b : Words) (ls′ ns′ : List ℕ) (es′ : List (List ℕ)) (ns₂′ : List ℕ) (es₂′ : List (List ℕ)) (r : Parts) : Type 0 where
-  pub parts : told {A = S.Parts} (r .refusal) (record { locals = localsIn ls′ (a .state .«num_locals»); ours = graphIn ns′ es′ (r .ours); theirs = graphIn ns₂′ es₂′ (r .theirs) })
+  pub parts : told {A = S.Parts} (r .refusal) (record { locals = localsIn ls′ (a .state .«num_locals»); ours = graphIn ns′ es′ (r .ours); theirs = graphIn ns₂′ es₂′ (r .theirs); blurs = r .blurred })
       ≡ joinLocals (runningOf a .locals) (runningOf b .locals) (runningOf a .graph) (runningOf b .graph)
   pub locals : length ls′ ≡ maxLocals
   pub ours : Tells ns′ es′ (r .ours)
   pub theirs : Tells ns₂′ es₂′ (r .theirs)
 
 abbrev pub withState : Running → State → Running
-withState r s = record { locals = s .locals; graph = s .graph; next = r .next; root = r .root }
+withState r s = record { locals = s .locals; graph = s .graph; next = r .next; root = r .root; blurs = r .blurs }
 
 -- A join of b into a with the refusal n (0: none) came to t. Of both, stopped or not, only locals and graph count; all else of the first is kept.
 pub record Merges (a b : Words) (n : ℕ) (t : Words) : Type 0 where

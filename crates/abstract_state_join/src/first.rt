@@ -102,6 +102,7 @@ pub fn new(
         value: AbstractValue::NonReference,
         num_locals: n as u8,
         next_id: (n + 1) as u32,
+        blurred: 0,
         borrow_graph: BorrowGraph {
             refs: refs,
             edges: 0,

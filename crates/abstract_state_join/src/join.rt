@@ -24,6 +24,7 @@ use meaning::MAX_NAMES;
 use meaning::lesser;
 use references::RefID;
 ghost use mathlib.Core.Path.{_≡_};
+ghost use Prim.Native.Nat.{_≤_};
 ghost use lib.ListN.{length};
 ghost use Rattle.meaning.specs.Limits.{maxLocals, maxNames, maxEdges};
 ghost use Rattle.meaning.specs.BorrowGraph.{Graph};
@@ -49,24 +50,29 @@ pub(crate) struct Meeting {
     pub action: Action,
 }
 
-// A refusal's number, or 0, and the graphs after the releases.
+// A refusal's number, or 0, the graphs after the releases, and how many sets these blurred.
 pub(crate) struct Parts {
     pub refusal: u8,
     pub ours: BorrowGraph,
     pub theirs: BorrowGraph,
+    pub blurred: u32,
 }
 
-// A refusal's number, or 0, and the state; refused, what it and the arrays hold is free. The state's `value` is free.
+// A refusal's number, or 0, the state, and how many sets were blurred; refused, what it and the arrays hold is free, and none. The state's
+// `value` is free.
 pub(crate) struct Answer {
     pub refusal: u8,
     pub state: AbstractState,
+    pub blurred: u32,
 }
 
-// A refusal's number, or 0 and the state; refused, the state that was handed over. And whether the state was changed.
+// A refusal's number, or 0 and the state; refused, the state that was handed over. And whether the state was changed, and how many sets the
+// releases and the join of the graphs blurred; refused, none.
 pub struct Joined {
     pub refusal: u8,
     pub changed: bool,
     pub state: AbstractState,
+    pub blurred: u32,
 }
 
 // Two values are the same: both no references, or references of one name.
@@ -149,6 +155,12 @@ fn meet(a: Local, b: Local) -> Meeting
     }
 }
 
+fn wide(n: u8) -> u32
+    ensures { λ r. ⌜ (r ≡ n) × (r ≤ 255) ⌝ }
+{
+    n as u32
+}
+
 fn act(
     names: &mut [u32; MAX_NAMES],
     edges: &mut [[u32; EDGE_WORDS]; MAX_EDGES],
@@ -158,7 +170,7 @@ fn act(
     theirs: BorrowGraph,
     action: Action,
 ) -> Parts
-    ensures { λ r. ⌜ ((l : S.Local) → Tells (now (names .entry)) (now (edges .entry)) ours → Tells (now (names2 .entry)) (now (edges2 .entry)) theirs →
+    ensures { λ r. ⌜ (r .blurred ≤ 255) × ((l : S.Local) → Tells (now (names .entry)) (now (edges .entry)) ours → Tells (now (names2 .entry)) (now (edges2 .entry)) theirs →
         Acts l (acted l action) (now (names .entry)) (now (edges .entry)) ours (now (names2 .entry)) (now (edges2 .entry)) theirs
         (now (names .exit)) (now (edges .exit)) (now (names2 .exit)) (now (edges2 .exit)) r) ⌝ }
 {
@@ -170,6 +182,7 @@ fn act(
                 refusal: a.refusal,
                 ours: g,
                 theirs: theirs,
+                blurred: wide(a.blurred),
             }
         }
         Action::ReleaseTheirs(id) => {
@@ -179,12 +192,14 @@ fn act(
                 refusal: a.refusal,
                 ours: ours,
                 theirs: g,
+                blurred: wide(a.blurred),
             }
         }
         Action::Refuse => Parts {
             refusal: 15,
             ours: ours,
             theirs: theirs,
+            blurred: 0,
         },
     }
 }
@@ -199,15 +214,20 @@ fn turn(
     x: Meeting,
 ) -> Parts
     requires { ⌜ p .refusal ≡ 0 ⌝ }
-    ensures { λ r. ⌜ (Tells (now (names .entry)) (now (edges .entry)) (p .ours) → Tells (now (names2 .entry)) (now (edges2 .entry)) (p .theirs) →
+    ensures { λ r. ⌜ (r .blurred ≤ 255) × (Tells (now (names .entry)) (now (edges .entry)) (p .ours) → Tells (now (names2 .entry)) (now (edges2 .entry)) (p .theirs) →
         Acts (localOf (x .local)) (stepBy x) (now (names .entry)) (now (edges .entry)) (p .ours) (now (names2 .entry)) (now (edges2 .entry)) (p .theirs)
         (now (names .exit)) (now (edges .exit)) (now (names2 .exit)) (now (edges2 .exit)) r) ⌝ }
 {
-    if x.idle {
-        return p;
-    }
     let ours = p.ours;
     let theirs = p.theirs;
+    if x.idle {
+        return Parts {
+            refusal: 0,
+            ours,
+            theirs,
+            blurred: 0,
+        };
+    }
     let action = x.action;
     act(names, edges, ours, names2, edges2, theirs, action)
 }
@@ -223,7 +243,7 @@ fn join_locals(
     edges2: &mut [[u32; EDGE_WORDS]; MAX_EDGES],
     o: AbstractState,
 ) -> Parts
-    ensures { λ r. ⌜ (Fits (words (now (locals .entry)) (now (names .entry)) (now (edges .entry)) s) → Fits (words (now (locals2 .entry)) (now (names2 .entry)) (now (edges2 .entry)) o) →
+    ensures { λ r. ⌜ (r .blurred ≤ 4080) × (Fits (words (now (locals .entry)) (now (names .entry)) (now (edges .entry)) s) → Fits (words (now (locals2 .entry)) (now (names2 .entry)) (now (edges2 .entry)) o) →
         LocalsJoin (words (now (locals .entry)) (now (names .entry)) (now (edges .entry)) s) (words (now (locals2 .entry)) (now (names2 .entry)) (now (edges2 .entry)) o)
         (now (locals .exit)) (now (names .exit)) (now (edges .exit)) (now (names2 .exit)) (now (edges2 .exit)) r) ⌝ }
 {
@@ -236,15 +256,18 @@ fn join_locals(
         refusal: 0,
         ours,
         theirs,
+        blurred: 0,
     };
     let mut i: usize = 0;
     while i < k {
         let x = meet(local_of(locals[i]), local_of(locals2[i]));
         locals[i] = local_word(x.local);
+        let before = p.blurred;
         p = turn(names, edges, names2, edges2, p, x);
         if p.refusal != 0 {
             return p;
         }
+        p.blurred = before + p.blurred;
         i += 1;
     }
     if n != m {
@@ -266,21 +289,36 @@ fn join_(
     ensures { λ r. ⌜ (Fits (words (now (locals .entry)) (now (names .entry)) (now (edges .entry)) s) → Fits (words (now (locals2 .entry)) (now (names2 .entry)) (now (edges2 .entry)) o) →
         Merges (words (now (locals .entry)) (now (names .entry)) (now (edges .entry)) s) (words (now (locals2 .entry)) (now (names2 .entry)) (now (edges2 .entry)) o) (r .refusal)
         (words (now (locals .exit)) (now (names .exit)) (now (edges .exit)) (r .state))
-        × (length (now (names2 .exit)) ≡ maxNames) × (length (now (edges2 .exit)) ≡ maxEdges)) ⌝ }
+        × (length (now (names2 .exit)) ≡ maxNames) × (length (now (edges2 .exit)) ≡ maxEdges) × (r .blurred ≡ S.joinBlurs (stateOf (words (now (locals .entry)) (now (names .entry)) (now (edges .entry)) s)) (stateOf (words (now (locals2 .entry)) (now (names2 .entry)) (now (edges2 .entry)) o)))) ⌝ }
 {
     let p = join_locals(locals, names, edges, s, locals2, names2, edges2, o);
     let ours = p.ours;
     let theirs = p.theirs;
     let refusal = p.refusal;
     if refusal != 0 {
-        return Answer { refusal, state: s };
+        return Answer {
+            refusal,
+            state: s,
+            blurred: 0,
+        };
     }
     let a = borrow_graph_edit::join::join(names, edges, ours, names2, edges2, theirs);
+    let refusal = a.refusal;
+    if refusal != 0 {
+        return Answer {
+            refusal,
+            state: s,
+            blurred: 0,
+        };
+    }
     let g = a.graph;
     let mut t = s;
     t.borrow_graph = g;
-    let refusal = a.refusal;
-    Answer { refusal, state: t }
+    Answer {
+        refusal: 0,
+        state: t,
+        blurred: p.blurred + wide(a.blurred),
+    }
 }
 
 // Whether t, which came out of a join into s, is another state than s.
@@ -323,7 +361,8 @@ pub fn join(
         Joins (words (now (locals .entry)) (now (names .entry)) (now (edges .entry)) s) (words (now (locals2 .entry)) (now (names2 .entry)) (now (edges2 .entry)) o) (r .refusal)
         (words (now (locals .exit)) (now (names .exit)) (now (edges .exit)) (r .state))
         × (r .changed ≡ changedBy (stateOf (words (now (locals .entry)) (now (names .entry)) (now (edges .entry)) s)) (S.join (stateOf (words (now (locals .entry)) (now (names .entry)) (now (edges .entry)) s)) (stateOf (words (now (locals2 .entry)) (now (names2 .entry)) (now (edges2 .entry)) o))))
-        × (length (now (names2 .exit)) ≡ maxNames) × (length (now (edges2 .exit)) ≡ maxEdges)) ⌝ }
+        × (length (now (names2 .exit)) ≡ maxNames) × (length (now (edges2 .exit)) ≡ maxEdges)
+        × (r .blurred ≡ S.joinBlurs (stateOf (words (now (locals .entry)) (now (names .entry)) (now (edges .entry)) s)) (stateOf (words (now (locals2 .entry)) (now (names2 .entry)) (now (edges2 .entry)) o)))) ⌝ }
 {
     let ls = *locals;
     let ns = *names;
@@ -337,6 +376,7 @@ pub fn join(
             refusal: a.refusal,
             changed: false,
             state: s,
+            blurred: 0,
         };
     }
     let t = a.state;
@@ -344,5 +384,6 @@ pub fn join(
         refusal: 0,
         changed: changed(&ls, &ns, &es, s, locals, names, edges, t),
         state: t,
+        blurred: a.blurred,
     }
 }

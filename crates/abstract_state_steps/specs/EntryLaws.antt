@@ -32,10 +32,10 @@ module _ {A : Type 0} (g : Graph) (n : ℕ) (b : Bool) (r : Running) (k : Runnin
       go true = refl
       go false = refl
 
-  pub fail-at : (c : ℕ) → eqb c 0 ≡ false → then (failing (L.ofName g n b) c r) k ≡ needsName g n (fails b c (k r))
+  pub fail-at : (c : ℕ) → eqb c 0 ≡ false → then (failing (L.ofName g n b) c r) k ≡ needsName g n (fails (r .blurs) b c (k r))
   fail-at c z = go (wellFormed g && held g n) b
     where
-      go : (x y : Bool) → then (failing (guard x 9 (ok y)) c r) k ≡ needs x 9 (fails y c (k r))
+      go : (x y : Bool) → then (failing (guard x 9 (ok y)) c r) k ≡ needs x 9 (fails (r .blurs) y c (k r))
       go true true = rw z refl
       go true false = refl
       go false y = refl
@@ -81,21 +81,21 @@ module _ {A : Type 0} (g : Graph) (n : ℕ) where
       go true = refl
       go false = refl
 
-pub fails-then : {A B : Type 0} (b : Bool) (c : ℕ) (k : Outcome A) (f : A → Outcome B) → then (fails b c k) f ≡ fails b c (then k f)
-fails-then true c k f = refl
-fails-then false c k f = refl
+pub fails-then : {A B : Type 0} (j : ℕ) (b : Bool) (c : ℕ) (k : Outcome A) (f : A → Outcome B) → then (fails j b c k) f ≡ fails j b c (then k f)
+fails-then j true c k f = refl
+fails-then j false c k f = refl
 
-pub vector-then : {A B : Type 0} (m : Bool) (g : Graph) (n c : ℕ) (k : Outcome A) (f : A → Outcome B) → then (vectorTest m g n c k) f ≡ vectorTest m g n c (then k f)
-vector-then {A} {B} true g n c k f = go (isMutable g n) (not (writable g n))
+pub vector-then : {A B : Type 0} (m : Bool) (r : Running) (n c : ℕ) (k : Outcome A) (f : A → Outcome B) → then (vectorTest m r n c k) f ≡ vectorTest m r n c (then k f)
+vector-then {A} {B} true r n c k f = go (isMutable (r .graph) n) (not (writable (r .graph) n))
   where
-    go : (x y : Bool) → then (needs x 13 (fails y c k)) f ≡ needs x 13 (fails y c (then k f))
+    go : (x y : Bool) → then (needs x 13 (fails (r .blurs) y c k)) f ≡ needs x 13 (fails (r .blurs) y c (then k f))
     go true true = refl
     go true false = refl
     go false y = refl
-vector-then false g n c k f = refl
+vector-then false r n c k f = refl
 
-pub fails-under : {A : Type 0} (b : Bool) (c : ℕ) (k l : Outcome A) → k ≡ l → fails b c k ≡ fails b c l
-fails-under {A} b c k l e = ap (λ (o : Outcome A). fails b c o) e
+pub fails-under : {A : Type 0} (j : ℕ) (b : Bool) (c : ℕ) (k l : Outcome A) → k ≡ l → fails j b c k ≡ fails j b c l
+fails-under {A} j b c k l e = ap (λ (o : Outcome A). fails j b c o) e
 
 pub needs-under : {A : Type 0} (b : Bool) (c : ℕ) (k l : Outcome A) → k ≡ l → needs b c k ≡ needs b c l
 needs-under {A} b c k l e = ap (λ (o : Outcome A). needs b c o) e
@@ -107,8 +107,8 @@ pub made : {A : Type 0} (m : Bool) (r : Running) (x : ℕ) (k : ℕ → Running 
 unfolding newRef
 made {A} m r x k e = ap (λ (y : ℕ). then (newRef m r) (k y)) e ∙ go (ltb (r .next) 65536)
   where
-    go : (b : Bool) → then (needs b 9 (then (lift (newName (r .graph) (r .next) m)) (λ g. done (record { locals = r .locals; graph = g; next = suc (r .next); root = r .root })))) (k (cond b (r .next) 0))
-        ≡ then (needs b 9 (then (lift (newName (r .graph) (r .next) m)) (λ g. done (record { locals = r .locals; graph = g; next = suc (r .next); root = r .root })))) (k (r .next))
+    go : (b : Bool) → then (needs b 9 (then (lift (newName (r .graph) (r .next) m)) (λ g. done (record { locals = r .locals; graph = g; next = suc (r .next); root = r .root; blurs = r .blurs })))) (k (cond b (r .next) 0))
+        ≡ then (needs b 9 (then (lift (newName (r .graph) (r .next) m)) (λ g. done (record { locals = r .locals; graph = g; next = suc (r .next); root = r .root; blurs = r .blurs })))) (k (r .next))
     go true = refl
     go false = refl
 
@@ -151,11 +151,11 @@ module _ (r : Running) (x : ℕ) (z : x ≡ cond (ltb (r .next) 65536) (r .next)
       rw (e, h)
       (need-at g k b r (λ s. then (failing (L.ofName g k d) 104 s) (λ s. then (newRef false s) (pass (addCopy k) k x))) 13 refl
       ∙ known-under g k _ _ (needs-under b 13 _ _ (fail-at g k d r (λ s. then (newRef false s) (pass (addCopy k) k x)) 104 refl))
-      ∙ known-needs g k b 13 (fails d 104 (then (newRef false r) (pass (addCopy k) k x)))
+      ∙ known-needs g k b 13 (fails (r .blurs) d 104 (then (newRef false r) (pass (addCopy k) k x)))
       ∙ known-under g k _ _ (needs-under b 13 _ _ (again d (made false r x (pass (addCopy k) k) z))))
     where
       again : (d : Bool) → then (newRef false r) (pass (addCopy k) k x) ≡ then (newRef false r) (pass (addCopy k) k (r .next))
-          → fails d 104 (then (newRef false r) (pass (addCopy k) k x)) ≡ fails (not (not d)) 104 (then (newRef false r) (pass (addCopy k) k (r .next)))
+          → fails (r .blurs) d 104 (then (newRef false r) (pass (addCopy k) k x)) ≡ fails (r .blurs) (not (not d)) 104 (then (newRef false r) (pass (addCopy k) k (r .next)))
       again true e = refl
       again false e = e
 
@@ -166,7 +166,7 @@ module _ (r : Running) (x : ℕ) (z : x ≡ cond (ltb (r .next) 65536) (r .next)
       let b : Bool = not m && mutablyBorrowed (r .graph) (r .root) (some (localLabel i)) in
       rw e
       (fail-at (r .graph) (r .root) b r (λ s. then (newRef m s) (lend (addLocalBorrow i) x)) 107 refl
-      ∙ known-under (r .graph) (r .root) _ _ (fails-under b 107 _ _ (made m r x (lend (addLocalBorrow i)) z)))
+      ∙ known-under (r .graph) (r .root) _ _ (fails-under (r .blurs) b 107 _ _ (made m r x (lend (addLocalBorrow i)) z)))
 
   pub borrow-global-at : (m : Bool) (i : ℕ) (t : Ans Bool)
       → t ≡ L.ofName (r .graph) (r .root) ((m && borrowed (r .graph) (r .root) (some (globalLabel i))) || mutablyBorrowed (r .graph) (r .root) (some (globalLabel i)))
@@ -176,22 +176,22 @@ module _ (r : Running) (x : ℕ) (z : x ≡ cond (ltb (r .next) 65536) (r .next)
       let b : Bool = (m && borrowed (r .graph) (r .root) (some (globalLabel i))) || mutablyBorrowed (r .graph) (r .root) (some (globalLabel i)) in
       rw e
       (fail-at (r .graph) (r .root) b r (λ s. then (newRef m s) (lend (addResourceBorrow i) x)) 109 refl
-      ∙ known-under (r .graph) (r .root) _ _ (fails-under b 109 _ _ (made m r x (lend (addResourceBorrow i)) z)))
+      ∙ known-under (r .graph) (r .root) _ _ (fails-under (r .blurs) b 109 _ _ (made m r x (lend (addResourceBorrow i)) z)))
 
   pub borrow-field-at : (m : Bool) (k i : ℕ)
-      → then (needsName (r .graph) k (fails (cond m (fullyBorrowed (r .graph) k) (not (readable (r .graph) k (some (fieldLabel i))))) 108 (done r))) (λ s. then (newRef m s) (pass (addFieldBorrow k i) k x))
+      → then (needsName (r .graph) k (fails (r .blurs) (cond m (fullyBorrowed (r .graph) k) (not (readable (r .graph) k (some (fieldLabel i))))) 108 (done r))) (λ s. then (newRef m s) (pass (addFieldBorrow k i) k x))
       ≡ borrowField m k i r
   unfolding borrowField
   borrow-field-at m k i =
       let b : Bool = cond m (fullyBorrowed (r .graph) k) (not (readable (r .graph) k (some (fieldLabel i)))) in
-      known-then (r .graph) k (fails b 108 (done r)) (λ s. then (newRef m s) (pass (addFieldBorrow k i) k x))
-      ∙ known-under (r .graph) k _ _ (fails-then b 108 (done r) (λ s. then (newRef m s) (pass (addFieldBorrow k i) k x)) ∙ fails-under b 108 _ _ (made m r x (pass (addFieldBorrow k i) k) z))
+      known-then (r .graph) k (fails (r .blurs) b 108 (done r)) (λ s. then (newRef m s) (pass (addFieldBorrow k i) k x))
+      ∙ known-under (r .graph) k _ _ (fails-then (r .blurs) b 108 (done r) (λ s. then (newRef m s) (pass (addFieldBorrow k i) k x)) ∙ fails-under (r .blurs) b 108 _ _ (made m r x (pass (addFieldBorrow k i) k) z))
 
-  pub element-at : (m : Bool) (k : ℕ) → then (needsName (r .graph) k (vectorTest m (r .graph) k 111 (done r))) (λ s. then (newRef m s) (pass (addBorrow k) k x)) ≡ vectorElementBorrow (reference k) m r
+  pub element-at : (m : Bool) (k : ℕ) → then (needsName (r .graph) k (vectorTest m r k 111 (done r))) (λ s. then (newRef m s) (pass (addBorrow k) k x)) ≡ vectorElementBorrow (reference k) m r
   unfolding vectorElementBorrow
   element-at m k =
-      known-then (r .graph) k (vectorTest m (r .graph) k 111 (done r)) (λ s. then (newRef m s) (pass (addBorrow k) k x))
-      ∙ known-under (r .graph) k _ _ (vector-then m (r .graph) k 111 (done r) (λ s. then (newRef m s) (pass (addBorrow k) k x)) ∙ ap {B = Outcome Answer} (λ (o : Outcome Answer). vectorTest m (r .graph) k 111 o) (made m r x (pass (addBorrow k) k) z))
+      known-then (r .graph) k (vectorTest m r k 111 (done r)) (λ s. then (newRef m s) (pass (addBorrow k) k x))
+      ∙ known-under (r .graph) k _ _ (vector-then m r k 111 (done r) (λ s. then (newRef m s) (pass (addBorrow k) k x)) ∙ ap {B = Outcome Answer} (λ (o : Outcome Answer). vectorTest m r k 111 o) (made m r x (pass (addBorrow k) k) z))
 
 module _ (r : Running) where
   pub copy-over : (i : ℕ) (l : Local) → getD (r .locals) i absent ≡ l → copyOf r i l ≡ copyLoc i r
@@ -227,22 +227,22 @@ module _ (r : Running) where
       ∙ store-over i w value l)
 
   -- a test alone
-  pub test-at : (k c : ℕ) (b : Bool) (t : Ans Bool) → eqb c 0 ≡ false → t ≡ L.ofName (r .graph) k b → failing t c r ≡ needsName (r .graph) k (fails b c (done r))
+  pub test-at : (k c : ℕ) (b : Bool) (t : Ans Bool) → eqb c 0 ≡ false → t ≡ L.ofName (r .graph) k b → failing t c r ≡ needsName (r .graph) k (fails (r .blurs) b c (done r))
   test-at k c b t z e = rw e (then-done (failing (L.ofName (r .graph) k b) c r) ∙ fail-at (r .graph) k b r done c z)
 
   pub unreadable-then : {A : Type 0} (k : ℕ) (at : Option ℕ) (c : ℕ) (f : Running → Outcome A)
-      → then (needsName (r .graph) k (fails (not (readable (r .graph) k at)) c (done r))) f ≡ needsName (r .graph) k (fails (not (readable (r .graph) k at)) c (f r))
+      → then (needsName (r .graph) k (fails (r .blurs) (not (readable (r .graph) k at)) c (done r))) f ≡ needsName (r .graph) k (fails (r .blurs) (not (readable (r .graph) k at)) c (f r))
   unreadable-then k at c f =
-      known-then (r .graph) k (fails (not (readable (r .graph) k at)) c (done r)) f
-      ∙ known-under (r .graph) k _ _ (fails-then (not (readable (r .graph) k at)) c (done r) f)
+      known-then (r .graph) k (fails (r .blurs) (not (readable (r .graph) k at)) c (done r)) f
+      ∙ known-under (r .graph) k _ _ (fails-then (r .blurs) (not (readable (r .graph) k at)) c (done r) f)
 
-  pub read-at : (k : ℕ) → then (needsName (r .graph) k (fails (not (readable (r .graph) k none)) 105 (done r))) (λ s. then (releaseName k s) (λ t. answer t nonRef)) ≡ readRef k r
+  pub read-at : (k : ℕ) → then (needsName (r .graph) k (fails (r .blurs) (not (readable (r .graph) k none)) 105 (done r))) (λ s. then (releaseName k s) (λ t. answer t nonRef)) ≡ readRef k r
   unfolding readRef
   read-at k = unreadable-then k none 105 (λ s. then (releaseName k s) (λ t. answer t nonRef))
 
   -- a mutable reference with no borrow, then f
   pub writable-then : {A : Type 0} (k c : ℕ) (t u : Ans Bool) (f : Running → Outcome A) → eqb c 0 ≡ false → t ≡ L.ofName (r .graph) k (isMutable (r .graph) k) → u ≡ L.ofName (r .graph) k (borrowed (r .graph) k none)
-      → then (needing t 13 r) (λ s. then (failing u c s) f) ≡ needsName (r .graph) k (vectorTest true (r .graph) k c (f r))
+      → then (needing t 13 r) (λ s. then (failing u c s) f) ≡ needsName (r .graph) k (vectorTest true r k c (f r))
   writable-then {A} k c t u f z e h =
       let g : Graph = r .graph in
       let b : Bool = isMutable g k in
@@ -250,10 +250,10 @@ module _ (r : Running) where
       rw (e, h)
       (need-at g k b r (λ s. then (failing (L.ofName g k d) c s) f) 13 refl
       ∙ known-under g k _ _ (needs-under b 13 _ _ (fail-at g k d r f c z))
-      ∙ known-needs g k b 13 (fails d c (f r))
+      ∙ known-needs g k b 13 (fails (r .blurs) d c (f r))
       ∙ known-under g k _ _ (needs-under b 13 _ _ (twice d)))
     where
-      twice : (d : Bool) → fails d c (f r) ≡ fails (not (not d)) c (f r)
+      twice : (d : Bool) → fails (r .blurs) d c (f r) ≡ fails (r .blurs) (not (not d)) c (f r)
       twice true = refl
       twice false = refl
 
@@ -263,12 +263,12 @@ module _ (r : Running) where
   write-at k t u e h = writable-then k 106 t u (releaseName k) refl e h
 
   pub vector-mutable : (k c : ℕ) (t u : Ans Bool) → eqb c 0 ≡ false → t ≡ L.ofName (r .graph) k (isMutable (r .graph) k) → u ≡ L.ofName (r .graph) k (borrowed (r .graph) k none)
-      → then (needing t 13 r) (failing u c) ≡ needsName (r .graph) k (vectorTest true (r .graph) k c (done r))
+      → then (needing t 13 r) (failing u c) ≡ needsName (r .graph) k (vectorTest true r k c (done r))
   vector-mutable k c t u z e h = under (needing t 13 r) ∙ writable-then k c t u done z e h
     where
       under : (o : Outcome Running) → then o (failing u c) ≡ then o (λ s. then (failing u c s) done)
       under (done s) = then-done (failing u c s)
-      under (Outcome.violated n) = refl
+      under (Outcome.violated j n) = refl
       under (refused n) = refl
 
   pub heed-alone : (k : ℕ) (b : Bool) (t : Ans Bool) → t ≡ L.ofName (r .graph) k b → heeding t r ≡ needsName (r .graph) k (done r)
@@ -278,15 +278,15 @@ module _ (r : Running) where
   unfolding moveFrom
   move-from-at i t e = rw e (fail-at (r .graph) (r .root) (borrowed (r .graph) (r .root) (some (globalLabel i))) r (λ s. answer s nonRef) 109 refl)
 
-  pub vector-op-at : (m : Bool) (k : ℕ) → then (needsName (r .graph) k (vectorTest m (r .graph) k 110 (done r))) (releaseName k) ≡ vectorOp (reference k) m r
+  pub vector-op-at : (m : Bool) (k : ℕ) → then (needsName (r .graph) k (vectorTest m r k 110 (done r))) (releaseName k) ≡ vectorOp (reference k) m r
   unfolding vectorOp
   vector-op-at m k =
-      known-then (r .graph) k (vectorTest m (r .graph) k 110 (done r)) (releaseName k)
-      ∙ known-under (r .graph) k _ _ (vector-then m (r .graph) k 110 (done r) (releaseName k))
+      known-then (r .graph) k (vectorTest m r k 110 (done r)) (releaseName k)
+      ∙ known-under (r .graph) k _ _ (vector-then m r k 110 (done r) (releaseName k))
 
 -- the state goes on where the reference is readable
 abbrev pub unreadable : ℕ → Option ℕ → ℕ → Running → Outcome Running
-unreadable k at c s = needsName (s .graph) k (fails (not (readable (s .graph) k at)) c (done s))
+unreadable k at c s = needsName (s .graph) k (fails (s .blurs) (not (readable (s .graph) k at)) c (done s))
 
 pub compare-at : (r : Running) (j k : ℕ)
     → then (unreadable j none 105 r) (λ s. then (unreadable k none 105 s) (λ t. then (releaseName j t) (λ u. then (releaseName k u) (λ v. answer v nonRef)))) ≡ comparison (reference j) (reference k) r
@@ -294,4 +294,4 @@ unfolding comparison
 compare-at r j k =
     let end : Running → Outcome Answer = λ s. then (releaseName j s) (λ t. then (releaseName k t) (λ u. answer u nonRef)) in
     unreadable-then r j none 105 (λ s. then (unreadable k none 105 s) end)
-    ∙ known-under (r .graph) j _ _ (fails-under (not (readable (r .graph) j none)) 105 _ _ (unreadable-then r k none 105 end))
+    ∙ known-under (r .graph) j _ _ (fails-under (r .blurs) (not (readable (r .graph) j none)) 105 _ _ (unreadable-then r k none 105 end))

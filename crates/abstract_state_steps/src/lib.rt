@@ -296,7 +296,7 @@ fn violate_if_unreadable(
     code: u8,
 ) -> AbstractState
     requires { ⌜ (code ≡ 0 → ⊥) ⌝ }
-    ensures { λ r. ⌜ ((ls : List ℕ) → Does (λ s. R.needsName (s .graph) (id .0) (Out.fails (not (R.readable (s .graph) (id .0) (filterOf at))) code (Out.Outcome.done s))) (words ls (now (names .entry)) (now (edges .entry)) state) (words ls (now (names .entry)) (now (edges .entry)) r)) ⌝ }
+    ensures { λ r. ⌜ ((ls : List ℕ) → Does (λ s. R.needsName (s .graph) (id .0) (Out.fails (s .blurs) (not (R.readable (s .graph) (id .0) (filterOf at))) code (Out.Outcome.done s))) (words ls (now (names .entry)) (now (edges .entry)) state) (words ls (now (names .entry)) (now (edges .entry)) r)) ⌝ }
 {
     let b = is_readable(names, edges, state, id, at);
     violate_if(
@@ -389,7 +389,7 @@ fn violate_if_field_borrowed(
     id: RefID,
     field: u16,
 ) -> AbstractState
-    ensures { λ r. ⌜ ((ls : List ℕ) → Does (λ s. R.needsName (s .graph) (id .0) (Out.fails (cond mutable (L.fullyBorrowed (s .graph) (id .0)) (not (R.readable (s .graph) (id .0) (some (fieldLabel field))))) BORROWFIELD-EXISTS-MUTABLE-BORROW (Out.Outcome.done s))) (words ls (now (names .entry)) (now (edges .entry)) state) (words ls (now (names .entry)) (now (edges .entry)) r)) ⌝ }
+    ensures { λ r. ⌜ ((ls : List ℕ) → Does (λ s. R.needsName (s .graph) (id .0) (Out.fails (s .blurs) (cond mutable (L.fullyBorrowed (s .graph) (id .0)) (not (R.readable (s .graph) (id .0) (some (fieldLabel field))))) BORROWFIELD-EXISTS-MUTABLE-BORROW (Out.Outcome.done s))) (words ls (now (names .entry)) (now (edges .entry)) state) (words ls (now (names .entry)) (now (edges .entry)) r)) ⌝ }
 {
     let code = BORROWFIELD_EXISTS_MUTABLE_BORROW;
     if mutable {
@@ -448,7 +448,7 @@ fn vector_test(
     code: u8,
 ) -> AbstractState
     requires { ⌜ (code ≡ 0 → ⊥) ⌝ }
-    ensures { λ r. ⌜ ((ls : List ℕ) → Does (λ s. R.needsName (s .graph) (id .0) (R.vectorTest mutable (s .graph) (id .0) code (Out.Outcome.done s))) (words ls (now (names .entry)) (now (edges .entry)) state) (words ls (now (names .entry)) (now (edges .entry)) r)) ⌝ }
+    ensures { λ r. ⌜ ((ls : List ℕ) → Does (λ s. R.needsName (s .graph) (id .0) (R.vectorTest mutable s (id .0) code (Out.Outcome.done s))) (words ls (now (names .entry)) (now (edges .entry)) state) (words ls (now (names .entry)) (now (edges .entry)) r)) ⌝ }
 {
     let m = is_mutable(names, state, id);
     if mutable {

@@ -15,7 +15,7 @@ use Rattle.meaning.specs.Laws.Put.{Moved, shifted-kept, shifted-rest, shifted-l
 use Rattle.references.specs.Models.{edgesIn}
 use Rattle.references.specs.ModelLaws.{edges-count}
 use Rattle.borrow_graph_edit.specs.Edits.{graphWith, Added, added-left}
-use Rattle.borrow_graph_edit.specs.declared.pairs.Replaced.{Replaced}
+use Rattle.borrow_graph_edit.specs.declared.blurs.Changed.{Changed}
 
 -- of the moved edges ys are left; the others are put in
 pub record Going (ns : List Name) (es : List GEdge) (c : ℕ) (path : List ℕ) (moved : List GEdge) (rows : List (List ℕ)) (n : ℕ) (ys : List GEdge) : Type 0 where
@@ -27,7 +27,7 @@ pub record Going (ns : List Name) (es : List GEdge) (c : ℕ) (path : List ℕ) 
 
 module _ (ns : List Name) (es : List GEdge) (c : ℕ) (path : List ℕ) (moved : List GEdge) (rows : List (List ℕ)) (n : ℕ) where
   pub going-turn : (y : GEdge) (ys : List GEdge) → Going ns es c path moved rows n (y ∷ ys) → length (y .edge .path) ≤ 8
-      → (rows′ : List (List ℕ)) (r : Replaced) → r .edges ≤ 96 → Added (shift c path y) rows n rows′ r → Going ns es c path moved rows′ (r .edges) ys
+      → (rows′ : List (List ℕ)) (r : Changed) → r .edges ≤ 96 → Added (shift c path y) rows n rows′ r → Going ns es c path moved rows′ (r .edges) ys
   going-turn y ys g s rows′ r l d =
       let k : length (edgesIn rows n) ≡ n = edges-count rows n (omega (arith, g .full, g .room)) in
       let h : length (edgesIn rows n) < 96 = omega (arith, k, g .room) in

@@ -8,9 +8,10 @@ use lib.ListN.{length, take, drop}
 use Rattle.meaning.specs.Answers.{Ans, ok, refuse, andThen}
 use Rattle.meaning.specs.Lists.{keep}
 use Rattle.meaning.specs.References.{EdgeSet}
-use Rattle.meaning.specs.BorrowGraph.{GEdge, isBefore, setTo}
+use Rattle.meaning.specs.BorrowGraph.{GEdge, isBefore, setTo, newlyBlurred}
 use Rattle.meaning.specs.Refinement.Pairs.{edgesAt, fewEdges}
 use Rattle.meaning.specs.Laws.Pair.{Neat, length-setTo}
+use Rattle.meaning.specs.Laws.Blurs.{newly-setTo}
 use Rattle.meaning.specs.Laws.Cut.{setTo-cut}
 use Rattle.meaning.specs.Laws.Put.{insert-first}
 use borrow.Author.Tests.{le-leb, lt-leb}
@@ -44,6 +45,10 @@ module _ (es : List GEdge) (x : GEdge) (low : ℕ) (w : Neat es) (sh : length (x
 
   pub first-fits : low ≡ length (keep (isBefore (x .parent) (x .child)) es) → length es < 96 → addRow x es ≡ ok (take low es ++ (lone ∷ drop low es))
   first-fits a h = made ∙ few-fits (setTo (x .parent) (x .child) alone es) (omega (arith, size)) ∙ ap {B = Ans (List GEdge)} ok (sym (placed a))
+
+  -- it blurs no set
+  pub first-blurs : low ≡ length (keep (isBefore (x .parent) (x .child)) es) → (fs : List GEdge) → fs ≡ take low es ++ (lone ∷ drop low es) → newlyBlurred es fs ≡ 0
+  first-blurs a fs q = ap (newlyBlurred es) (q ∙ placed a) ∙ newly-setTo (x .parent) (x .child) alone es
 
   pub first-over : 96 ≤ length es → addRow x es ≡ refuse 21
   first-over h = made ∙ few-over (setTo (x .parent) (x .child) alone es) (omega (arith, size))

@@ -8,10 +8,13 @@ use lib.Dec.{eqb, leb}
 use lib.ListN.{length, take, drop}
 use Rattle.meaning.specs.Answers.{Ans, ok, refuse, andThen}
 use Rattle.meaning.specs.Lists.{keep}
-use Rattle.meaning.specs.References.{Edge, EdgeSet, insert, offer}
-use Rattle.meaning.specs.BorrowGraph.{GEdge, isBefore, tagged, setAt, setTo}
+use Rattle.meaning.specs.References.{Edge, EdgeSet, insert, offer, Report, report, offerReport}
+use Rattle.meaning.specs.BorrowGraph.{GEdge, isBefore, tagged, setAt, setTo, newlyBlurred}
 use Rattle.meaning.specs.Refinement.Pairs.{edgesAt, replaceOne, fewEdges}
 use Rattle.meaning.specs.Laws.Pair.{Neat, length-setTo}
+use Rattle.meaning.specs.AbstractState.{count1}
+use Rattle.meaning.specs.Laws.Blurs.{newly-insert}
+use Rattle.meaning.specs.Laws.Report.{isNow, insert-now}
 use Rattle.meaning.specs.Laws.Cut.{setTo-cut}
 use Rattle.meaning.specs.Laws.Base.{refuse≢ok}
 use Rattle.meaning.specs.Laws.Put.{insert-short}
@@ -75,6 +78,15 @@ taken-in s v e n h q = go (eqb n 0) (q ∙ offer-ok s e) (insert-short s e h)
     go true p i = sym p
     go false p i = absurd (refuse≢ok (p ∙ i .1))
 
+-- and its report is that of the insert
+pub reported : (s v : EdgeSet) (e : Edge) (n : ℕ) (r : Report) → length (e .path) ≤ 8 → told n v ≡ offer s (ok e) → told n r ≡ offerReport s (ok e) → report s e ≡ ok r
+unfolding offerReport
+reported s v e n r h q z = go (eqb n 0) (q ∙ offer-ok s e) z (insert-short s e h)
+  where
+    go : (b : Bool) → cond b (ok v) (refuse n) ≡ insert s e → cond b (ok r) (refuse n) ≡ report s e → (t : EdgeSet) × (insert s e ≡ ok t) → report s e ≡ ok r
+    go true p k i = sym k
+    go false p k i = absurd (refuse≢ok (p ∙ i .1))
+
 -- an edge put into a set that has edges: the new set is t
 module _ (x : GEdge) (es : List GEdge) (t : EdgeSet) (e : insert (setAt (x .parent) (x .child) es) (x .edge) ≡ ok t) where
   given : addRow x es ≡ fewEdges (setTo (x .parent) (x .child) t es)
@@ -85,6 +97,12 @@ module _ (x : GEdge) (es : List GEdge) (t : EdgeSet) (e : insert (setAt (x .pare
 
   pub more-over : 96 + length (edgesAt (x .parent) (x .child) es) < length es + length (t .edges) → told 21 es ≡ addRow x es
   more-over h = sym (given ∙ few-over (setTo (x .parent) (x .child) t es) (omega (arith, size-is)))
+
+  -- the sets that this blurs, by the report
+  pub more-blurs : (fs : List GEdge) → fs ≡ setTo (x .parent) (x .child) t es → (r : Report) → report (setAt (x .parent) (x .child) es) (x .edge) ≡ ok r → newlyBlurred es fs ≡ count1 (isNow (ok r))
+  more-blurs fs q r k =
+      ap (newlyBlurred es) q ∙ newly-insert (x .parent) (x .child) es (x .edge) t e
+      ∙ ap count1 (insert-now (setAt (x .parent) (x .child) es) (x .edge) t e) ∙ ap (λ (o : Ans Report). count1 (isNow o)) k
 
   pub more-fits : (fs : List GEdge) → fs ≡ setTo (x .parent) (x .child) t es → length es + length (t .edges) ≤ 96 + length (edgesAt (x .parent) (x .child) es) → told 0 fs ≡ addRow x es
   more-fits fs q h = ap {B = Ans (List GEdge)} ok q ∙ sym (given ∙ few-fits (setTo (x .parent) (x .child) t es) (omega (arith, size-is)))

@@ -7,10 +7,11 @@ use mathlib.Core.List.{List, [], _∷_, _++_}
 use lib.ListN.{length, getD}
 use lib.Dec.{leb, eqb}
 use Rattle.meaning.specs.Answers.{Ans, ok, refuse, andThen, guard}
-use Rattle.meaning.specs.Lists.{keep, each}
-use Rattle.meaning.specs.Laws.Base.{ok-inj, guard-ok, and-l, and-r, not-true, leb-le}
+use Rattle.meaning.specs.Lists.{keep, each, all}
+use Rattle.meaning.specs.Laws.Base.{ok-inj, guard-ok, and-i, and-l, and-r, not-true, leb-le, all-imp, keep-passes}
 use Rattle.meaning.specs.References.{Edge, fitting}
-use Rattle.meaning.specs.BorrowGraph.{Name, GEdge, Graph, held, other, setAt, setTo, between, splice, spliced, without, wellFormed, addEdge, addAll, limit, release}
+use Rattle.meaning.specs.BorrowGraph.{Name, GEdge, Graph, holds, held, pairOk, other, setAt, setTo, between, splice, spliced, without, wellFormed, addEdge, addAll, limit, release}
+use Rattle.meaning.specs.Laws.Call.{holds-all}
 use Rattle.meaning.specs.Laws.Graph.{wf→inv, room}
 use Rattle.meaning.specs.Refinement.Flat.{meet, splicedRow, rowIf, splicedRows}
 use Rattle.meaning.specs.Laws.Spliced.{spliced-rows}
@@ -147,6 +148,16 @@ answered (refuse m) = false
 pub without-edges : (ns : List Name) (es fs : List GEdge) (n : ℕ) → fs ≡ keep (apart n) es → record { names = keep (other n) ns; edges = fs } ≡ without (record { names = ns; edges = es }) n
 unfolding without
 without-edges ns es fs n e = λ i. record { names = keep (other n) ns; edges = e i }
+
+-- where n is not held no edge touches it
+pub formed-apart : (n : ℕ) (ns : List Name) (hs : List GEdge) → wellFormed (record { names = keep (other n) ns; edges = hs }) ≡ true → all (apart n) hs ≡ true
+formed-apart n ns hs w =
+    let ms : List Name = keep (other n) ns in
+    let away : (k : ℕ) → holds ms k ≡ true → not (eqb n k) ≡ true = λ k h. holds-all (λ j. not (eqb n j)) ms k h (keep-passes (other n) ns) in
+    all-imp (λ x. pairOk ms (x .parent) (x .child)) (apart n)
+    (λ x e. and-i (away (x .parent) (and-l (holds ms (x .parent)) (holds ms (x .child) && not (eqb (x .parent) (x .child))) e))
+    (away (x .child) (and-l (holds ms (x .child)) (not (eqb (x .parent) (x .child))) (and-r (holds ms (x .parent)) (holds ms (x .child) && not (eqb (x .parent) (x .child))) e))))
+    hs (wf→inv (record { names = ms; edges = hs }) w .pairs)
 
 -- by what the code has found: the graph without n, and what is put in
 module _ (g : Graph) (n : ℕ) (t : wellFormed g && held g n ≡ true) (h : Graph) (q : h ≡ without g n) where

@@ -6,9 +6,10 @@
 //   factor              167 `factor`
 //   take_out            its first loops, 171 to 197
 //   add_moved           its last loop, 199 to 208
+use crate::blurs::Blurring;
+use crate::blurs::Changed;
+use crate::blurs::newly_blurred;
 use crate::edges::add_edge;
-use crate::pairs::Replaced;
-use borrow_graph::graph::Answer;
 use borrow_graph::graph::BorrowGraph;
 use borrow_graph::refs;
 use meaning::EDGE_WORDS;
@@ -28,8 +29,9 @@ ghost use Rattle.meaning.specs.Lists.{any, all, keep};
 ghost use Rattle.meaning.specs.BorrowGraph.{Name, wellFormed, pairOk, borrowWeak, borrowStrong, moves};
 ghost use Rattle.meaning.specs.Laws.Put.{Moved};
 ghost use Rattle.references.specs.Models.{rowOf, edgesIn, pathAt};
-ghost use Rattle.borrow_graph.specs.Models.{graphIn, Tells, Answers};
+ghost use Rattle.borrow_graph.specs.Models.{graphIn, Tells};
 ghost use Rattle.borrow_graph_edit.specs.Edits.{graphWith, Edits};
+ghost use Rattle.borrow_graph_edit.specs.Models.{Blurs};
 
 // Whether a strong borrow of `parent` moves this row.
 fn is_moved(x: &[u32; EDGE_WORDS], parent: RefID, path: LabelFilter) -> bool
@@ -143,7 +145,7 @@ fn factor_below(
     parent: RefID,
     path: LabelFilter,
     child: RefID,
-) -> Replaced
+) -> Changed
     requires { ⌜ m ≤ maxEdges ⌝ }
     ensures { λ r. ⌜ (r .edges ≤ maxEdges) × (length (now (edges .entry)) ≡ maxEdges → (ns : List Name) → wellFormed (graphWith ns (edgesIn (now (edges .entry)) m)) && pairOk ns (parent .0) (child .0) ≡ true → Edits (borrowStrong (graphWith ns (edgesIn (now (edges .entry)) m)) (parent .0) (pathAt path) (child .0)) ns (now (edges .entry)) m (now (edges .exit)) r) ⌝ }
 {
@@ -154,17 +156,23 @@ fn factor_below(
         let x = rows::edge(parent, true, path, child);
         let a = add_edge(edges, n, x);
         if a.refusal == 0 {
-            return a;
+            return Changed {
+                refusal: 0,
+                edges: a.edges,
+                blurred: newly_blurred(&old, m, edges, a.edges),
+            };
         }
         *edges = old;
-        return Replaced {
+        return Changed {
             refusal: a.refusal,
             edges: m,
+            blurred: 0,
         };
     }
-    Replaced {
+    Changed {
         refusal: 9,
         edges: m,
+        blurred: 0,
     }
 }
 
@@ -175,7 +183,7 @@ fn factor(
     parent: RefID,
     path: LabelFilter,
     child: RefID,
-) -> Replaced
+) -> Changed
     requires { ⌜ m ≤ maxEdges ⌝ }
     ensures { λ r. ⌜ (r .edges ≤ maxEdges) × (length (now (edges .entry)) ≡ maxEdges → (ns : List Name) → wellFormed (graphWith ns (edgesIn (now (edges .entry)) m)) && pairOk ns (parent .0) (child .0) ≡ true → Edits (borrowStrong (graphWith ns (edgesIn (now (edges .entry)) m)) (parent .0) (pathAt path) (child .0)) ns (now (edges .entry)) m (now (edges .exit)) r) ⌝ }
 {
@@ -195,25 +203,27 @@ pub fn add_strong_borrow(
     parent: RefID,
     path: LabelFilter,
     child: RefID,
-) -> Answer
-    ensures { λ r. ⌜ (Tells (now (names .entry)) (now (edges .entry)) g → Answers (borrowStrong (graphIn (now (names .entry)) (now (edges .entry)) g) (parent .0) (pathAt path) (child .0)) (now (names .entry)) (now (edges .entry)) g (now (names .entry)) (now (edges .exit)) r) ⌝ }
+) -> Blurring
+    ensures { λ r. ⌜ (Tells (now (names .entry)) (now (edges .entry)) g → Blurs (borrowStrong (graphIn (now (names .entry)) (now (edges .entry)) g) (parent .0) (pathAt path) (child .0)) (now (names .entry)) (now (edges .entry)) g (now (names .entry)) (now (edges .exit)) r) ⌝ }
 {
     let m = g.edges;
     let h = refs::pair_ok(names, g.refs, parent, child);
     if g.formed & h & (m <= MAX_EDGES) {
         let r = factor(edges, m, parent, path, child);
-        return Answer {
+        return Blurring {
             refusal: r.refusal,
             graph: BorrowGraph {
                 refs: g.refs,
                 edges: r.edges,
                 formed: true,
             },
+            blurred: r.blurred,
         };
     }
-    Answer {
+    Blurring {
         refusal: 9,
         graph: g,
+        blurred: 0,
     }
 }
 
@@ -224,25 +234,27 @@ pub fn add_weak_borrow(
     parent: RefID,
     path: LabelFilter,
     child: RefID,
-) -> Answer
-    ensures { λ r. ⌜ (Tells (now (names .entry)) (now (edges .entry)) g → Answers (borrowWeak (graphIn (now (names .entry)) (now (edges .entry)) g) (parent .0) (pathAt path) (child .0)) (now (names .entry)) (now (edges .entry)) g (now (names .entry)) (now (edges .exit)) r) ⌝ }
+) -> Blurring
+    ensures { λ r. ⌜ (Tells (now (names .entry)) (now (edges .entry)) g → Blurs (borrowWeak (graphIn (now (names .entry)) (now (edges .entry)) g) (parent .0) (pathAt path) (child .0)) (now (names .entry)) (now (edges .entry)) g (now (names .entry)) (now (edges .exit)) r) ⌝ }
 {
     let m = g.edges;
     let h = refs::pair_ok(names, g.refs, parent, child);
     if g.formed & h & (m <= MAX_EDGES) {
         let x = rows::edge(parent, false, path, child);
         let r = add_edge(edges, m, x);
-        return Answer {
+        return Blurring {
             refusal: r.refusal,
             graph: BorrowGraph {
                 refs: g.refs,
                 edges: r.edges,
                 formed: true,
             },
+            blurred: r.blurred,
         };
     }
-    Answer {
+    Blurring {
         refusal: 9,
         graph: g,
+        blurred: 0,
     }
 }

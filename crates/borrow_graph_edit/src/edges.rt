@@ -1,5 +1,6 @@
 // An edge put into the set of its pair (graph.rs, 142 `add_edge`).
-use crate::pairs::Replaced;
+use crate::blurs::Changed;
+use crate::blurs::blurs;
 use crate::pairs::between;
 use crate::pairs::place;
 use crate::pairs::replace;
@@ -17,9 +18,10 @@ ghost use mathlib.Core.List.{_∷_, _++_};
 ghost use Prim.Native.Nat.{_+_, _≤_, _<_};
 ghost use lib.ListN.{length, take, drop};
 ghost use Rattle.meaning.specs.Limits.{maxEdges};
+ghost use Rattle.meaning.specs.BorrowGraph.{newlyBlurred};
 ghost use Rattle.meaning.specs.Laws.Pair.{Neat};
 ghost use Rattle.references.specs.Models.{rowOf, edgesIn};
-ghost use Rattle.borrow_graph_edit.specs.Models.{replacedIn, addRow};
+ghost use Rattle.borrow_graph_edit.specs.Models.{changedIn, addRow};
 
 // The rows from k on make room for one.
 fn insert_at(edges: &mut [[u32; EDGE_WORDS]; MAX_EDGES], m: usize, k: usize, x: [u32; EDGE_WORDS])
@@ -36,9 +38,9 @@ fn insert_at(edges: &mut [[u32; EDGE_WORDS]; MAX_EDGES], m: usize, k: usize, x: 
 }
 
 // Into a set that has edges.
-fn add_more(edges: &mut [[u32; EDGE_WORDS]; MAX_EDGES], m: usize, x: [u32; EDGE_WORDS]) -> Replaced
+fn add_more(edges: &mut [[u32; EDGE_WORDS]; MAX_EDGES], m: usize, x: [u32; EDGE_WORDS]) -> Changed
     requires { ⌜ m ≤ maxEdges ⌝ }
-    ensures { λ r. ⌜ (r .edges ≤ maxEdges) × (length (now (edges .entry)) ≡ maxEdges → Neat (edgesIn (now (edges .entry)) m) → (length (now (edges .exit)) ≡ maxEdges) × (replacedIn (now (edges .exit)) r ≡ addRow (rowOf x) (edgesIn (now (edges .entry)) m)) × ((r .refusal ≡ 0 → ⊥) → (now (edges .exit) ≡ now (edges .entry)) × (r .edges ≡ m))) ⌝ }
+    ensures { λ r. ⌜ (r .edges ≤ maxEdges) × (length (now (edges .entry)) ≡ maxEdges → Neat (edgesIn (now (edges .entry)) m) → (length (now (edges .exit)) ≡ maxEdges) × (changedIn (now (edges .exit)) r ≡ addRow (rowOf x) (edgesIn (now (edges .entry)) m)) × ((r .refusal ≡ 0 → ⊥) → (now (edges .exit) ≡ now (edges .entry)) × (r .edges ≡ m)) × (r .blurred ≡ newlyBlurred (edgesIn (now (edges .entry)) m) (edgesIn (now (edges .exit)) (r .edges)))) ⌝ }
 {
     let p = parent(&x);
     let c = child(&x);
@@ -50,15 +52,18 @@ fn add_more(edges: &mut [[u32; EDGE_WORDS]; MAX_EDGES], m: usize, x: [u32; EDGE_
     let new = a.set;
     let size = old.len;
     if MAX_EDGES < m - size + len(new) {
-        return Replaced {
+        return Changed {
             refusal: 21,
             edges: m,
+            blurred: 0,
         };
     }
     let n = replace(edges, m, b.low, size, p, c, &set, new);
-    Replaced {
+    let report = a.report;
+    Changed {
         refusal: 0,
         edges: n,
+        blurred: blurs(report),
     }
 }
 
@@ -67,9 +72,9 @@ pub(crate) fn add_edge(
     edges: &mut [[u32; EDGE_WORDS]; MAX_EDGES],
     m: usize,
     x: [u32; EDGE_WORDS],
-) -> Replaced
+) -> Changed
     requires { ⌜ m ≤ maxEdges ⌝ }
-    ensures { λ r. ⌜ (r .edges ≤ maxEdges) × (length (now (edges .entry)) ≡ maxEdges → Neat (edgesIn (now (edges .entry)) m) → (length (now (edges .exit)) ≡ maxEdges) × (replacedIn (now (edges .exit)) r ≡ addRow (rowOf x) (edgesIn (now (edges .entry)) m)) × ((r .refusal ≡ 0 → ⊥) → (now (edges .exit) ≡ now (edges .entry)) × (r .edges ≡ m))) ⌝ }
+    ensures { λ r. ⌜ (r .edges ≤ maxEdges) × (length (now (edges .entry)) ≡ maxEdges → Neat (edgesIn (now (edges .entry)) m) → (length (now (edges .exit)) ≡ maxEdges) × (changedIn (now (edges .exit)) r ≡ addRow (rowOf x) (edgesIn (now (edges .entry)) m)) × ((r .refusal ≡ 0 → ⊥) → (now (edges .exit) ≡ now (edges .entry)) × (r .edges ≡ m)) × (r .blurred ≡ newlyBlurred (edgesIn (now (edges .entry)) m) (edgesIn (now (edges .exit)) (r .edges)))) ⌝ }
 {
     let p = parent(&x);
     let c = child(&x);
@@ -78,15 +83,17 @@ pub(crate) fn add_edge(
         return add_more(edges, m, x);
     }
     if MAX_EDGES <= m {
-        return Replaced {
+        return Changed {
             refusal: 21,
             edges: m,
+            blurred: 0,
         };
     }
     let y = tagged(&x, p, c, false);
     insert_at(edges, m, at.low, y);
-    Replaced {
+    Changed {
         refusal: 0,
         edges: m + 1,
+        blurred: 0,
     }
 }

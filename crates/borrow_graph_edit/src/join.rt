@@ -6,11 +6,13 @@
 //   joinable     346 to 349, the debug assertions at its start
 //   join_pairs   352, the loop over parents and children
 //   join_sets    288 `unmatched_edges` for one pair, and 354, the loop over its edges
+use crate::blurs::Blurring;
+use crate::blurs::newly_blurred;
+use crate::pairs::Filled;
 use crate::pairs::Replaced;
 use crate::pairs::between;
 use crate::pairs::replace_set;
 use borrow_graph::cover::holds_all;
-use borrow_graph::graph::Answer;
 use borrow_graph::graph::BorrowGraph;
 use meaning::EDGE_WORDS;
 use meaning::MAX_EDGE_SET_SIZE;
@@ -21,7 +23,6 @@ use references::rows::Candidate;
 use references::rows::child;
 use references::rows::parent;
 use references::set::BorrowEdgeSet;
-use references::set::Inserted;
 use references::set::covers;
 use references::set::insert;
 use references::set::len;
@@ -37,9 +38,9 @@ ghost use Rattle.meaning.specs.Laws.Graph.{insertAll};
 ghost use Rattle.meaning.specs.Refinement.Pairs.{loopAt, replaceLim, twoPass};
 ghost use Rattle.meaning.specs.Laws.Pair.{Neat};
 ghost use Rattle.meaning.specs.Refinement.Passes.{uncovered, joinSet, pairsFrom};
-ghost use Rattle.references.specs.Models.{edgesIn, setIn, insertedIn};
-ghost use Rattle.borrow_graph.specs.Models.{graphIn, Tells, Answers};
-ghost use Rattle.borrow_graph_edit.specs.Models.{replacedIn};
+ghost use Rattle.references.specs.Models.{edgesIn, setIn};
+ghost use Rattle.borrow_graph.specs.Models.{graphIn, Tells};
+ghost use Rattle.borrow_graph_edit.specs.Models.{replacedIn, filledIn, Blurs};
 
 // Our set with the edges of theirs that it does not cover as it is.
 fn join_sets(
@@ -47,9 +48,9 @@ fn join_sets(
     ours: BorrowEdgeSet,
     their_set: &[[u32; EDGE_WORDS]; MAX_EDGE_SET_SIZE],
     theirs: BorrowEdgeSet,
-) -> Inserted
+) -> Filled
     ensures { λ r. ⌜ (length (now (set .entry)) ≡ maxSetSize → length (now («their_set» .entry)) ≡ maxSetSize →
-        (insertedIn (now (set .exit)) r ≡ insertAll (uncovered (setIn (now (set .entry)) ours .edges) (setIn (now («their_set» .entry)) theirs .edges)) (setIn (now (set .entry)) ours))
+        (filledIn (now (set .exit)) r ≡ insertAll (uncovered (setIn (now (set .entry)) ours .edges) (setIn (now («their_set» .entry)) theirs .edges)) (setIn (now (set .entry)) ours))
         × (length (now (set .exit)) ≡ maxSetSize)) ⌝ }
 {
     let n = len(theirs);
@@ -71,11 +72,14 @@ fn join_sets(
                 s = t;
                 i += 1;
             } else {
-                return r;
+                return Filled {
+                    refusal: r.refusal,
+                    set: s,
+                };
             }
         }
     }
-    Inserted { refusal: 0, set: s }
+    Filled { refusal: 0, set: s }
 }
 
 fn join_pair(
@@ -191,9 +195,9 @@ pub fn join(
     their_names: &[u32; MAX_NAMES],
     their_edges: &[[u32; EDGE_WORDS]; MAX_EDGES],
     other: BorrowGraph,
-) -> Answer
+) -> Blurring
     ensures { λ r. ⌜ (Tells (now (names .entry)) (now (edges .entry)) graph → Tells (now («their_names» .entry)) (now («their_edges» .entry)) other →
-        Answers (joinGraphs (graphIn (now (names .entry)) (now (edges .entry)) graph) (graphIn (now («their_names» .entry)) (now («their_edges» .entry)) other))
+        Blurs (joinGraphs (graphIn (now (names .entry)) (now (edges .entry)) graph) (graphIn (now («their_names» .entry)) (now («their_edges» .entry)) other))
         (now (names .entry)) (now (edges .entry)) graph (now (names .entry)) (now (edges .exit)) r) ⌝ }
 {
     let few = (graph.edges <= MAX_EDGES) & (other.edges <= MAX_EDGES);
@@ -202,23 +206,26 @@ pub fn join(
         let old = *edges;
         let r = join_all(edges, &old, graph.edges, their_edges, other.edges);
         if r.refusal == 0 {
-            return Answer {
+            return Blurring {
                 refusal: 0,
                 graph: BorrowGraph {
                     refs: graph.refs,
                     edges: r.edges,
                     formed: true,
                 },
+                blurred: newly_blurred(&old, graph.edges, edges, r.edges),
             };
         }
         *edges = old;
-        return Answer {
+        return Blurring {
             refusal: r.refusal,
             graph: graph,
+            blurred: 0,
         };
     }
-    Answer {
+    Blurring {
         refusal: 9,
         graph: graph,
+        blurred: 0,
     }
 }

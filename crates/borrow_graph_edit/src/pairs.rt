@@ -9,7 +9,6 @@ use references::rows::is_blurred;
 use references::rows::side;
 use references::rows::tagged;
 use references::set::BorrowEdgeSet;
-use references::set::Inserted;
 use references::set::len;
 ghost use mathlib.Core.Path.{_≡_};
 ghost use mathlib.Core.List.{_++_};
@@ -21,8 +20,8 @@ ghost use Rattle.meaning.specs.Lists.{keep};
 ghost use Rattle.meaning.specs.BorrowGraph.{tagged, isBefore, setAt};
 ghost use Rattle.meaning.specs.Refinement.Pairs.{edgesAt, replaceOne};
 ghost use Rattle.meaning.specs.Laws.Pair.{Neat};
-ghost use Rattle.references.specs.Models.{edgesIn, setEdges, setIn, insertedIn};
-ghost use Rattle.borrow_graph_edit.specs.Models.{replacedIn};
+ghost use Rattle.references.specs.Models.{edgesIn, setEdges, setIn};
+ghost use Rattle.borrow_graph_edit.specs.Models.{replacedIn, filledIn};
 
 // The set of a pair, and how many edges stand before it.
 pub(crate) struct PairSet {
@@ -40,6 +39,12 @@ pub(crate) struct PairPlace {
 pub(crate) struct Replaced {
     pub refusal: u8,
     pub edges: usize,
+}
+
+// A refusal's number, or 0, and the set after several inserts; refused, the set is free.
+pub(crate) struct Filled {
+    pub refusal: u8,
+    pub set: BorrowEdgeSet,
 }
 
 // Where a pair's edges stand.
@@ -154,11 +159,11 @@ pub(crate) fn replace_set(
     parent: RefID,
     child: RefID,
     set: &[[u32; EDGE_WORDS]; MAX_EDGE_SET_SIZE],
-    new: Inserted,
+    new: Filled,
     shrinking: bool,
 ) -> Replaced
     requires { ⌜ m ≤ maxEdges ⌝ }
-    ensures { λ r. ⌜ (r .edges ≤ maxEdges) × (length (now (edges .entry)) ≡ maxEdges → length (now (set .entry)) ≡ maxSetSize → Neat (edgesIn (now (edges .entry)) m) → (length (now (edges .exit)) ≡ maxEdges) × (replacedIn (now (edges .exit)) r ≡ andThen (insertedIn (now (set .entry)) new) (λ s. replaceOne shrinking (parent .0) (child .0) s (edgesIn (now (edges .entry)) m)))) ⌝ }
+    ensures { λ r. ⌜ (r .edges ≤ maxEdges) × (length (now (edges .entry)) ≡ maxEdges → length (now (set .entry)) ≡ maxSetSize → Neat (edgesIn (now (edges .entry)) m) → (length (now (edges .exit)) ≡ maxEdges) × (replacedIn (now (edges .exit)) r ≡ andThen (filledIn (now (set .entry)) new) (λ s. replaceOne shrinking (parent .0) (child .0) s (edgesIn (now (edges .entry)) m)))) ⌝ }
 {
     let at = place(edges, m, parent, child);
     let s = new.set;

@@ -5,11 +5,14 @@
 //   release_through                        its loops over the parents and the children, 233 to 248
 //   splice_pair, splice_each, splice_one   256 `splice_out_intermediate`
 //   without, left_out                      232, 235 and 249 to 252: what has the name is taken away
+use crate::blurs::Blurring;
+use crate::blurs::Changed;
+use crate::blurs::newly_blurred;
 use crate::edges::add_edge;
+use crate::pairs::Filled;
 use crate::pairs::Replaced;
 use crate::pairs::between;
 use crate::pairs::replace_set;
-use borrow_graph::graph::Answer;
 use borrow_graph::graph::BorrowGraph;
 use borrow_graph::refs;
 use meaning::EDGE_WORDS;
@@ -20,7 +23,6 @@ use references::RefID;
 use references::rows;
 use references::set;
 use references::set::BorrowEdgeSet;
-use references::set::Inserted;
 ghost use mathlib.Core.Path.{_≡_};
 ghost use mathlib.Core.Bool.{true, not, _&&_};
 ghost use mathlib.Core.List.{List, map};
@@ -33,9 +35,9 @@ ghost use Rattle.meaning.specs.Laws.Graph.{insertAll};
 ghost use Rattle.meaning.specs.Refinement.Pairs.{across, replaceLim, twoPass};
 ghost use Rattle.meaning.specs.Laws.Pair.{Neat};
 ghost use Rattle.meaning.specs.Refinement.Passes.{apart, splices, spliceSet, childRow, splicePairs};
-ghost use Rattle.references.specs.Models.{rowOf, edgesIn, setIn, insertedIn};
-ghost use Rattle.borrow_graph.specs.Models.{graphIn, Tells, Answers};
-ghost use Rattle.borrow_graph_edit.specs.Models.{replacedIn};
+ghost use Rattle.references.specs.Models.{rowOf, edgesIn, setIn};
+ghost use Rattle.borrow_graph.specs.Models.{graphIn, Tells};
+ghost use Rattle.borrow_graph_edit.specs.Models.{replacedIn, filledIn, Blurs};
 ghost use Rattle.borrow_graph_edit.specs.Edits.{graphWith, Edits};
 ghost use Rattle.borrow_graph_edit.specs.Ways.{entering, leaving, ways, Found, putOf};
 
@@ -46,8 +48,8 @@ fn splice_one(
     parent: &[u32; EDGE_WORDS],
     children: &[[u32; EDGE_WORDS]; MAX_EDGE_SET_SIZE],
     cs: BorrowEdgeSet,
-) -> Inserted
-    ensures { λ r. ⌜ (length (now (set .entry)) ≡ maxSetSize → length (now (children .entry)) ≡ maxSetSize → (length (now (set .exit)) ≡ maxSetSize) × (insertedIn (now (set .exit)) r ≡ insertAll (map (G.splice (rowOf (now (parent .entry)) .edge)) (setIn (now (children .entry)) cs .edges)) (setIn (now (set .entry)) s))) ⌝ }
+) -> Filled
+    ensures { λ r. ⌜ (length (now (set .entry)) ≡ maxSetSize → length (now (children .entry)) ≡ maxSetSize → (length (now (set .exit)) ≡ maxSetSize) × (filledIn (now (set .exit)) r ≡ insertAll (map (G.splice (rowOf (now (parent .entry)) .edge)) (setIn (now (children .entry)) cs .edges)) (setIn (now (set .entry)) s))) ⌝ }
 {
     let n = set::len(cs);
     let mut t = s;
@@ -60,10 +62,13 @@ fn splice_one(
             t = u;
             i += 1;
         } else {
-            return r;
+            return Filled {
+                refusal: r.refusal,
+                set: t,
+            };
         }
     }
-    Inserted { refusal: 0, set: t }
+    Filled { refusal: 0, set: t }
 }
 
 // The set with each parent edge spliced with each child edge.
@@ -74,8 +79,8 @@ fn splice_each(
     ps: BorrowEdgeSet,
     children: &[[u32; EDGE_WORDS]; MAX_EDGE_SET_SIZE],
     cs: BorrowEdgeSet,
-) -> Inserted
-    ensures { λ r. ⌜ (length (now (set .entry)) ≡ maxSetSize → length (now (parents .entry)) ≡ maxSetSize → length (now (children .entry)) ≡ maxSetSize → (length (now (set .exit)) ≡ maxSetSize) × (insertedIn (now (set .exit)) r ≡ insertAll (splices (setIn (now (parents .entry)) ps .edges) (setIn (now (children .entry)) cs .edges)) (setIn (now (set .entry)) s))) ⌝ }
+) -> Filled
+    ensures { λ r. ⌜ (length (now (set .entry)) ≡ maxSetSize → length (now (parents .entry)) ≡ maxSetSize → length (now (children .entry)) ≡ maxSetSize → (length (now (set .exit)) ≡ maxSetSize) × (filledIn (now (set .exit)) r ≡ insertAll (splices (setIn (now (parents .entry)) ps .edges) (setIn (now (children .entry)) cs .edges)) (setIn (now (set .entry)) s))) ⌝ }
 {
     let n = set::len(ps);
     let mut t = s;
@@ -90,7 +95,7 @@ fn splice_each(
             return r;
         }
     }
-    Inserted { refusal: 0, set: t }
+    Filled { refusal: 0, set: t }
 }
 
 // A pair's set with the ways through `id`, made in `set`.
@@ -101,9 +106,9 @@ fn spliced(
     parent: RefID,
     id: RefID,
     child: RefID,
-) -> Inserted
+) -> Filled
     requires { ⌜ m ≤ maxEdges ⌝ }
-    ensures { λ r. ⌜ (length (now (set .entry)) ≡ maxSetSize → length (now (edges .entry)) ≡ maxEdges → Neat (edgesIn (now (edges .entry)) m) → (length (now (set .exit)) ≡ maxSetSize) × (insertedIn (now (set .exit)) r ≡ spliceSet (edgesIn (now (edges .entry)) m) (id .0) (parent .0) (child .0))) ⌝ }
+    ensures { λ r. ⌜ (length (now (set .entry)) ≡ maxSetSize → length (now (edges .entry)) ≡ maxEdges → Neat (edgesIn (now (edges .entry)) m) → (length (now (set .exit)) ≡ maxSetSize) × (filledIn (now (set .exit)) r ≡ spliceSet (edgesIn (now (edges .entry)) m) (id .0) (parent .0) (child .0))) ⌝ }
 {
     let mut parents = [[0u32; EDGE_WORDS]; MAX_EDGE_SET_SIZE];
     let mut children = [[0u32; EDGE_WORDS]; MAX_EDGE_SET_SIZE];
@@ -283,19 +288,24 @@ fn splice_all(
 }
 
 // A release with ways through the name.
-fn release_through(edges: &mut [[u32; EDGE_WORDS]; MAX_EDGES], m: usize, id: RefID) -> Replaced
+fn release_through(edges: &mut [[u32; EDGE_WORDS]; MAX_EDGES], m: usize, id: RefID) -> Changed
     requires { ⌜ m ≤ maxEdges ⌝ }
     ensures { λ r. ⌜ (r .edges ≤ maxEdges) × (length (now (edges .entry)) ≡ maxEdges → (ns : List G.Name) → G.wellFormed (graphWith ns (edgesIn (now (edges .entry)) m)) && G.holds ns (id .0) ≡ true → Edits (G.release (graphWith ns (edgesIn (now (edges .entry)) m)) (id .0)) (keep (G.other (id .0)) ns) (now (edges .entry)) m (now (edges .exit)) r) ⌝ }
 {
     let old = *edges;
     let r = splice_all(edges, &old, m, id);
     if r.refusal == 0 {
-        return r;
+        return Changed {
+            refusal: 0,
+            edges: r.edges,
+            blurred: newly_blurred(&old, m, edges, r.edges),
+        };
     }
     *edges = old;
-    Replaced {
+    Changed {
         refusal: r.refusal,
         edges: m,
+        blurred: 0,
     }
 }
 
@@ -394,7 +404,7 @@ fn splice_one_way(
     m: usize,
     id: RefID,
     b: OneWay,
-) -> Replaced
+) -> Changed
     requires { ⌜ m ≤ maxEdges ⌝ }
     ensures { λ r. ⌜ (r .edges ≤ maxEdges) × (length (now (edges .entry)) ≡ maxEdges → (ns : List G.Name) → G.wellFormed (graphWith ns (edgesIn (now (edges .entry)) m)) && G.holds ns (id .0) ≡ true → ways (keep (entering (id .0)) (edgesIn (now (edges .entry)) m)) (keep (leaving (id .0)) (edgesIn (now (edges .entry)) m)) ≡ putOf b → Edits (G.release (graphWith ns (edgesIn (now (edges .entry)) m)) (id .0)) (keep (G.other (id .0)) ns) (now (edges .entry)) m (now (edges .exit)) r) ⌝ }
 {
@@ -403,14 +413,15 @@ fn splice_one_way(
         let x = b.row;
         return add_edge(edges, k, x);
     }
-    Replaced {
+    Changed {
         refusal: 0,
         edges: k,
+        blurred: 0,
     }
 }
 
 // 22 for a path of more than eight labels, then 21 for more than 96 edges in the end.
-fn release_edges(edges: &mut [[u32; EDGE_WORDS]; MAX_EDGES], m: usize, id: RefID) -> Replaced
+fn release_edges(edges: &mut [[u32; EDGE_WORDS]; MAX_EDGES], m: usize, id: RefID) -> Changed
     requires { ⌜ m ≤ maxEdges ⌝ }
     ensures { λ r. ⌜ (r .edges ≤ maxEdges) × (length (now (edges .entry)) ≡ maxEdges → (ns : List G.Name) → G.wellFormed (graphWith ns (edgesIn (now (edges .entry)) m)) && G.holds ns (id .0) ≡ true → Edits (G.release (graphWith ns (edgesIn (now (edges .entry)) m)) (id .0)) (keep (G.other (id .0)) ns) (now (edges .entry)) m (now (edges .exit)) r) ⌝ }
 {
@@ -428,8 +439,8 @@ pub fn release(
     edges: &mut [[u32; EDGE_WORDS]; MAX_EDGES],
     g: BorrowGraph,
     id: RefID,
-) -> Answer
-    ensures { λ r. ⌜ (Tells (now (names .entry)) (now (edges .entry)) g → Answers (G.release (graphIn (now (names .entry)) (now (edges .entry)) g) (id .0)) (now (names .entry)) (now (edges .entry)) g (now (names .exit)) (now (edges .exit)) r) ⌝ }
+) -> Blurring
+    ensures { λ r. ⌜ (Tells (now (names .entry)) (now (edges .entry)) g → Blurs (G.release (graphIn (now (names .entry)) (now (edges .entry)) g) (id .0)) (now (names .entry)) (now (edges .entry)) g (now (names .exit)) (now (edges .exit)) r) ⌝ }
 {
     let m = g.edges;
     let h = refs::holds(names, g.refs, id);
@@ -437,22 +448,25 @@ pub fn release(
         let r = release_edges(edges, m, id);
         if r.refusal == 0 {
             let n = refs::without(names, g.refs, id);
-            return Answer {
+            return Blurring {
                 refusal: 0,
                 graph: BorrowGraph {
                     refs: n,
                     edges: r.edges,
                     formed: true,
                 },
+                blurred: r.blurred,
             };
         }
-        return Answer {
+        return Blurring {
             refusal: r.refusal,
             graph: g,
+            blurred: 0,
         };
     }
-    Answer {
+    Blurring {
         refusal: 9,
         graph: g,
+        blurred: 0,
     }
 }

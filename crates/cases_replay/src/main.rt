@@ -1,5 +1,5 @@
 // Replays the stored list of the oracle's answers, from standard input: oracle/README.md says how it was made, oracle/src/stored.rs its
-// format. Prints how many answers are stored and how many of ours agree, visits too, after a line for each entry that does not.
+// format. Prints how many answers are stored and how many of ours agree, visits and blurred sets too, after a line for each entry that does not.
 use libc::STDIN_FILENO;
 use libc::STDOUT_FILENO;
 use meaning::AREA_WORDS;
@@ -35,15 +35,17 @@ fn same(tail: &[u8], at: usize, w: u32) -> bool
     word(tail, at) == w as usize
 }
 
-fn agrees(listing: &[u8], tail: &[u8; 20]) -> bool {
+fn agrees(listing: &[u8], tail: &[u8; 28]) -> bool {
     let mut area = work_area();
-    let mut answer = [0u32; 4];
+    let mut answer = [0u32; 6];
     let is_answered = reference_safety_verify(listing, &mut area, &mut answer);
     let kind = same(tail, 4, answer[0]);
     let number = same(tail, 8, answer[1]);
     let place = same(tail, 12, answer[2]);
     let visits = same(tail, 16, answer[3]);
-    is_answered & kind & number & place & visits
+    let blurred_low = same(tail, 20, answer[4]);
+    let blurred_high = same(tail, 24, answer[5]);
+    is_answered & kind & number & place & visits & blurred_low & blurred_high
 }
 
 // Prints the number of an entry that differs.
@@ -61,7 +63,7 @@ fn read_word(fd: i32) -> usize
     word(&bytes, 0)
 }
 
-// Reads the next entry: its listing after its length, then whose answer it is and the answer's four words.
+// Reads the next entry: its listing after its length, then whose answer it is and the answer's six words.
 fn next_agrees(fd: i32) -> bool {
     let n = read_word(fd);
     let mut listing = io::large_buffer();
@@ -69,7 +71,7 @@ fn next_agrees(fd: i32) -> bool {
         return false;
     }
     io::read_full(fd, &mut listing[..n]);
-    let mut tail = [0u8; 20];
+    let mut tail = [0u8; 28];
     io::read_full(fd, &mut tail);
     agrees(&listing[..n], &tail)
 }

@@ -1,4 +1,4 @@
--- What the loader prints, in ASCII: `ACCEPT`, `VIOLATION code offset` or `REFUSED number place`, decimal, one line.
+-- What the loader prints, in ASCII: `ACCEPT` and a line `BLURRED n`, `VIOLATION code offset` or `REFUSED number place`, decimal.
 use Prim.Native.Nat.{ℕ, zero, suc, _+_, _/_, _%_}
 use mathlib.Core.Bool.{cond}
 use mathlib.Core.List.{List, [], _∷_, _++_}
@@ -35,10 +35,15 @@ violated = 86 ∷ 73 ∷ 79 ∷ 76 ∷ 65 ∷ 84 ∷ 73 ∷ 79 ∷ 78 ∷ 32 ∷
 abbrev pub refused : List ℕ
 refused = 82 ∷ 69 ∷ 70 ∷ 85 ∷ 83 ∷ 69 ∷ 68 ∷ 32 ∷ []
 
-abbrev pub verdictLine : Verdict → List ℕ
-verdictLine accept = accepted ++ newline
-verdictLine (violation code offset) = violated ++ numbersOf code offset
-verdictLine (refusal number place) = refused ++ numbersOf number place
+-- `BLURRED `
+abbrev pub blurredIs : List ℕ
+blurredIs = 66 ∷ 76 ∷ 85 ∷ 82 ∷ 82 ∷ 69 ∷ 68 ∷ 32 ∷ []
+
+-- A1: "The program prints a further line, `BLURRED n`, after an acceptance"; k is the number of sets blurred
+abbrev pub verdictLine : ℕ → Verdict → List ℕ
+verdictLine k accept = accepted ++ newline ++ blurredIs ++ decimalOf k ++ newline
+verdictLine k (violation code offset) = violated ++ numbersOf code offset
+verdictLine k (refusal number place) = refused ++ numbersOf number place
 
 abbrev pub lineOf : Answered → List ℕ
-lineOf a = verdictLine (a .verdict)
+lineOf a = verdictLine (a .blurred) (a .verdict)

@@ -1,4 +1,4 @@
-// The line that the loader prints for a verdict.
+// What the loader prints for a verdict.
 use absint::Ruling;
 use absint::Verdict;
 use absint::verify;
@@ -9,16 +9,16 @@ ghost use lib.ListN.{length};
 ghost use Rattle.meaning.specs.Area.{cleared};
 ghost use Rattle.meaning.specs.Verify as Whole;
 ghost use Rattle.absint.specs.Models.{verdictOf};
-ghost use Rattle.loader_line.specs.Text.{decimalOf, numbersOf, lineOf};
+ghost use Rattle.loader_line.specs.Text.{accepted, newline, blurredIs, decimalOf, numbersOf, lineOf};
 ghost use Rattle.loader_line.specs.Models.{textOf, Within};
 
-// A line in the making, with room for the longest and more. Bytes from `len` on are free.
+// Lines in the making, with room for the longest and more. Bytes from `len` on are free.
 pub struct Line {
     pub bytes: [u8; 64],
     pub len: usize,
 }
 
-// The line of the verdict on a listing.
+// The lines of the verdict on a listing.
 pub fn answer_line(listing: &[u8], area: &mut [u32]) -> Line
     ensures { λ r. ⌜ (textOf r ≡ lineOf (Whole.verify (length (now (area .entry))) (now (listing .entry)))) × Within r × (now (area .exit) ≡ cleared (now (area .entry))) ⌝ }
 {
@@ -30,7 +30,7 @@ pub fn verdict_line(v: Verdict) -> Line
 {
     let ruling = v.ruling;
     match ruling {
-        Ruling::Accept => put(no_text(), b"ACCEPT\n"),
+        Ruling::Accept => accept_lines(v.blurred),
         Ruling::Violation(code, offset) => put_numbers(
             put(no_text(), b"VIOLATION "),
             code,
@@ -38,6 +38,14 @@ pub fn verdict_line(v: Verdict) -> Line
         ),
         Ruling::Refused(number, place) => put_numbers(put(no_text(), b"REFUSED "), number, place),
     }
+}
+
+// An acceptance has a second line.
+fn accept_lines(blurred: u64) -> Line
+    ensures { λ r. ⌜ (textOf r ≡ accepted ++ newline ++ blurredIs ++ decimalOf blurred ++ newline) × Within r ⌝ }
+{
+    let l = put(no_text(), b"ACCEPT\nBLURRED ");
+    put(put_decimal(l, blurred), b"\n")
 }
 
 fn no_text() -> Line

@@ -10,7 +10,7 @@ use lib.ListN.{length, getD}
 use Rattle.meaning.specs.Answers.{Ans, ok, refuse, andThen, guard, leaves}
 use Rattle.meaning.specs.Lists.{any}
 use Rattle.meaning.specs.References.{Edge, eqEdge, EdgeSet}
-use Rattle.meaning.specs.BorrowGraph.{Graph, release, joinGraphs, setAt, onPairs, held, wellFormed, Name, renamed}
+use Rattle.meaning.specs.BorrowGraph.{Graph, release, joinGraphs, newlyBlurred, blursTo, setAt, onPairs, held, wellFormed, Name, renamed}
 
 -- ---- values
 
@@ -53,21 +53,23 @@ joinLocal value (ref n) g h = refuse 15
 joinLocal (ref n) value g h = refuse 15
 joinLocal (ref n) (ref m) g h = guard (eqb n m) 15 (ok (record { local = ref n; ours = g; theirs = h }))
 
+-- `blurs`: the sets that the releases blurred, in either graph
 pub record Parts : Type 0 where
   pub locals : List Local
   pub ours : Graph
   pub theirs : Graph
+  pub blurs : ℕ
 
 -- "in the Rust's order, before the graphs are joined": local by local, ascending
 unfoldable pub joinLocals : List Local → List Local → Graph → Graph → Ans Parts
-unfolding joinLocal
-joinLocals [] [] g h = ok (record { locals = []; ours = g; theirs = h })
+unfolding joinLocal newlyBlurred
+joinLocals [] [] g h = ok (record { locals = []; ours = g; theirs = h; blurs = 0 })
 joinLocals [] (b ∷ bs) g h = refuse 9
 joinLocals (a ∷ as′) [] g h = refuse 9
 joinLocals (a ∷ as′) (b ∷ bs) g h =
     andThen (joinLocal a b g h) (λ s.
     andThen (joinLocals as′ bs (s .ours) (s .theirs)) (λ r.
-    ok (record { locals = s .local ∷ r .locals; ours = r .ours; theirs = r .theirs })))
+    ok (record { locals = s .local ∷ r .locals; ours = r .ours; theirs = r .theirs; blurs = blursTo g (s .ours) + blursTo h (s .theirs) + r .blurs })))
 
 -- "A join here is the abstract state's."
 unfoldable pub join : State → State → Ans State
@@ -76,6 +78,18 @@ join s o =
     andThen (joinLocals (s .locals) (o .locals) (s .graph) (o .graph)) (λ r.
     andThen (joinGraphs (r .ours) (r .theirs)) (λ g.
     ok (record { locals = r .locals; graph = g })))
+
+-- What a join passes up for A1's sum: what its releases, from either state, and the graphs' join pass up. A refused one passes up none.
+abbrev pub passed : Ans ℕ → ℕ
+passed (ok n) = n
+passed (refuse r) = 0
+
+unfoldable pub joinBlurs : State → State → ℕ
+unfolding joinLocals joinGraphs newlyBlurred
+joinBlurs s o =
+    passed (andThen (joinLocals (s .locals) (o .locals) (s .graph) (o .graph)) (λ r.
+    andThen (joinGraphs (r .ours) (r .theirs)) (λ g.
+    ok (r .blurs + blursTo (r .ours) g))))
 
 -- ---- what a join changed
 

@@ -21,19 +21,23 @@ pub record Routine : Type 0 where
 unfoldable pub instrsOf : Block → List Instr → List Instr
 instrsOf b is = take (suc (b .exit - b .entry)) (drop (b .entry) is)
 
--- "here each block starts with an empty stack"; "Frame root is name L; fresh names start at L + 1 in each block"
-abbrev pub startMachine : ℕ → State → Machine
-startMachine l s = record { state = record { locals = s .locals; graph = s .graph; next = suc l; root = l }; stack = [] }
+-- "Frame root is name L; fresh names start at L + 1 in each block"; k sets were blurred before
+abbrev pub startWith : ℕ → ℕ → State → Running
+startWith k l s = record { locals = s .locals; graph = s .graph; next = suc l; root = l; blurs = k }
 
--- 16 has the "exit of the block just run" for its place
-abbrev pub renamedEnd : ℕ → Ans State → Result State
-renamedEnd exit (ok t) = Result.ended t
-renamedEnd exit (refuse n) = Result.refused n exit
+-- "here each block starts with an empty stack"
+abbrev pub startMachine : ℕ → State → Machine
+startMachine l s = record { state = startWith 0 l s; stack = [] }
+
+-- 16 has the "exit of the block just run" for its place; k sets were blurred in the visit
+abbrev pub renamedEnd : ℕ → ℕ → Ans State → Result State
+renamedEnd k exit (ok t) = Result.ended k t
+renamedEnd k exit (refuse n) = Result.refused n exit
 
 -- "its end state, renamed, goes to its successors": nothing is renamed where there is none
 abbrev pub endOf : Block → List ℕ → Running → Result State
-endOf b [] r = Result.returned
-endOf b (e ∷ es) r = renamedEnd (b .exit) (canonical (r .root) (record { locals = r .locals; graph = r .graph }))
+endOf b [] r = Result.returned (r .blurs)
+endOf b (e ∷ es) r = renamedEnd (r .blurs) (b .exit) (canonical (r .root) (record { locals = r .locals; graph = r .graph }))
 
 -- "14: operands left at block end", before 16
 abbrev pub finish : Block → Running → List Operand → Result State
@@ -43,7 +47,7 @@ finish b r (v ∷ vs) = Result.refused 14 (b .exit)
 -- the outcome of the instruction at this offset, which is the place of what it refuses: done, the block goes on
 abbrev pub settle : ℕ → Outcome Machine → (Machine → Result State) → Result State
 settle o (done m) k = k m
-settle o (violated c) k = Result.violated c o
+settle o (violated n c) k = Result.violated n c o
 settle o (refused n) k = Result.refused n o
 
 -- the instructions in order, the first one at this offset (the Rust's execute_block)

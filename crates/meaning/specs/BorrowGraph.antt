@@ -6,7 +6,7 @@ use mathlib.Core.Option.{Option, none, some}
 use lib.Dec.{eqb, ltb, leb}
 use lib.ListN.{length, drop}
 use Rattle.meaning.specs.Limits.{maxNames, maxEdges, u16End}
-use Rattle.meaning.specs.Answers.{Ans, ok, andThen, guard}
+use Rattle.meaning.specs.Answers.{Ans, ok, refuse, andThen, guard}
 use Rattle.meaning.specs.Lists.{any, keep, all, each, empty}
 use Rattle.meaning.specs.References.{Cmp, orderBy, Edge, EdgeSet, emptySet, setOk, insert, covered, prefix}
 
@@ -176,6 +176,22 @@ sameNames g h = all (λ m. held h (m .id)) (g .names) && all (λ m. held g (m .i
 unfoldable pub joinGraphs : Graph → Graph → Ans Graph
 unfolding wellFormed sameNames unmatched addAll limit
 joinGraphs g h = guard ((wellFormed g && wellFormed h) && sameNames g h) 9 (andThen (addAll (unmatched g h) g) limit)
+
+-- ---- the sets that a call blurs
+
+-- A1: "Borrow, release and join pass up the number of sets blurred just now": blurred in h, and not in g before the call. (In a
+-- well-formed graph a blurred set is one edge, so its edges are counted; of another graph no call is answered.)
+unfoldable pub newlyBlurred : List GEdge → List GEdge → ℕ
+unfolding setAt
+newlyBlurred es fs = length (keep (λ x. x .blurred && not (setAt (x .parent) (x .child) es .blurred)) fs)
+
+abbrev pub blursTo : Graph → Graph → ℕ
+blursTo g h = newlyBlurred (g .edges) (h .edges)
+
+-- what a call on g passes up by its answer: a refused one none
+abbrev pub blursBy : Graph → Ans Graph → ℕ
+blursBy g (ok h) = blursTo g h
+blursBy g (refuse n) = 0
 
 -- ---- a new name, and borrows
 

@@ -1,36 +1,42 @@
 -- The running state of a block, and what each instruction does to it (abstract_state.rs). Document 01: "Copy: strong empty path. Element
 -- borrow and call: weak empty path. Field: strong. Local: strong from the root. Resource: weak from the root."
-use Prim.Native.Nat.{ℕ, suc}
+use Prim.Native.Nat.{ℕ, suc, _+_, min}
 use mathlib.Core.Bool.{Bool, not, _||_, _&&_, false, cond, true}
 use mathlib.Core.List.{List, [], _∷_}
 use mathlib.Core.Option.{none, Option, some}
 use lib.Dec.{ltb, eqb}
 use lib.ListN.{set, getD}
-use Rattle.meaning.specs.Limits.{COPYLOC-EXISTS-BORROW, MOVELOC-EXISTS-BORROW, STLOC-UNSAFE-TO-DESTROY, FREEZEREF-EXISTS-MUTABLE-BORROW, READREF-EXISTS-MUTABLE-BORROW, WRITEREF-EXISTS-BORROW, BORROWLOC-EXISTS-BORROW, BORROWFIELD-EXISTS-MUTABLE-BORROW, GLOBAL-REFERENCE, VEC-UPDATE, VEC-BORROW-ELEMENT, CALL-BORROWED-MUTABLE-REFERENCE, UNSAFE-RET, RET-BORROWED-MUTABLE-REFERENCE, u16End}
+use Rattle.meaning.specs.Limits.{COPYLOC-EXISTS-BORROW, MOVELOC-EXISTS-BORROW, STLOC-UNSAFE-TO-DESTROY, FREEZEREF-EXISTS-MUTABLE-BORROW, READREF-EXISTS-MUTABLE-BORROW, WRITEREF-EXISTS-BORROW, BORROWLOC-EXISTS-BORROW, BORROWFIELD-EXISTS-MUTABLE-BORROW, GLOBAL-REFERENCE, VEC-UPDATE, VEC-BORROW-ELEMENT, CALL-BORROWED-MUTABLE-REFERENCE, UNSAFE-RET, RET-BORROWED-MUTABLE-REFERENCE, u16End, u32Most}
 use Rattle.meaning.specs.Answers.{Outcome, done, needs, then, lift, Ans, refused, fails}
 use Rattle.meaning.specs.Lists.{any, keep}
 use Rattle.meaning.specs.Labels.{fieldLabel, localLabel, globalLabel}
-use Rattle.meaning.specs.BorrowGraph.{Graph, borrowed, mutablyBorrowed, isMutable, held, wellFormed, newName, borrowStrong, borrowWeak, release, fullyBorrowed}
+use Rattle.meaning.specs.BorrowGraph.{Graph, blursTo, borrowed, mutablyBorrowed, isMutable, held, wellFormed, newName, borrowStrong, borrowWeak, release, fullyBorrowed}
 use Rattle.meaning.specs.AbstractState.{Local, Operand, nonRef, reference, Token, ofValue, ofRef, absent, value, ref}
 
--- "Frame root is name L; fresh names start at L + 1 in each block." `root` is L, `next` the next fresh name.
+-- "Frame root is name L; fresh names start at L + 1 in each block." `root` is L, `next` the next fresh name. `blurs`: how many sets the graph
+-- calls of this visit have blurred so far.
 pub record Running : Type 0 where
   pub locals : List Local
   pub graph : Graph
   pub next : ℕ
   pub root : ℕ
+  pub blurs : ℕ
 
 -- what an entry point answers that makes an operand
 pub record Answer : Type 0 where
   pub state : Running
   pub operand : Operand
 
--- the state with another graph, or with another local
+-- a count of 32 bits, which stays at the most that they hold; no visit comes near it (Theorems, `few-blurs`)
+abbrev pub countOn : ℕ → ℕ → ℕ
+countOn n k = min (n + k) u32Most
+
+-- the state with the graph that a call left, or with another local
 abbrev pub withGraph : Running → Graph → Running
-withGraph r g = record { locals = r .locals; graph = g; next = r .next; root = r .root }
+withGraph r g = record { locals = r .locals; graph = g; next = r .next; root = r .root; blurs = countOn (r .blurs) (blursTo (r .graph) g) }
 
 abbrev pub withLocal : Running → ℕ → Local → Running
-withLocal r i v = record { locals = set (r .locals) i v; graph = r .graph; next = r .next; root = r .root }
+withLocal r i v = record { locals = set (r .locals) i v; graph = r .graph; next = r .next; root = r .root; blurs = r .blurs }
 
 -- done, with an operand
 abbrev pub answer : Running → Operand → Outcome Answer
@@ -57,7 +63,7 @@ unfoldable pub newRef : Bool → Running → Outcome Running
 newRef m r =
     needs (ltb (r .next) u16End) 9
     (then (lift (newName (r .graph) (r .next) m)) (λ g.
-    done (record { locals = r .locals; graph = g; next = suc (r .next); root = r .root })))
+    done (record { locals = r .locals; graph = g; next = suc (r .next); root = r .root; blurs = r .blurs })))
 
 -- the running state after a graph call
 abbrev pub onGraph : Running → Ans Graph → Outcome Running
@@ -104,7 +110,7 @@ releaseValue (reference n) r = releaseName n r
 -- "12: copy or move of an absent local." 101, if the value is mutably borrowed.
 abbrev pub copyOf : Running → ℕ → Local → Outcome Answer
 copyOf r i absent = refused 12
-copyOf r i value = needsName (r .graph) (r .root) (fails (mutablyBorrowed (r .graph) (r .root) (some (localLabel i))) COPYLOC-EXISTS-BORROW (answer r nonRef))
+copyOf r i value = needsName (r .graph) (r .root) (fails (r .blurs) (mutablyBorrowed (r .graph) (r .root) (some (localLabel i))) COPYLOC-EXISTS-BORROW (answer r nonRef))
 copyOf r i (ref n) =
     needsName (r .graph) n
     (then (newRef (isMutable (r .graph) n) r) (λ s.
@@ -118,7 +124,7 @@ copyLoc i r = copyOf r i (getD (r .locals) i absent)
 -- "12: copy or move of an absent local." 102, if the value is borrowed.
 abbrev pub moveOf : Running → ℕ → Local → Outcome Answer
 moveOf r i absent = refused 12
-moveOf r i value = needsName (r .graph) (r .root) (fails (borrowed (r .graph) (r .root) (some (localLabel i))) MOVELOC-EXISTS-BORROW (answer (withLocal r i absent) nonRef))
+moveOf r i value = needsName (r .graph) (r .root) (fails (r .blurs) (borrowed (r .graph) (r .root) (some (localLabel i))) MOVELOC-EXISTS-BORROW (answer (withLocal r i absent) nonRef))
 moveOf r i (ref n) = answer (withLocal r i absent) (reference n)
 
 -- MoveLoc
@@ -133,7 +139,7 @@ localOf (reference n) = ref n
 -- what becomes of the old content, once the new one is stored: 103, if a value is borrowed; a reference is released
 abbrev pub overwrite : ℕ → Running → Local → Outcome Running
 overwrite i r absent = done r
-overwrite i r value = needsName (r .graph) (r .root) (fails (borrowed (r .graph) (r .root) (some (localLabel i))) STLOC-UNSAFE-TO-DESTROY (done r))
+overwrite i r value = needsName (r .graph) (r .root) (fails (r .blurs) (borrowed (r .graph) (r .root) (some (localLabel i))) STLOC-UNSAFE-TO-DESTROY (done r))
 overwrite i r (ref n) = releaseName n r
 
 -- StLoc
@@ -145,7 +151,7 @@ unfoldable pub freezeRef : ℕ → Running → Outcome Answer
 freezeRef n r =
     needsName (r .graph) n
     (needs (isMutable (r .graph) n) 13
-    (fails (not (freezable (r .graph) n none)) FREEZEREF-EXISTS-MUTABLE-BORROW
+    (fails (r .blurs) (not (freezable (r .graph) n none)) FREEZEREF-EXISTS-MUTABLE-BORROW
     (then (newRef false r) (λ s.
     then (addCopy n (r .next) s) (λ t.
     then (releaseName n t) (λ u.
@@ -158,9 +164,9 @@ comparison nonRef (reference n) r = refused 11
 comparison (reference m) nonRef r = refused 11
 comparison (reference m) (reference n) r =
     needsName (r .graph) m
-    (fails (not (readable (r .graph) m none)) READREF-EXISTS-MUTABLE-BORROW
+    (fails (r .blurs) (not (readable (r .graph) m none)) READREF-EXISTS-MUTABLE-BORROW
     (needsName (r .graph) n
-    (fails (not (readable (r .graph) n none)) READREF-EXISTS-MUTABLE-BORROW
+    (fails (r .blurs) (not (readable (r .graph) n none)) READREF-EXISTS-MUTABLE-BORROW
     (then (releaseName m r) (λ s.
     then (releaseName n s) (λ t.
     answer t nonRef))))))
@@ -169,7 +175,7 @@ comparison (reference m) (reference n) r =
 unfoldable pub readRef : ℕ → Running → Outcome Answer
 readRef n r =
     needsName (r .graph) n
-    (fails (not (readable (r .graph) n none)) READREF-EXISTS-MUTABLE-BORROW
+    (fails (r .blurs) (not (readable (r .graph) n none)) READREF-EXISTS-MUTABLE-BORROW
     (then (releaseName n r) (λ s.
     answer s nonRef)))
 
@@ -178,14 +184,14 @@ unfoldable pub writeRef : ℕ → Running → Outcome Running
 writeRef n r =
     needsName (r .graph) n
     (needs (isMutable (r .graph) n) 13
-    (fails (not (writable (r .graph) n)) WRITEREF-EXISTS-BORROW
+    (fails (r .blurs) (not (writable (r .graph) n)) WRITEREF-EXISTS-BORROW
     (releaseName n r)))
 
 -- "A mutable local borrow is never a violation." 107, if an immutable one meets a mutable borrow
 unfoldable pub borrowLoc : Bool → ℕ → Running → Outcome Answer
 borrowLoc m i r =
     needsName (r .graph) (r .root)
-    (fails (not m && mutablyBorrowed (r .graph) (r .root) (some (localLabel i))) BORROWLOC-EXISTS-BORROW
+    (fails (r .blurs) (not m && mutablyBorrowed (r .graph) (r .root) (some (localLabel i))) BORROWLOC-EXISTS-BORROW
     (then (newRef m r) (λ s.
     then (addLocalBorrow i (r .next) s) (λ t.
     answer t (reference (r .next))))))
@@ -194,7 +200,7 @@ borrowLoc m i r =
 unfoldable pub borrowField : Bool → ℕ → ℕ → Running → Outcome Answer
 borrowField m n f r =
     needsName (r .graph) n
-    (fails (cond m (fullyBorrowed (r .graph) n) (not (readable (r .graph) n (some (fieldLabel f))))) BORROWFIELD-EXISTS-MUTABLE-BORROW
+    (fails (r .blurs) (cond m (fullyBorrowed (r .graph) n) (not (readable (r .graph) n (some (fieldLabel f))))) BORROWFIELD-EXISTS-MUTABLE-BORROW
     (then (newRef m r) (λ s.
     then (addFieldBorrow n f (r .next) s) (λ t.
     then (releaseName n t) (λ u.
@@ -204,14 +210,14 @@ borrowField m n f r =
 unfoldable pub borrowGlobal : Bool → ℕ → Running → Outcome Answer
 borrowGlobal m i r =
     needsName (r .graph) (r .root)
-    (fails ((m && borrowed (r .graph) (r .root) (some (globalLabel i))) || mutablyBorrowed (r .graph) (r .root) (some (globalLabel i))) GLOBAL-REFERENCE
+    (fails (r .blurs) ((m && borrowed (r .graph) (r .root) (some (globalLabel i))) || mutablyBorrowed (r .graph) (r .root) (some (globalLabel i))) GLOBAL-REFERENCE
     (then (newRef m r) (λ s.
     then (addResourceBorrow i (r .next) s) (λ t.
     answer t (reference (r .next))))))
 
 -- MoveFrom: 109, if the resource is borrowed
 unfoldable pub moveFrom : ℕ → Running → Outcome Answer
-moveFrom i r = needsName (r .graph) (r .root) (fails (borrowed (r .graph) (r .root) (some (globalLabel i))) GLOBAL-REFERENCE (answer r nonRef))
+moveFrom i r = needsName (r .graph) (r .root) (fails (r .blurs) (borrowed (r .graph) (r .root) (some (globalLabel i))) GLOBAL-REFERENCE (answer r nonRef))
 
 -- "11: a value where a reference is needed, or the reverse."
 abbrev pub needRef : {A : Type 0} → Operand → (ℕ → Outcome A) → Outcome A
@@ -223,20 +229,20 @@ needValue nonRef k = k
 needValue (reference n) k = refused 11
 
 -- "13: .. mutable vector step on an immutable reference"; the violation c, if it is borrowed. An immutable step tests nothing.
-abbrev pub vectorTest : {A : Type 0} → Bool → Graph → ℕ → ℕ → Outcome A → Outcome A
-vectorTest true g n c k = needs (isMutable g n) 13 (fails (not (writable g n)) c k)
-vectorTest false g n c k = k
+abbrev pub vectorTest : {A : Type 0} → Bool → Running → ℕ → ℕ → Outcome A → Outcome A
+vectorTest true r n c k = needs (isMutable (r .graph) n) 13 (fails (r .blurs) (not (writable (r .graph) n)) c k)
+vectorTest false r n c k = k
 
 -- VecLen, PushBack, PopBack, Swap
 unfoldable pub vectorOp : Operand → Bool → Running → Outcome Running
-vectorOp v m r = needRef v (λ n. needsName (r .graph) n (vectorTest m (r .graph) n VEC-UPDATE (releaseName n r)))
+vectorOp v m r = needRef v (λ n. needsName (r .graph) n (vectorTest m r n VEC-UPDATE (releaseName n r)))
 
 -- the borrow of a vector's element
 unfoldable pub vectorElementBorrow : Operand → Bool → Running → Outcome Answer
 vectorElementBorrow v m r =
     needRef v (λ n.
     needsName (r .graph) n
-    (vectorTest m (r .graph) n VEC-BORROW-ELEMENT
+    (vectorTest m r n VEC-BORROW-ELEMENT
     (then (newRef m r) (λ s.
     then (addBorrow n (r .next) s) (λ t.
     then (releaseName n t) (λ u.
@@ -281,11 +287,11 @@ borrowFrom (p ∷ ps) c r = then (addBorrow p c r) (λ s. borrowFrom ps c s)
 -- mutable references that are borrowed must not be handed over: the violation c
 unfoldable pub handOver : {A : Type 0} → List ℕ → ℕ → Running → Outcome A → Outcome A
 handOver [] c r k = k
-handOver (n ∷ ns) c r k = needsName (r .graph) n (fails (isMutable (r .graph) n && not (writable (r .graph) n)) c (handOver ns c r k))
+handOver (n ∷ ns) c r k = needsName (r .graph) n (fails (r .blurs) (isMutable (r .graph) n && not (writable (r .graph) n)) c (handOver ns c r k))
 
 -- "Acquired numbers: any order, repeats allowed": 109, if one of the resources is borrowed
 unfoldable pub notAcquired : {A : Type 0} → List ℕ → Running → Outcome A → Outcome A
-notAcquired is r k = needsName (r .graph) (r .root) (fails (any (λ i. borrowed (r .graph) (r .root) (some (globalLabel i))) is) GLOBAL-REFERENCE k)
+notAcquired is r k = needsName (r .graph) (r .root) (fails (r .blurs) (any (λ i. borrowed (r .graph) (r .root) (some (globalLabel i))) is) GLOBAL-REFERENCE k)
 
 -- a state, and the values returned
 pub record Answers : Type 0 where
@@ -323,6 +329,6 @@ unfoldable pub ret : List Operand → Running → Outcome Running
 ret values r =
     then (releaseAll (ascend (localNames (r .locals))) r) (λ s.
     needsName (s .graph) (s .root)
-    (fails (borrowed (s .graph) (s .root) none) UNSAFE-RET
+    (fails (s .blurs) (borrowed (s .graph) (s .root) none) UNSAFE-RET
     (handOver (operandNames values) RET-BORROWED-MUTABLE-REFERENCE s
     (done s))))

@@ -5,6 +5,8 @@ pub mod Array
 pub mod Bare
 pub mod Base
 pub mod Block
+pub mod Blurs
+pub mod BlursSum
 pub mod Borrow
 pub mod Call
 pub mod CallCases
@@ -14,6 +16,7 @@ pub mod Change
 pub mod Cover
 pub mod Cut
 pub mod First
+pub mod Few
 pub mod Fit
 pub mod Forms
 pub mod Graph
@@ -32,6 +35,7 @@ pub mod Put
 pub mod Remap
 pub mod Rename
 pub mod RenameStep
+pub mod Report
 pub mod Run
 pub mod Running
 pub mod Search

@@ -48,6 +48,10 @@ maxLabels = 8
 abbrev pub u16End : ℕ
 u16End = 65536
 
+-- the most that 32 bits hold
+abbrev pub u32Most : ℕ
+u32Most = 4294967295
+
 -- ---- the work area: "under 16,384 32-bit words" is refusal 7; 16 blocks of 1,024
 
 abbrev pub areaWords : ℕ

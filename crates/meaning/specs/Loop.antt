@@ -20,12 +20,20 @@ mostVisits b l = b * (1 + b * mostChanges l)
 -- ---- what the loop works on
 
 -- What running a block answers. `ended`: "its end state, renamed", for its successors; `returned`: the block ended and has no successors,
--- so its state goes to nobody; a violation, code and offset; a refusal, number and place.
+-- so its state goes to nobody; a violation, code and offset; a refusal, number and place. The first three have in front how many sets the
+-- visit blurred.
 pub data Result (St : Type 0) : Type 0 where
-  ended : St → Result St
-  returned : Result St
-  violated : ℕ → ℕ → Result St
+  ended : ℕ → St → Result St
+  returned : ℕ → Result St
+  violated : ℕ → ℕ → ℕ → Result St
   refused : ℕ → ℕ → Result St
+
+-- what a visit passes up: where a refusal ends it, none
+abbrev pub passedUp : {St : Type 0} → Result St → ℕ
+passedUp (ended k t) = k
+passedUp (returned k) = k
+passedUp (violated k c o) = k
+passedUp (refused n p) = 0
 
 -- "entry u16, exit u16, n u8 (0–2), n successors u16": successors by their entries
 pub record Block : Type 0 where
@@ -51,11 +59,13 @@ pub data Next : Type 0 where
   at : ℕ → Next
   stopped : ℕ → ℕ → Next
 
--- a run so far; `trail`: the positions of the blocks visited, the last one first
+-- A run so far; `trail`: the positions of the blocks visited, the last one first; `blurs` "sums these over the whole run": the sets blurred in
+-- all visits and joins. What is refused passes up none.
 pub record Run (St : Type 0) : Type 0 where
   pub slots : List (Slot St)
   pub next : Next
   pub trail : List ℕ
+  pub blurs : ℕ
 
 -- "each run of a block from its kept state, failed ones and one ended by a refusal too"
 abbrev pub visits : {St : Type 0} → Run St → ℕ
@@ -78,7 +88,7 @@ noBlock = record { entry = 0; exit = 0; successors = [] }
 abbrev pub blank : {St : Type 0} → Slot St
 blank = record { kept = none; status = fine; changes = 0 }
 
-module _ (St : Type 0) (join : St → St → Ans St) (changed : St → St → Bool) (exec : ℕ → St → Result St) (blocks : List Block) where
+module _ (St : Type 0) (join : St → St → Ans St) (joinBlurs : St → St → ℕ) (changed : St → St → Bool) (exec : ℕ → St → Result St) (blocks : List Block) where
   -- ---- the end state t of block b goes to the successor with entry e, at position j; n is next so far
 
   -- "Next is the last listed successor by a back edge whose kept state this changed, else the block listed after." "A back edge goes to an
@@ -108,6 +118,20 @@ module _ (St : Type 0) (join : St → St → Ans St) (changed : St → St → Bo
   propagate b t [] a = a
   propagate b t (e ∷ es) a = propagate b t es (toSuccessor b t e (a .slots) (a .next))
 
+  -- the sets that its joins blur: that with the kept state of the successor, if it has one
+  abbrev pub keptBlurs : St → Option St → ℕ
+  keptBlurs t none = 0
+  keptBlurs t (some s) = joinBlurs s t
+
+  abbrev pub successorBlurs : St → ℕ → List (Slot St) → Next → ℕ
+  successorBlurs t e ss (at n) = keptBlurs t (getD ss (position blocks e) blank .kept)
+  successorBlurs t e ss (stopped r p) = 0
+
+  unfoldable pub propagateBlurs : Block → St → List ℕ → Propagation St → ℕ
+  unfolding position
+  propagateBlurs b t [] a = 0
+  propagateBlurs b t (e ∷ es) a = successorBlurs t e (a .slots) (a .next) + propagateBlurs b t es (toSuccessor b t e (a .slots) (a .next))
+
   -- ---- one turn
 
   -- the block at position i gets the status x
@@ -116,18 +140,19 @@ module _ (St : Type 0) (join : St → St → Ans St) (changed : St → St → Bo
 
   -- one visit; "After a violation the block listed after it is next."
   abbrev pub afterBlock : Run St → ℕ → Result St → Run St
-  afterBlock r i (ended t) =
+  afterBlock r i (ended k t) =
       let b : Block = getD blocks i noBlock in
-      let a : Propagation St = propagate b t (b .successors) (record { slots = mark (r .slots) i fine; next = at (suc i) }) in
-      record { slots = a .slots; next = a .next; trail = i ∷ r .trail }
-  afterBlock r i returned = record { slots = mark (r .slots) i fine; next = at (suc i); trail = i ∷ r .trail }
-  afterBlock r i (violated c o) = record { slots = mark (r .slots) i (failed c o); next = at (suc i); trail = i ∷ r .trail }
-  afterBlock r i (refused n p) = record { slots = r .slots; next = stopped n p; trail = i ∷ r .trail }
+      let first : Propagation St = record { slots = mark (r .slots) i fine; next = at (suc i) } in
+      let a : Propagation St = propagate b t (b .successors) first in
+      record { slots = a .slots; next = a .next; trail = i ∷ r .trail; blurs = r .blurs + k + propagateBlurs b t (b .successors) first }
+  afterBlock r i (returned k) = record { slots = mark (r .slots) i fine; next = at (suc i); trail = i ∷ r .trail; blurs = r .blurs + k }
+  afterBlock r i (violated k c o) = record { slots = mark (r .slots) i (failed c o); next = at (suc i); trail = i ∷ r .trail; blurs = r .blurs + k }
+  afterBlock r i (refused n p) = record { slots = r .slots; next = stopped n p; trail = i ∷ r .trail; blurs = r .blurs }
 
   -- "A next block without a kept state is passed over; that is no visit, and the block listed after it is next. Otherwise it runs from its
   -- kept state: one visit."
   abbrev pub visitBlock : Run St → ℕ → Option St → Run St
-  visitBlock r i none = record { slots = r .slots; next = at (suc i); trail = r .trail }
+  visitBlock r i none = record { slots = r .slots; next = at (suc i); trail = r .trail; blurs = r .blurs }
   visitBlock r i (some s) = afterBlock r i (exec i s)
 
   -- "The run ends by itself where no block is next or a refusal ends it.": then a turn does nothing
@@ -136,7 +161,7 @@ module _ (St : Type 0) (join : St → St → Ans St) (changed : St → St → Bo
   turnAt r (stopped n p) = r
 
   unfoldable pub turn : Run St → Run St
-  unfolding propagate
+  unfolding propagate propagateBlurs
   turn r = turnAt r (r .next)
 
   unfoldable pub turns : ℕ → Run St → Run St
@@ -152,7 +177,7 @@ module _ (St : Type 0) (join : St → St → Ans St) (changed : St → St → Bo
   -- the run from the first state s, with a budget of turns; the first listed block "is next"
   unfoldable pub run : ℕ → St → Run St
   unfolding turns startSlots
-  run f s = turns f (record { slots = startSlots blocks s; next = at 0; trail = [] })
+  run f s = turns f (record { slots = startSlots blocks s; next = at 0; trail = []; blurs = 0 })
 
   -- no block is next, or a refusal ended the run
   abbrev pub endedAt : Next → Bool

@@ -108,6 +108,19 @@ insert s e =
     (cond (has e (s .edges)) (ok s) (ok (record { edges = put e (s .edges); blurred = false })))
     (refuse 22)))
 
+-- A1: "An insert should report one of four outcomes: added, already there, blurred just now, blurred before."
+pub data Report : Type 0 where
+  added alreadyThere blurredNow blurredBefore : Report
+
+unfoldable pub report : EdgeSet → Edge → Ans Report
+unfolding has
+report s e =
+    cond (s .blurred) (ok blurredBefore)
+    (cond (leb maxSetSize (length (s .edges))) (ok blurredNow)
+    (cond (leb (length (e .path)) maxLabels)
+    (cond (has e (s .edges)) (ok alreadyThere) (ok added))
+    (refuse 22)))
+
 -- an edge whose path has at most 8 labels, or the refusal 22
 unfoldable pub fitting : Edge → Ans Edge
 fitting e = guard (leb (length (e .path)) maxLabels) 22 (ok e)
@@ -117,6 +130,12 @@ unfoldable pub offer : EdgeSet → Ans Edge → Ans EdgeSet
 unfolding insert
 offer s (ok e) = insert s e
 offer s (refuse n) = cond (s .blurred) (ok s) (cond (leb maxSetSize (length (s .edges))) (ok blur) (refuse n))
+
+-- what that reports
+unfoldable pub offerReport : EdgeSet → Ans Edge → Ans Report
+unfolding report
+offerReport s (ok e) = report s e
+offerReport s (refuse n) = cond (s .blurred) (ok blurredBefore) (cond (leb maxSetSize (length (s .edges))) (ok blurredNow) (refuse n))
 
 -- ---- a set as a well-formed graph has it (or the empty one)
 

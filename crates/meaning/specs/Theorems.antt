@@ -1,21 +1,23 @@
 -- The headline statements about the definitions, in one file. The proofs are in Laws.
-use Prim.Native.Nat.{ℕ, _≤_}
+use Prim.Native.Nat.{ℕ, _≤_, _*_}
 use native.Mathlib.Omega.{arith}
 use mathlib.Core.Bool.{true}
 use mathlib.Core.List.{List}
 use mathlib.Core.Logic.{_≢_}
+use mathlib.Core.Option.{some}
 use mathlib.Core.Path.{_≡_}
 use lib.ListN.{length, getD}
 use Rattle.meaning.specs.Answers.{ok}
 use Rattle.meaning.specs.Lists.{all}
 use Rattle.meaning.specs.References.{covered}
 use Rattle.meaning.specs.BorrowGraph.{setAt}
-use Rattle.meaning.specs.AbstractState.{State, Form, Parts, joinLocals, join, changed, changes}
+use Rattle.meaning.specs.AbstractState.{State, Form, Parts, joinLocals, join, changed, changes, joinBlurs}
 use Rattle.meaning.specs.Blocks.{Routine, exec}
-use Rattle.meaning.specs.Loop.{mostChanges, mostVisits, visits, blank, hasEnded, refusal}
+use Rattle.meaning.specs.Loop.{mostChanges, mostVisits, visits, passedUp, blank, hasEnded, refusal}
 use Rattle.meaning.specs.Listing.{read, readListing}
 use Rattle.meaning.specs.Verify.{runWith, runOf, verify}
 use Rattle.meaning.specs.Marked as Marked
+use Rattle.meaning.specs.Laws.Few.{exec-few}
 use Rattle.meaning.specs.Laws.Listing.{accepted-promised}
 use Rattle.meaning.specs.Laws.Promised.{promised}
 use Rattle.meaning.specs.Laws.State.{Forms}
@@ -48,9 +50,11 @@ pub record Bounded (s : List ℕ) (q : Routine) : Type 0 where
   -- no kept state changes more than 11 × L × L + L times
   pub few-changes : (budget j : ℕ) → getD (runWith q budget .slots) j blank .changes ≤ mostChanges (q .locals)
   -- the run ends by itself: no block is next, or a refusal ended it
-  pub ends : hasEnded State join changed (exec q) (q .blocks) (runOf q) ≡ true
+  pub ends : hasEnded State join joinBlurs changed (exec q) (q .blocks) (runOf q) ≡ true
   -- every larger budget gives the same run
   pub same : (budget : ℕ) → mostVisits (length (q .blocks)) (q .locals) ≤ budget → runWith q budget ≡ runOf q
+  -- A visit from a state that any run keeps passes up at most 512 × 144 × 96 blurred sets: less than `u32Most`, so `countOn` only adds.
+  pub few-blurs : (budget j : ℕ) (k : State) → getD (runWith q budget .slots) j blank .kept ≡ some k → passedUp (exec q j k) ≤ 512 * (144 * 96)
   -- the visits that are answered, for an area of any length
   pub answered : (words : ℕ) → verify words s .visits ≤ mostVisits (length (q .blocks)) (q .locals)
   -- the caller's refusals 8, 9 and 23 never come out
@@ -65,6 +69,7 @@ demand3 s q e =
       few-changes = Runs.run-changes-bound q p;
       ends = Runs.ends-itself q p (mostVisits (length (q .blocks)) (q .locals)) (omega arith);
       same = Runs.same-run q p;
+      few-blurs = λ f j k h. exec-few q p j k (Runs.kept-strong q p f j k h);
       answered = Runs.answer-visits s q e;
       refused = Runs.answer-refusals s q e;
     }

@@ -29,7 +29,7 @@ abbrev pub board : List ℕ → List ℕ → List (List ℕ) → List ℕ → Ma
 board ls ns es ws m = record { words = words ls ns es (m .state); stack = ws; depth = m .depth }
 
 abbrev pub machineOf : Board → Outcome T.Machine
-machineOf a = halted (a .words .state .violation) (a .words .state .refusal) (with (stackIn (a .stack) (a .depth)) (runningOf (a .words)))
+machineOf a = halted (a .words .state .blurred) (a .words .state .violation) (a .words .state .refusal) (with (stackIn (a .stack) (a .depth)) (runningOf (a .words)))
 
 -- that the arrays have their lengths, and the graph's struct tells the truth of them
 pub record Ready (a : Board) : Type 0 where
@@ -80,13 +80,13 @@ stateIn l a = record { locals = localsIn (a .locals) l; graph = runningOf a .gra
 
 -- the end of a block with these successors: its state is for them
 abbrev pub endFor : List ℕ → Running → Result State
-endFor [] r = Result.returned
-endFor (e ∷ es) r = Result.ended (record { locals = r .locals; graph = r .graph })
+endFor [] r = Result.returned (r .blurs)
+endFor (e ∷ es) r = Result.ended (r .blurs) (record { locals = r .locals; graph = r .graph })
 
 -- an outcome at a place
 abbrev pub placed : List ℕ → ℕ → Outcome Running → Result State
 placed es p (done r) = endFor es r
-placed es p (violated c) = Result.violated c p
+placed es p (violated k c) = Result.violated k c p
 placed es p (refused n) = Result.refused n p
 
 -- what a run of block b came to, that left these words and this place

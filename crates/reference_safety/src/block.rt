@@ -143,6 +143,7 @@ fn begin(state: AbstractState, locals: u8) -> Machine
     s.refusal = 0;
     s.num_locals = locals;
     s.next_id = locals as u32 + 1;
+    s.blurred = 0;
     Machine { state: s, depth: 0 }
 }
 

@@ -1,5 +1,6 @@
--- An answer as four words: 0 accepted, 1 violation, 2 refused; the code or number; the offset or place; the visits.
-use Prim.Native.Nat.{ℕ}
+-- An answer as six words: 0 accepted, 1 violation, 2 refused; the code or number; the offset or place; the visits; the number of sets blurred,
+-- its low word and its high word.
+use Prim.Native.Nat.{ℕ, _/_, _%_}
 use mathlib.Core.Path.{_≡_}
 use mathlib.Core.Bool.{Bool, true, false, cond}
 use mathlib.Core.List.{List, [], _∷_, _++_}
@@ -15,15 +16,23 @@ rulingWords accept visits = 0 ∷ 0 ∷ 0 ∷ visits ∷ []
 rulingWords (violation code offset) visits = 1 ∷ code ∷ offset ∷ visits ∷ []
 rulingWords (refusal number place) visits = 2 ∷ number ∷ place ∷ visits ∷ []
 
-abbrev pub wordsOf : Answered → List ℕ
-wordsOf a = rulingWords (a .verdict) (a .visits)
+-- the numbers below this fit a word
+abbrev pub wordEnd : ℕ
+wordEnd = 4294967296
 
--- whether there is room for the four words
+-- a number's low word and its high word
+abbrev pub blurredWords : ℕ → List ℕ
+blurredWords n = n % wordEnd ∷ n / wordEnd ∷ []
+
+abbrev pub wordsOf : Answered → List ℕ
+wordsOf a = rulingWords (a .verdict) (a .visits) ++ blurredWords (a .blurred)
+
+-- whether there is room for the six words
 abbrev pub fits : List ℕ → Bool
-fits ws = leb 4 (length ws)
+fits ws = leb 6 (length ws)
 
 abbrev pub putWords : List ℕ → List ℕ → List ℕ
-putWords xs ws = xs ++ drop 4 ws
+putWords xs ws = xs ++ drop 6 ws
 
 -- the answer's words after the call, and the area's: without room nothing is written
 abbrev pub written : Answered → List ℕ → List ℕ

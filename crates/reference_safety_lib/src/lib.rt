@@ -13,17 +13,22 @@ ghost use Rattle.absint.specs.Models.{rulingOf, verdictOf};
 ghost use Rattle.reference_safety_lib.specs.Words.{fits, written, areaAfter, putWords, wordsOf};
 ghost use Rattle.reference_safety_lib.specs.Models.{wordsIn};
 
-pub(crate) const ANSWER_WORDS: usize = 4;
+pub(crate) const ANSWER_WORDS: usize = 6;
+
+// The numbers that a word holds.
+const WORD_END: u64 = 4294967296;
 
 struct Words {
     kind: u32,
     number: u32,
     place: u32,
     visits: u32,
+    low: u32,
+    high: u32,
 }
 
-// The answer's first four words: 0 accepted, 1 violation, 2 refused; the code or number; the offset or place; the visits. False, and
-// nothing is done, where the answer has fewer.
+// The answer's first six words: 0 accepted, 1 violation, 2 refused; the code or number; the offset or place; the visits; the number of sets
+// blurred, its low word and its high word. False, and nothing is done, where the answer has fewer.
 #[no_mangle]
 pub extern "C" fn reference_safety_verify(
     listing: &[u8],
@@ -45,34 +50,44 @@ pub(crate) fn verdict_words(v: Verdict) -> Words
     ensures { λ r. ⌜ wordsIn r ≡ wordsOf (verdictOf v) ⌝ }
 {
     let ruling = v.ruling;
+    let low = (v.blurred % WORD_END) as u32;
+    let high = (v.blurred / WORD_END) as u32;
     match ruling {
         Ruling::Accept => Words {
             kind: 0,
             number: 0,
             place: 0,
             visits: v.visits,
+            low,
+            high,
         },
         Ruling::Violation(code, offset) => Words {
             kind: 1,
             number: code as u32,
             place: offset.0 as u32,
             visits: v.visits,
+            low,
+            high,
         },
         Ruling::Refused(number, place) => Words {
             kind: 2,
             number: number as u32,
             place: place as u32,
             visits: v.visits,
+            low,
+            high,
         },
     }
 }
 
 pub(crate) fn put_words(w: Words, answer: &mut [u32])
-    requires { ⌜ 4 ≤ length (now answer) ⌝ }
+    requires { ⌜ 6 ≤ length (now answer) ⌝ }
     ensures { λ _. ⌜ now (answer .exit) ≡ putWords (wordsIn w) (now (answer .entry)) ⌝ }
 {
     answer[0] = w.kind;
     answer[1] = w.number;
     answer[2] = w.place;
     answer[3] = w.visits;
+    answer[4] = w.low;
+    answer[5] = w.high;
 }

@@ -7,7 +7,7 @@ use lib.Dec.{eqb}
 use lib.ListN.{take, getD}
 use Rattle.meaning.specs.Answers.{Ans, ok, refuse}
 use Rattle.meaning.specs.Labels.{numberOf}
-use Rattle.meaning.specs.References.{Edge, EdgeSet}
+use Rattle.meaning.specs.References.{Edge, EdgeSet, Report, added, alreadyThere, blurredNow, blurredBefore}
 use Rattle.meaning.specs.BorrowGraph.{Name, GEdge}
 use Rattle.meaning.specs.Area.{nameIn, labelIn, edgeOf}
 use Rattle.paths.specs.Models.{labelOf}
@@ -16,6 +16,8 @@ use Rattle.references.specs.declared.rows.LabelFilter.the-variants.{Any,
 use Rattle.references.specs.declared.rows.Candidate.{Candidate}
 use Rattle.references.specs.declared.set.BorrowEdgeSet.{BorrowEdgeSet}
 use Rattle.references.specs.declared.set.Inserted.{Inserted}
+use Rattle.references.specs.declared.set.Report as D
+use Rattle.references.specs.declared.set.Report.the-variants.{Added, AlreadyThere, BlurredNow, BlurredBefore}
 
 -- the edge of a row, with its ends
 abbrev pub rowOf : List ℕ → GEdge
@@ -54,3 +56,12 @@ setIn rows s = record { edges = setEdges rows (s .len); blurred = s .overflown }
 
 abbrev pub insertedIn : List (List ℕ) → Inserted → Ans EdgeSet
 insertedIn rows r = told (r .refusal) (setIn rows (r .set))
+
+abbrev pub reportOf : D.Report → Report
+reportOf Added = added
+reportOf AlreadyThere = alreadyThere
+reportOf BlurredNow = blurredNow
+reportOf BlurredBefore = blurredBefore
+
+abbrev pub reportIn : Inserted → Ans Report
+reportIn r = told (r .refusal) (reportOf (r .report))

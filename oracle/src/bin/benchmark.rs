@@ -114,11 +114,14 @@ fn ours(_: &[Vec<u8>]) -> Vec<Side<'_>> {
 /// From bytes to answer: with the area zeroed within the time, and with the kept states left in it.
 #[cfg(feature = "ours")]
 fn ours(listings: &[Vec<u8>]) -> Vec<Side<'_>> {
-    use oracle::ours::{analyze_call, verify_call, Call};
+    use oracle::{
+        answer::WORDS,
+        ours::{analyze_call, verify_call, Call},
+    };
     let side = |name, call: Call| -> Side<'_> {
         let area = std::cell::RefCell::new(vec![0u32; oracle::ours::AREA]);
         let run = move |at: usize| {
-            black_box(call(&listings[at], &mut area.borrow_mut(), &mut [0; 4]));
+            black_box(call(&listings[at], &mut area.borrow_mut(), &mut [0; WORDS]));
         };
         (name, Box::new(run))
     };

@@ -37,7 +37,10 @@ impl ControlFlowGraph for VMControlFlowGraph {
         &self.blocks[&block_id].successors
     }
 
+    /// Asked once after each run of a block, a failed one too, so this is where a visit ends.
     fn next_block(&self, block_id: BlockId) -> Option<BlockId> {
+        #[cfg(feature = "watched")]
+        crate::graph::pass_up();
         self.blocks[&block_id].next
     }
 

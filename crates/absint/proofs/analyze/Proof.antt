@@ -58,9 +58,9 @@ returns-3 c =
     let f = (c .before .before .before .before .analyze-function) in
     let v = (c .verdict-of) in
     let e = Law.was-read (a .listing .now) _ (r .result) (r .ensures .0) ((c .before .before .before .before .before .before .before .before .if2) .left) in (
-      Law.verify-read (length (a .area .now)) (a .listing .now) ((c .before .before .before .before .before .before .before .before .before .before .before .before .if1) .left) _ (rulingOf (v .result)) (f .result .visits) e
+      Law.verify-read (length (a .area .now)) (a .listing .now) ((c .before .before .before .before .before .before .before .before .before .before .before .before .if1) .left) _ (rulingOf (v .result)) (f .result .visits) (f .result .blurred) e
           (v .ensures .0 ∙ Law.ruled (a .listing .now) _ (r .result .routine) (a .area .now) _ (f .result) (v .ensures .1) (r .ensures .1 .few)
-          (r .ensures .1 .count) (f .ensures)) (f .ensures .end .visited),
+          (r .ensures .1 .count) (f .ensures)) (f .ensures .end .visited) (f .ensures .end .blurred),
       Law.left-read (a .listing .now) _ (r .result .routine) (a .area .now) _ (f .result) ((c .before .before .before .before .before .before .before .before .before .before .before .before .if1) .left) e (f .ensures),
     )
 

@@ -11,7 +11,7 @@ use lib.ListN.{getD, length, take, drop, length-take, length-drop}
 use Rattle.meaning.specs.Limits.{areaWords}
 use Rattle.meaning.specs.Answers.{Ans, ok, refuse, Outcome, done, violated, refused}
 use Rattle.meaning.specs.Lists.{empty}
-use Rattle.meaning.specs.AbstractState.{State, Operand, canonical, join, changed}
+use Rattle.meaning.specs.AbstractState.{State, Operand, canonical, join, changed, joinBlurs}
 use Rattle.meaning.specs.EntryPoints.{Running}
 use Rattle.meaning.specs.Steps.{Instr, Machine, step}
 use Rattle.meaning.specs.Blocks.{Routine, runFrom, finish, settle, endOf, renamedEnd, exec, runBlock, instrsOf, startMachine}
@@ -110,19 +110,19 @@ low-reader s =
 -- ---- a block
 
 abbrev LowResult : ℕ → Result State → Type 0
-LowResult m (Result.ended t) = Unit {0}
-LowResult m Result.returned = Unit {0}
-LowResult m (Result.violated c o) = Unit {0}
+LowResult m (Result.ended k t) = Unit {0}
+LowResult m (Result.returned k) = Unit {0}
+LowResult m (Result.violated k c o) = Unit {0}
 LowResult m (Result.refused n p) = p ≤ m
 
 module _ (returns : ℕ) (b : Block) (m : ℕ) (exit : b .exit ≤ m) where
-  low-renamed : (a : Ans State) → LowResult m (renamedEnd (b .exit) a)
-  low-renamed (ok t) = tt
-  low-renamed (refuse n) = exit
+  low-renamed : (k : ℕ) (a : Ans State) → LowResult m (renamedEnd k (b .exit) a)
+  low-renamed k (ok t) = tt
+  low-renamed k (refuse n) = exit
 
   low-end : (es : List ℕ) (r : Running) → LowResult m (endOf b es r)
   low-end [] r = tt
-  low-end (e ∷ es) r = low-renamed (canonical (r .root) (record { locals = r .locals; graph = r .graph }))
+  low-end (e ∷ es) r = low-renamed (r .blurs) (canonical (r .root) (record { locals = r .locals; graph = r .graph }))
 
   low-finish : (r : Running) (vs : List Operand) → LowResult m (finish b r vs)
   low-finish r [] = low-end (b .successors) r
@@ -130,7 +130,7 @@ module _ (returns : ℕ) (b : Block) (m : ℕ) (exit : b .exit ≤ m) where
 
   low-settle : (o : ℕ) (x : Outcome Machine) (k : Machine → Result State) → o ≤ m → ((n : Machine) → LowResult m (k n)) → LowResult m (settle o x k)
   low-settle o (done n) k h l = l n
-  low-settle o (violated c) k h l = tt
+  low-settle o (violated n c) k h l = tt
   low-settle o (refused n) k h l = h
 
   low-run : (is : List Instr) (o : ℕ) (n : Machine) → o + length is ≤ suc m → LowResult m (runFrom returns b o is n)
@@ -154,48 +154,48 @@ LowNext m (stopped n p) = p ≤ m
 module _ (ex : ℕ → State → Result State) (bs : List Block) (m : ℕ) (exits : (i : ℕ) → i < length bs → getD bs i noBlock .exit ≤ m)
     (results : (i : ℕ) (s : State) → i < length bs → LowResult m (ex i s)) where
   module _ (b : Block) (t : State) (exit : b .exit ≤ m) where
-    low-change : (e j : ℕ) (ss : List (Slot State)) (n : ℕ) (k : State) (x : Bool) → LowNext m (afterChange State join changed ex bs b e j ss n k x .next)
+    low-change : (e j : ℕ) (ss : List (Slot State)) (n : ℕ) (k : State) (x : Bool) → LowNext m (afterChange State join joinBlurs changed ex bs b e j ss n k x .next)
     low-change e j ss n k true = tt
     low-change e j ss n k false = tt
 
-    low-join : (e j : ℕ) (ss : List (Slot State)) (n : ℕ) (s : State) (x : Ans State) → LowNext m (afterJoin State join changed ex bs b e j ss n s x .next)
+    low-join : (e j : ℕ) (ss : List (Slot State)) (n : ℕ) (s : State) (x : Ans State) → LowNext m (afterJoin State join joinBlurs changed ex bs b e j ss n s x .next)
     low-join e j ss n s (ok k) = low-change e j ss n k (changed s k)
     low-join e j ss n s (refuse r) = exit
 
-    low-kept : (e j : ℕ) (ss : List (Slot State)) (n : ℕ) (x : Option State) → LowNext m (toKept State join changed ex bs b t e j ss n x .next)
+    low-kept : (e j : ℕ) (ss : List (Slot State)) (n : ℕ) (x : Option State) → LowNext m (toKept State join joinBlurs changed ex bs b t e j ss n x .next)
     low-kept e j ss n none = tt
     low-kept e j ss n (some s) = low-join e j ss n s (join s t)
 
-    low-next : (e : ℕ) (ss : List (Slot State)) (x : Next) → LowNext m x → LowNext m (toSuccessor State join changed ex bs b t e ss x .next)
+    low-next : (e : ℕ) (ss : List (Slot State)) (x : Next) → LowNext m x → LowNext m (toSuccessor State join joinBlurs changed ex bs b t e ss x .next)
     low-next e ss (at n) l = low-kept e (L.position bs e) ss n (getD ss (L.position bs e) blank .kept)
     low-next e ss (stopped r p) l = l
 
-    low-propagate : (es : List ℕ) (a : Propagation State) → LowNext m (a .next) → LowNext m (propagate State join changed ex bs b t es a .next)
+    low-propagate : (es : List ℕ) (a : Propagation State) → LowNext m (a .next) → LowNext m (propagate State join joinBlurs changed ex bs b t es a .next)
     unfolding propagate
     low-propagate [] a l = l
-    low-propagate (e ∷ es) a l = low-propagate es (toSuccessor State join changed ex bs b t e (a .slots) (a .next)) (low-next e (a .slots) (a .next) l)
+    low-propagate (e ∷ es) a l = low-propagate es (toSuccessor State join joinBlurs changed ex bs b t e (a .slots) (a .next)) (low-next e (a .slots) (a .next) l)
 
-  low-block : (r : Run State) (i : ℕ) (x : Result State) → i < length bs → LowResult m x → LowNext m (afterBlock State join changed ex bs r i x .next)
-  low-block r i (Result.ended t) h l = low-propagate (getD bs i noBlock) t (exits i h) (getD bs i noBlock .successors) _ tt
-  low-block r i Result.returned h l = tt
-  low-block r i (Result.violated c o) h l = tt
+  low-block : (r : Run State) (i : ℕ) (x : Result State) → i < length bs → LowResult m x → LowNext m (afterBlock State join joinBlurs changed ex bs r i x .next)
+  low-block r i (Result.ended k t) h l = low-propagate (getD bs i noBlock) t (exits i h) (getD bs i noBlock .successors) _ tt
+  low-block r i (Result.returned k) h l = tt
+  low-block r i (Result.violated k c o) h l = tt
   low-block r i (Result.refused n p) h l = l
 
-  low-ran : (r : Run State) (i : ℕ) (x : Option State) → i < length bs → LowNext m (L.visitBlock State join changed ex bs r i x .next)
+  low-ran : (r : Run State) (i : ℕ) (x : Option State) → i < length bs → LowNext m (L.visitBlock State join joinBlurs changed ex bs r i x .next)
   low-ran r i none h = tt
   low-ran r i (some s) h = low-block r i (ex i s) h (results i s h)
 
-  low-at : (r : Run State) (x : Next) → r .next ≡ x → LowNext m x → LowNext m (turnAt State join changed ex bs r x .next)
+  low-at : (r : Run State) (x : Next) → r .next ≡ x → LowNext m x → LowNext m (turnAt State join joinBlurs changed ex bs r x .next)
   low-at r (at i) e l =
       decide (ltb i (length bs))
       (λ d. rw d (low-ran r i (getD (r .slots) i blank .kept) (ltb-true _ _ d)))
       (λ d. rw d (subst (LowNext m) (sym e) l))
   low-at r (stopped n p) e l = subst (LowNext m) (sym e) l
 
-  low-steps : (f : ℕ) (r : Run State) → LowNext m (r .next) → LowNext m (turns State join changed ex bs f r .next)
+  low-steps : (f : ℕ) (r : Run State) → LowNext m (r .next) → LowNext m (turns State join joinBlurs changed ex bs f r .next)
   unfolding turns L.turn
   low-steps zero r l = l
-  low-steps (suc f) r l = low-steps f (turnAt State join changed ex bs r (r .next)) (low-at r (r .next) refl l)
+  low-steps (suc f) r l = low-steps f (turnAt State join joinBlurs changed ex bs r (r .next)) (low-at r (r .next) refl l)
 
 -- ---- the answer
 

@@ -60,6 +60,10 @@ and-r false b e = absurd (false≢true e)
 pub and-i : {a b : Bool} → a ≡ true → b ≡ true → a && b ≡ true
 and-i {a} {b} p q = ap (λ (x : Bool). x && b) p ∙ q
 
+pub and-not : (a : Bool) → a && not a ≡ false
+and-not true = refl
+and-not false = refl
+
 pub or-cases : (a b : Bool) → a || b ≡ true → (a ≡ true) ⊎ (b ≡ true)
 or-cases true b e = inl refl
 or-cases false b e = inr e

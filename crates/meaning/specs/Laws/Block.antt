@@ -159,9 +159,9 @@ canonical-fair l s = go (not (crosses (s .locals) 0 (s .locals))) (record { loca
 
 -- the end state has the property; a refusal is not 8, 9 or 23
 pub data Ends (P : State → Type 0) : Result State → Type 0 where
-  ends : {t : State} → P t → Ends P (Result.ended t)
-  leaves : Ends P Result.returned
-  breaks : {c o : ℕ} → Ends P (Result.violated c o)
+  ends : {k : ℕ} {t : State} → P t → Ends P (Result.ended k t)
+  leaves : {k : ℕ} → Ends P (Result.returned k)
+  breaks : {k c o : ℕ} → Ends P (Result.violated k c o)
   bars : {n p : ℕ} → ordinary n ≡ true → Ends P (Result.refused n p)
 
 settle-ends : {P : Machine → Type 0} {Q : State → Type 0} (o : ℕ) {a : Outcome Machine} (k : Machine → Result State) → Meets P a → ((x : Machine) → P x → Ends Q (k x)) → Ends Q (settle o a k)
@@ -169,9 +169,9 @@ settle-ends o k (met {a} p) f = f a p
 settle-ends o k broke f = breaks
 settle-ends o k (barred e) f = bars e
 
-renamedEnd-ends : {Q : State → Type 0} (exit : ℕ) (a : Ans State) → fair a ≡ true → ((t : State) → a ≡ ok t → Q t) → Ends Q (renamedEnd exit a)
-renamedEnd-ends exit (ok t) f h = ends (h t refl)
-renamedEnd-ends exit (refuse n) f h = bars f
+renamedEnd-ends : {Q : State → Type 0} (k exit : ℕ) (a : Ans State) → fair a ≡ true → ((t : State) → a ≡ ok t → Q t) → Ends Q (renamedEnd k exit a)
+renamedEnd-ends k exit (ok t) f h = ends (h t refl)
+renamedEnd-ends k exit (refuse n) f h = bars f
 
 module _ (l : ℕ) (small : l ≤ 16) (returns : ℕ) (b : Block) where
   finish-ends : (m : ℕ) (r : Running) (vs : List Operand) → Good l m vs r → Ends (Strong l) (finish b r vs)
@@ -180,7 +180,7 @@ module _ (l : ℕ) (small : l ≤ 16) (returns : ℕ) (b : Block) where
     where
       go : (es : List ℕ) → Ends (Strong l) (endOf b es r)
       go [] = leaves
-      go (e ∷ es) = renamedEnd-ends (b .exit) (canonical (r .root) (record { locals = r .locals; graph = r .graph })) (canonical-fair (r .root) (record { locals = r .locals; graph = r .graph }))
+      go (e ∷ es) = renamedEnd-ends (r .blurs) (b .exit) (canonical (r .root) (record { locals = r .locals; graph = r .graph })) (canonical-fair (r .root) (record { locals = r .locals; graph = r .graph }))
           (λ t q. canonical-strong l m (r .locals) (r .graph) (r .next) t small (h .count) (h .keeps .own)
           (subst (λ (k : ℕ). canonical k (record { locals = r .locals; graph = r .graph }) ≡ ok t) (h .keeps .root) q))
 
@@ -251,10 +251,17 @@ no-block (i ∷ is) = go (isRet i)
     go true = refl
     go false = refl
 
--- What running a block answers: an end state of the strong form; a violation; or a refusal that is not 8, 9 or 23.
-pub exec-ends : (q : Routine) → promised q ≡ true → (i : ℕ) (s : State) → Strong (q .locals) s → Ends (Strong (q .locals)) (exec q i s)
-unfolding promised exec runBlock instrsOf
-exec-ends q h i s strong =
+-- what a block of a promised routine starts with: its instructions is, and the state s
+pub record Enters (q : Routine) (b : Block) (is : List Instr) (s : State) : Type 0 where
+  pub small : q .locals ≤ 16
+  pub short : length is ≤ 512
+  pub within : all (withinFrame (q .locals)) is ≡ true
+  pub placed : retsPlaced (b .successors) is ≡ true
+  pub fine : Fine (q .locals) (17 * length is) (startMachine (q .locals) s)
+
+pub enters : (q : Routine) → promised q ≡ true → (i : ℕ) (s : State) → Strong (q .locals) s → Enters q (getD (q .blocks) i noBlock) (instrsOf (getD (q .blocks) i noBlock) (q .code)) s
+unfolding promised instrsOf
+enters q h i s strong =
     let b : Block = getD (q .blocks) i noBlock in
     let is : List Instr = take (suc (b .exit - b .entry)) (drop (b .entry) (q .code)) in
     let f : Block → Bool = λ c. retsPlaced (c .successors) (instrsOf c (q .code)) in
@@ -266,40 +273,52 @@ exec-ends q h i s strong =
     let most : length (q .code) ≤ 512 = leb-le (and-r (leb (q .locals) 16) (leb (length (q .code)) 512) h₁) in
     let l₁ : length is ≤ length (drop (b .entry) (q .code)) = take-le (suc (b .exit - b .entry)) (drop (b .entry) (q .code)) in
     let l₂ : length (drop (b .entry) (q .code)) ≤ length (q .code) = drop-le (b .entry) (q .code) in
-    runFrom-ends (q .locals) small (q .returns) b (b .entry) is (17 * length is) (startMachine (q .locals) s)
-    (all-take (withinFrame (q .locals)) (suc (b .exit - b .entry)) (drop (b .entry) (q .code)) (all-drop (withinFrame (q .locals)) (b .entry) (q .code) (and-l (all (withinFrame (q .locals)) (q .code)) (all f (q .blocks)) h₂)))
-    (all-getD f (q .blocks) i noBlock (and-r (all (withinFrame (q .locals)) (q .code)) (all f (q .blocks)) h₂) (no-block (q .code)))
-    (record { good = start-good (q .locals) (17 * length is) s (omega arith) strong; few = zero-le }) (omega arith)
+    record {
+      small = small;
+      short = omega arith;
+      within = all-take (withinFrame (q .locals)) (suc (b .exit - b .entry)) (drop (b .entry) (q .code)) (all-drop (withinFrame (q .locals)) (b .entry) (q .code) (and-l (all (withinFrame (q .locals)) (q .code)) (all f (q .blocks)) h₂));
+      placed = all-getD f (q .blocks) i noBlock (and-r (all (withinFrame (q .locals)) (q .code)) (all f (q .blocks)) h₂) (no-block (q .code));
+      fine = record { good = start-good (q .locals) (17 * length is) s (omega arith) strong; few = zero-le };
+    }
+
+-- What running a block answers: an end state of the strong form; a violation; or a refusal that is not 8, 9 or 23.
+pub exec-ends : (q : Routine) → promised q ≡ true → (i : ℕ) (s : State) → Strong (q .locals) s → Ends (Strong (q .locals)) (exec q i s)
+unfolding exec runBlock
+exec-ends q h i s strong =
+    let b : Block = getD (q .blocks) i noBlock in
+    let is : List Instr = instrsOf b (q .code) in
+    let e : Enters q b is s = enters q h i s strong in
+    runFrom-ends (q .locals) (e .small) (q .returns) b (b .entry) is (17 * length is) (startMachine (q .locals) s) (e .within) (e .placed) (e .fine) (omega arith)
 
 abbrev isEnded : Result State → Type 0
-isEnded (Result.ended v) = Unit {0}
-isEnded Result.returned = ⊥
-isEnded (Result.violated c o) = ⊥
+isEnded (Result.ended k v) = Unit {0}
+isEnded (Result.returned k) = ⊥
+isEnded (Result.violated k c o) = ⊥
 isEnded (Result.refused n o) = ⊥
 
 abbrev isRefused : Result State → Type 0
-isRefused (Result.ended v) = ⊥
-isRefused Result.returned = ⊥
-isRefused (Result.violated c o) = ⊥
+isRefused (Result.ended k v) = ⊥
+isRefused (Result.returned k) = ⊥
+isRefused (Result.violated k c o) = ⊥
 isRefused (Result.refused n o) = Unit {0}
 
 abbrev fromEnded : State → Result State → State
-fromEnded d (Result.ended v) = v
-fromEnded d Result.returned = d
-fromEnded d (Result.violated c o) = d
+fromEnded d (Result.ended k v) = v
+fromEnded d (Result.returned k) = d
+fromEnded d (Result.violated k c o) = d
 fromEnded d (Result.refused n o) = d
 
 abbrev fromRefused : ℕ → Result State → ℕ
-fromRefused d (Result.ended v) = d
-fromRefused d Result.returned = d
-fromRefused d (Result.violated c o) = d
+fromRefused d (Result.ended k v) = d
+fromRefused d (Result.returned k) = d
+fromRefused d (Result.violated k c o) = d
 fromRefused d (Result.refused n o) = n
 
-ends-at : {P : State → Type 0} {a : Result State} → Ends P a → (t : State) → a ≡ Result.ended t → P t
-ends-at {P} (ends {t} p) u e = subst P (ap (fromEnded t) e) p
-ends-at {P} leaves u e = absurd (subst isEnded (sym e) tt)
-ends-at {P} breaks u e = absurd (subst isEnded (sym e) tt)
-ends-at {P} (bars w) u e = absurd (subst isEnded (sym e) tt)
+ends-at : {P : State → Type 0} {a : Result State} → Ends P a → (k : ℕ) (t : State) → a ≡ Result.ended k t → P t
+ends-at {P} (ends {t} p) k u e = subst P (ap (fromEnded t) e) p
+ends-at {P} leaves k u e = absurd (subst isEnded (sym e) tt)
+ends-at {P} breaks k u e = absurd (subst isEnded (sym e) tt)
+ends-at {P} (bars w) k u e = absurd (subst isEnded (sym e) tt)
 
 ends-refused : {P : State → Type 0} {a : Result State} → Ends P a → (n o : ℕ) → a ≡ Result.refused n o → ordinary n ≡ true
 ends-refused (ends p) n o e = absurd (subst isRefused (sym e) tt)
@@ -312,5 +331,5 @@ pub exec-refuses : (q : Routine) → promised q ≡ true → (i : ℕ) (s : Stat
 exec-refuses q h i s n o e f = ends-refused (exec-ends q h i s f) n o e
 
 -- the hypothesis of the loop's theorems
-pub exec-keeps : (q : Routine) → promised q ≡ true → (i : ℕ) (s t : State) → exec q i s ≡ Result.ended t → Strong (q .locals) s → Strong (q .locals) t
-exec-keeps q h i s t e f = ends-at (exec-ends q h i s f) t e
+pub exec-keeps : (q : Routine) → promised q ≡ true → (i k : ℕ) (s t : State) → exec q i s ≡ Result.ended k t → Strong (q .locals) s → Strong (q .locals) t
+exec-keeps q h i k s t e f = ends-at (exec-ends q h i s f) k t e

@@ -8,7 +8,7 @@ use mathlib.Core.Path.{_≡_, refl, sym, subst, _∙_}
 use lib.Dec.{eqb}
 use lib.ListN.{length, getD}
 use Rattle.meaning.specs.Answers.{Ans, ok, refuse, ordinary, andThen, guard}
-use Rattle.meaning.specs.BorrowGraph.{Graph, release, held, joinGraphs}
+use Rattle.meaning.specs.BorrowGraph.{Graph, release, held, joinGraphs, blursTo}
 use Rattle.meaning.specs.AbstractState.{Local, absent, value, ref, joinLocal, joinLocals, State, Form, join, Parts}
 use Rattle.meaning.specs.EntryPoints.{localNames}
 use Rattle.meaning.specs.Laws.Base.{eqb-eq}
@@ -72,8 +72,8 @@ module _ (l next m : ℕ) where
   joinLocals-sure [] (b ∷ ys) g h c w = absurd (omega arith)
   joinLocals-sure (a ∷ xs) [] g h c w = absurd (omega arith)
   joinLocals-sure (a ∷ xs) (b ∷ ys) g h c w =
-      sure-then (joinLocal-sure a b xs ys g h w) (λ s. andThen (joinLocals xs ys (s .ours) (s .theirs)) (λ r. ok (record { locals = s .local ∷ r .locals; ours = r .ours; theirs = r .theirs })))
-      (λ s v. sure-then (joinLocals-sure xs ys (s .ours) (s .theirs) (omega arith) v) (λ r. ok (record { locals = s .local ∷ r .locals; ours = r .ours; theirs = r .theirs })) (λ r u. sure u))
+      sure-then (joinLocal-sure a b xs ys g h w) (λ s. andThen (joinLocals xs ys (s .ours) (s .theirs)) (λ r. ok (record { locals = s .local ∷ r .locals; ours = r .ours; theirs = r .theirs; blurs = blursTo g (s .ours) + blursTo h (s .theirs) + r .blurs })))
+      (λ s v. sure-then (joinLocals-sure xs ys (s .ours) (s .theirs) (omega arith) v) (λ r. ok (record { locals = s .local ∷ r .locals; ours = r .ours; theirs = r .theirs; blurs = blursTo g (s .ours) + blursTo h (s .theirs) + r .blurs })) (λ r u. sure u))
 
 -- the answer has the strong form
 pub join-strong : (l : ℕ) (s o t : State) → join s o ≡ ok t → Strong l s → Strong l o → Strong l t

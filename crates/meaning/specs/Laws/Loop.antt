@@ -19,23 +19,23 @@ abbrev pub passes : ℕ → ℕ → ℕ
 passes b cap = b * (1 + b * cap)
 
 -- What holds of the runs from s, whatever their budget f. Form: what every kept state has; cap: the most that one is changed.
-pub record Bounds (St : Type 0) (join : St → St → Ans St) (changed : St → St → Bool) (exec : ℕ → St → Result St) (blocks : List Block) (Form : St → Type 0) (cap : ℕ) (s : St) : Type 0 where
-  pub few-visits : (f : ℕ) → visits (run St join changed exec blocks f s) ≤ passes (length blocks) cap
-  pub few-changes : (f j : ℕ) → getD (run St join changed exec blocks f s .slots) j blank .changes ≤ cap
-  pub forms : (f j : ℕ) (k : St) → getD (run St join changed exec blocks f s .slots) j blank .kept ≡ some k → Form k
+pub record Bounds (St : Type 0) (join : St → St → Ans St) (joinBlurs : St → St → ℕ) (changed : St → St → Bool) (exec : ℕ → St → Result St) (blocks : List Block) (Form : St → Type 0) (cap : ℕ) (s : St) : Type 0 where
+  pub few-visits : (f : ℕ) → visits (run St join joinBlurs changed exec blocks f s) ≤ passes (length blocks) cap
+  pub few-changes : (f j : ℕ) → getD (run St join joinBlurs changed exec blocks f s .slots) j blank .changes ≤ cap
+  pub forms : (f j : ℕ) (k : St) → getD (run St join joinBlurs changed exec blocks f s .slots) j blank .kept ≡ some k → Form k
   -- with a budget of that many turns, or any larger one, the run ends by itself,
-  pub ends : (f : ℕ) → passes (length blocks) cap ≤ f → hasEnded St join changed exec blocks (run St join changed exec blocks f s) ≡ true
+  pub ends : (f : ℕ) → passes (length blocks) cap ≤ f → hasEnded St join joinBlurs changed exec blocks (run St join joinBlurs changed exec blocks f s) ≡ true
   -- and is the same run: the same kept states, statuses, counts, visits, and the same end
-  pub same : (f : ℕ) → passes (length blocks) cap ≤ f → run St join changed exec blocks f s ≡ run St join changed exec blocks (passes (length blocks) cap) s
+  pub same : (f : ℕ) → passes (length blocks) cap ≤ f → run St join joinBlurs changed exec blocks f s ≡ run St join joinBlurs changed exec blocks (passes (length blocks) cap) s
   -- a run that has ended is the whole run
-  pub settled : (f : ℕ) → hasEnded St join changed exec blocks (run St join changed exec blocks f s) ≡ true → run St join changed exec blocks f s ≡ run St join changed exec blocks (passes (length blocks) cap) s
+  pub settled : (f : ℕ) → hasEnded St join joinBlurs changed exec blocks (run St join joinBlurs changed exec blocks f s) ≡ true → run St join joinBlurs changed exec blocks f s ≡ run St join joinBlurs changed exec blocks (passes (length blocks) cap) s
 
-module _ (St : Type 0) (join : St → St → Ans St) (changed : St → St → Bool) (exec : ℕ → St → Result St) (blocks : List Block)
+module _ (St : Type 0) (join : St → St → Ans St) (joinBlurs : St → St → ℕ) (changed : St → St → Bool) (exec : ℕ → St → Result St) (blocks : List Block)
     (Form : St → Type 0) (rank : St → ℕ) (cap : ℕ)
     (rank-cap : (s : St) → rank s ≤ cap)
     (join-form : (s o t : St) → join s o ≡ ok t → Form s → Form o → Form t)
     (join-rank : (s o t : St) → join s o ≡ ok t → Form s → Form o → changed s t ≡ true → rank s < rank t)
-    (exec-form : (i : ℕ) (s t : St) → exec i s ≡ ended t → Form s → Form t) where
+    (exec-form : (i k : ℕ) (s t : St) → exec i s ≡ ended k t → Form s → Form t) where
   -- ---- what a slot can still change
 
   abbrev left : Option St → ℕ
@@ -128,7 +128,7 @@ module _ (St : Type 0) (join : St → St → Ans St) (changed : St → St → Bo
           next = next-weaker (set ss j v) k (h .next);
         }
 
-    moved : (s k : St) → getD ss j blank .kept ≡ some s → join s t ≡ ok k → (d : Bool) → changed s k ≡ d → Propagated ss₀ n₀ (afterChange St join changed exec blocks b e j ss n k d)
+    moved : (s k : St) → getD ss j blank .kept ≡ some s → join s t ≡ ok k → (d : Bool) → changed s k ≡ d → Propagated ss₀ n₀ (afterChange St join joinBlurs changed exec blocks b e j ss n k d)
     moved s k z g false c = h
     moved s k z g true c =
         let v : Slot St = record { kept = some k; status = fine; changes = suc (getD ss j blank .changes) } in
@@ -146,25 +146,25 @@ module _ (St : Type 0) (join : St → St → Ans St) (changed : St → St → Bo
           next = inr (omega arith);
         }
 
-    joined : (s : St) → getD ss j blank .kept ≡ some s → (a : Ans St) → join s t ≡ a → Propagated ss₀ n₀ (afterJoin St join changed exec blocks b e j ss n s a)
+    joined : (s : St) → getD ss j blank .kept ≡ some s → (a : Ans St) → join s t ≡ a → Propagated ss₀ n₀ (afterJoin St join joinBlurs changed exec blocks b e j ss n s a)
     joined s z (ok k) g = moved s k z g (changed s k) refl
     joined s z (refuse r) g = record { okay = h .okay; same = h .same; less = h .less; next = tt }
 
-    propagated-kept : (o : Option St) → getD ss j blank .kept ≡ o → Propagated ss₀ n₀ (toKept St join changed exec blocks b t e j ss n o)
+    propagated-kept : (o : Option St) → getD ss j blank .kept ≡ o → Propagated ss₀ n₀ (toKept St join joinBlurs changed exec blocks b t e j ss n o)
     propagated-kept none z = taken z
     propagated-kept (some s) z = joined s z (join s t) refl
 
   propagated-next : (ss₀ : List (Slot St)) (n₀ : ℕ) (b : Block) (t : St) → Form t → (e : ℕ) (ss : List (Slot St)) (m : Next) → Propagated ss₀ n₀ (record { slots = ss; next = m })
-      → Propagated ss₀ n₀ (toSuccessor St join changed exec blocks b t e ss m)
+      → Propagated ss₀ n₀ (toSuccessor St join joinBlurs changed exec blocks b t e ss m)
   unfolding j
   propagated-next ss₀ n₀ b t ft e ss (at n) h = propagated-kept ss₀ n₀ b t ft e ss n h (getD ss (position blocks e) blank .kept) refl
   propagated-next ss₀ n₀ b t ft e ss (stopped r p) h = h
 
-  propagated-all : (ss₀ : List (Slot St)) (n₀ : ℕ) (b : Block) (t : St) → Form t → (es : List ℕ) (a : Propagation St) → Propagated ss₀ n₀ a → Propagated ss₀ n₀ (propagate St join changed exec blocks b t es a)
+  propagated-all : (ss₀ : List (Slot St)) (n₀ : ℕ) (b : Block) (t : St) → Form t → (es : List ℕ) (a : Propagation St) → Propagated ss₀ n₀ a → Propagated ss₀ n₀ (propagate St join joinBlurs changed exec blocks b t es a)
   unfolding propagate
   propagated-all ss₀ n₀ b t ft [] a h = h
   propagated-all ss₀ n₀ b t ft (e ∷ es) a h =
-      propagated-all ss₀ n₀ b t ft es (toSuccessor St join changed exec blocks b t e (a .slots) (a .next)) (propagated-next ss₀ n₀ b t ft e (a .slots) (a .next) h)
+      propagated-all ss₀ n₀ b t ft es (toSuccessor St join joinBlurs changed exec blocks b t e (a .slots) (a .next)) (propagated-next ss₀ n₀ b t ft e (a .slots) (a .next) h)
 
   -- ---- a step
 
@@ -184,10 +184,10 @@ module _ (St : Type 0) (join : St → St → Ans St) (changed : St → St → Bo
     falls : pot r < p
     seen : visits r ≤ suc v
 
-  mark-ok : (ss : List (Slot St)) (i : ℕ) (x : Status) → AllOk ss → AllOk (mark St join changed exec blocks ss i x)
+  mark-ok : (ss : List (Slot St)) (i : ℕ) (x : Status) → AllOk ss → AllOk (mark St join joinBlurs changed exec blocks ss i x)
   mark-ok ss i x a = set-ok ss i (record { kept = getD ss i blank .kept; status = x; changes = getD ss i blank .changes }) a (record { form = a i .form; spent = a i .spent })
 
-  mark-less : (ss : List (Slot St)) (i : ℕ) (x : Status) → total (mark St join changed exec blocks ss i x) ≤ total ss
+  mark-less : (ss : List (Slot St)) (i : ℕ) (x : Status) → total (mark St join joinBlurs changed exec blocks ss i x) ≤ total ss
   mark-less ss i x = total-set ss i (record { kept = getD ss i blank .kept; status = x; changes = getD ss i blank .changes }) (le-refl (left (getD ss i blank .kept)))
 
   module _ (r : Run St) (i : ℕ) (a : AllOk (r .slots)) (l : i < size) where
@@ -211,32 +211,32 @@ module _ (St : Type 0) (join : St → St → Ans St) (changed : St → St → Bo
     falls-next ss (at n) h (inr k) = falls-back ss n k
     falls-next ss (stopped c o) h k = falls-stop ss h
 
-    ran : (x : Result St) (s : St) → Form s → exec i s ≡ x → Progress (visits r) p₀ (afterBlock St join changed exec blocks r i x)
-    ran (ended t) s fs e =
+    ran : (x : Result St) (s : St) → Form s → exec i s ≡ x → Progress (visits r) p₀ (afterBlock St join joinBlurs changed exec blocks r i x)
+    ran (ended k t) s fs e =
         let b : Block = getD blocks i noBlock in
-        let z : Propagation St = propagate St join changed exec blocks b t (b .successors) (record { slots = mark St join changed exec blocks (r .slots) i fine; next = at (suc i) }) in
+        let z : Propagation St = propagate St join joinBlurs changed exec blocks b t (b .successors) (record { slots = mark St join joinBlurs changed exec blocks (r .slots) i fine; next = at (suc i) }) in
         let h : Propagated (r .slots) (suc i) z =
-        propagated-all (r .slots) (suc i) b t (exec-form i s t e fs) (b .successors) (record { slots = mark St join changed exec blocks (r .slots) i fine; next = at (suc i) })
+        propagated-all (r .slots) (suc i) b t (exec-form i k s t e fs) (b .successors) (record { slots = mark St join joinBlurs changed exec blocks (r .slots) i fine; next = at (suc i) })
         (record { okay = mark-ok (r .slots) i fine a; same = length-set (r .slots) i (record { kept = getD (r .slots) i blank .kept; status = fine; changes = getD (r .slots) i blank .changes }); less = mark-less (r .slots) i fine; next = inl refl }) in
         record { okay = h .okay; falls = falls-next (z .slots) (z .next) (h .less) (h .next); seen = le-refl (suc (visits r)) }
-    ran returned s fs e =
-        record { okay = mark-ok (r .slots) i fine a; falls = falls-on (mark St join changed exec blocks (r .slots) i fine) (mark-less (r .slots) i fine); seen = le-refl (suc (visits r)) }
-    ran (violated c o) s fs e =
-        record { okay = mark-ok (r .slots) i (failed c o) a; falls = falls-on (mark St join changed exec blocks (r .slots) i (failed c o)) (mark-less (r .slots) i (failed c o)); seen = le-refl (suc (visits r)) }
+    ran (returned k) s fs e =
+        record { okay = mark-ok (r .slots) i fine a; falls = falls-on (mark St join joinBlurs changed exec blocks (r .slots) i fine) (mark-less (r .slots) i fine); seen = le-refl (suc (visits r)) }
+    ran (violated k c o) s fs e =
+        record { okay = mark-ok (r .slots) i (failed c o) a; falls = falls-on (mark St join joinBlurs changed exec blocks (r .slots) i (failed c o)) (mark-less (r .slots) i (failed c o)); seen = le-refl (suc (visits r)) }
     ran (refused n p) s fs e = record { okay = a; falls = falls-stop (r .slots) (le-refl (total (r .slots))); seen = le-refl (suc (visits r)) }
 
-    visited : (o : Option St) → getD (r .slots) i blank .kept ≡ o → Progress (visits r) p₀ (visitBlock St join changed exec blocks r i o)
+    visited : (o : Option St) → getD (r .slots) i blank .kept ≡ o → Progress (visits r) p₀ (visitBlock St join joinBlurs changed exec blocks r i o)
     visited none e = record { okay = a; falls = falls-on (r .slots) (le-refl (total (r .slots))); seen = omega arith }
     visited (some s) e = ran (exec i s) s (subst KeptOk e (a i .form)) refl
 
   lt-size : (i : ℕ) → ltb i size ≡ true → i < size
   lt-size i e = leb-le e
 
-  step-at : (r : Run St) (m : Next) → r .next ≡ m → AllOk (r .slots) → endedAt St join changed exec blocks m ≡ false → Progress (visits r) (potAt (r .slots) m) (turnAt St join changed exec blocks r m)
+  step-at : (r : Run St) (m : Next) → r .next ≡ m → AllOk (r .slots) → endedAt St join joinBlurs changed exec blocks m ≡ false → Progress (visits r) (potAt (r .slots) m) (turnAt St join joinBlurs changed exec blocks r m)
   unfolding p₀
   step-at r (at i) q a e =
       let t : ltb i size ≡ true = not-no (ltb i size) e in
-      subst (λ (b : Bool). Progress (visits r) (size * total (r .slots) + (size - i)) (cond b (visitBlock St join changed exec blocks r i (getD (r .slots) i blank .kept)) r)) (sym t)
+      subst (λ (b : Bool). Progress (visits r) (size * total (r .slots) + (size - i)) (cond b (visitBlock St join joinBlurs changed exec blocks r i (getD (r .slots) i blank .kept)) r)) (sym t)
       (visited r i a (lt-size i t) (getD (r .slots) i blank .kept) refl)
     where
       not-no : (b : Bool) → not b ≡ false → b ≡ true
@@ -244,25 +244,25 @@ module _ (St : Type 0) (join : St → St → Ans St) (changed : St → St → Bo
       not-no false h = absurd (true≢false h)
   step-at r (stopped n p) q a e = absurd (true≢false e)
 
-  step-progress : (r : Run St) → AllOk (r .slots) → hasEnded St join changed exec blocks r ≡ false → Progress (visits r) (pot r) (turn St join changed exec blocks r)
+  step-progress : (r : Run St) → AllOk (r .slots) → hasEnded St join joinBlurs changed exec blocks r ≡ false → Progress (visits r) (pot r) (turn St join joinBlurs changed exec blocks r)
   unfolding turn
   step-progress r a e = step-at r (r .next) refl a e
 
   -- a run that has ended stays as it is
-  still-at : (r : Run St) (m : Next) → endedAt St join changed exec blocks m ≡ true → turnAt St join changed exec blocks r m ≡ r
+  still-at : (r : Run St) (m : Next) → endedAt St join joinBlurs changed exec blocks m ≡ true → turnAt St join joinBlurs changed exec blocks r m ≡ r
   still-at r (at i) e =
       let n : ltb i size ≡ false = not-true {a = ltb i size} e in
-      ap (λ (b : Bool). cond b (visitBlock St join changed exec blocks r i (getD (r .slots) i blank .kept)) r) n
+      ap (λ (b : Bool). cond b (visitBlock St join joinBlurs changed exec blocks r i (getD (r .slots) i blank .kept)) r) n
   still-at r (stopped n p) e = refl
 
-  step-still : (r : Run St) → hasEnded St join changed exec blocks r ≡ true → turn St join changed exec blocks r ≡ r
+  step-still : (r : Run St) → hasEnded St join joinBlurs changed exec blocks r ≡ true → turn St join joinBlurs changed exec blocks r ≡ r
   unfolding turn
   step-still r e = still-at r (r .next) e
 
-  steps-still : (f : ℕ) (r : Run St) → hasEnded St join changed exec blocks r ≡ true → turns St join changed exec blocks f r ≡ r
+  steps-still : (f : ℕ) (r : Run St) → hasEnded St join joinBlurs changed exec blocks r ≡ true → turns St join joinBlurs changed exec blocks f r ≡ r
   unfolding turns
   steps-still zero r e = refl
-  steps-still (suc f) r e = ap (turns St join changed exec blocks f) (step-still r e) ∙ steps-still f r e
+  steps-still (suc f) r e = ap (turns St join joinBlurs changed exec blocks f) (step-still r e) ∙ steps-still f r e
 
   -- ---- a run
 
@@ -270,38 +270,38 @@ module _ (St : Type 0) (join : St → St → Ans St) (changed : St → St → Bo
     okay : AllOk (r .slots)
     sum : visits r + pot r ≤ v
 
-  steps-bounded : (f : ℕ) (r : Run St) (v : ℕ) → Bounded v r → Bounded v (turns St join changed exec blocks f r)
+  steps-bounded : (f : ℕ) (r : Run St) (v : ℕ) → Bounded v r → Bounded v (turns St join joinBlurs changed exec blocks f r)
   unfolding turns
   steps-bounded zero r v b = b
   steps-bounded (suc f) r v b =
-      decide (hasEnded St join changed exec blocks r)
-      (λ e. subst (λ (q : Run St). Bounded v (turns St join changed exec blocks f q)) (sym (step-still r e)) (steps-bounded f r v b))
-      (λ e. let p : Progress (visits r) (pot r) (turn St join changed exec blocks r) = step-progress r (b .okay) e in
-      let h1 : pot (turn St join changed exec blocks r) < pot r = p .falls in
-      let h2 : visits (turn St join changed exec blocks r) ≤ suc (visits r) = p .seen in
+      decide (hasEnded St join joinBlurs changed exec blocks r)
+      (λ e. subst (λ (q : Run St). Bounded v (turns St join joinBlurs changed exec blocks f q)) (sym (step-still r e)) (steps-bounded f r v b))
+      (λ e. let p : Progress (visits r) (pot r) (turn St join joinBlurs changed exec blocks r) = step-progress r (b .okay) e in
+      let h1 : pot (turn St join joinBlurs changed exec blocks r) < pot r = p .falls in
+      let h2 : visits (turn St join joinBlurs changed exec blocks r) ≤ suc (visits r) = p .seen in
       let h3 : visits r + pot r ≤ v = b .sum in
-      steps-bounded f (turn St join changed exec blocks r) v (record { okay = p .okay; sum = omega arith }))
+      steps-bounded f (turn St join joinBlurs changed exec blocks r) v (record { okay = p .okay; sum = omega arith }))
 
-  ended-zero : (ss : List (Slot St)) (m : Next) → potAt ss m ≡ 0 → endedAt St join changed exec blocks m ≡ true
+  ended-zero : (ss : List (Slot St)) (m : Next) → potAt ss m ≡ 0 → endedAt St join joinBlurs changed exec blocks m ≡ true
   ended-zero ss (at i) h = decide (ltb i size) (λ e. let l : i < size = lt-size i e in absurd (omega arith)) (λ e. ap not e)
   ended-zero ss (stopped n p) h = refl
 
   -- with a budget that is at least the potential, the run ends by itself
-  steps-end : (f : ℕ) (r : Run St) → AllOk (r .slots) → pot r ≤ f → hasEnded St join changed exec blocks (turns St join changed exec blocks f r) ≡ true
+  steps-end : (f : ℕ) (r : Run St) → AllOk (r .slots) → pot r ≤ f → hasEnded St join joinBlurs changed exec blocks (turns St join joinBlurs changed exec blocks f r) ≡ true
   unfolding turns
   steps-end zero r a h = ended-zero (r .slots) (r .next) (omega arith)
   steps-end (suc f) r a h =
-      decide (hasEnded St join changed exec blocks r)
-      (λ e. ap (λ (q : Run St). hasEnded St join changed exec blocks (turns St join changed exec blocks f q)) (step-still r e)
-      ∙ ap (λ (q : Run St). hasEnded St join changed exec blocks q) (steps-still f r e) ∙ e)
-      (λ e. let p : Progress (visits r) (pot r) (turn St join changed exec blocks r) = step-progress r a e in
-      let h1 : pot (turn St join changed exec blocks r) < pot r = p .falls in
-      steps-end f (turn St join changed exec blocks r) (p .okay) (omega arith))
+      decide (hasEnded St join joinBlurs changed exec blocks r)
+      (λ e. ap (λ (q : Run St). hasEnded St join joinBlurs changed exec blocks (turns St join joinBlurs changed exec blocks f q)) (step-still r e)
+      ∙ ap (λ (q : Run St). hasEnded St join joinBlurs changed exec blocks q) (steps-still f r e) ∙ e)
+      (λ e. let p : Progress (visits r) (pot r) (turn St join joinBlurs changed exec blocks r) = step-progress r a e in
+      let h1 : pot (turn St join joinBlurs changed exec blocks r) < pot r = p .falls in
+      steps-end f (turn St join joinBlurs changed exec blocks r) (p .okay) (omega arith))
 
-  steps-add : (f g : ℕ) (r : Run St) → turns St join changed exec blocks (f + g) r ≡ turns St join changed exec blocks g (turns St join changed exec blocks f r)
+  steps-add : (f g : ℕ) (r : Run St) → turns St join joinBlurs changed exec blocks (f + g) r ≡ turns St join joinBlurs changed exec blocks g (turns St join joinBlurs changed exec blocks f r)
   unfolding turns
-  steps-add zero g r = ap (λ (k : ℕ). turns St join changed exec blocks k r) (zero-add g)
-  steps-add (suc f) g r = ap (λ (k : ℕ). turns St join changed exec blocks k r) (suc-add f g) ∙ steps-add f g (turn St join changed exec blocks r)
+  steps-add zero g r = ap (λ (k : ℕ). turns St join joinBlurs changed exec blocks k r) (zero-add g)
+  steps-add (suc f) g r = ap (λ (k : ℕ). turns St join joinBlurs changed exec blocks k r) (suc-add f g) ∙ steps-add f g (turn St join joinBlurs changed exec blocks r)
 
   -- ---- the run from the start
 
@@ -310,7 +310,7 @@ module _ (St : Type 0) (join : St → St → Ans St) (changed : St → St → Bo
   blanks-ok (c ∷ cs) zero = blank-ok
   blanks-ok (c ∷ cs) (suc k) = blanks-ok cs k
 
-  start-ok : (bs : List Block) (s : St) → Form s → AllOk (startSlots St join changed exec blocks bs s)
+  start-ok : (bs : List Block) (s : St) → Form s → AllOk (startSlots St join joinBlurs changed exec blocks bs s)
   unfolding startSlots
   start-ok [] s f i = blank-ok
   start-ok (b ∷ bs) s f zero = record { form = f; spent = omega arith }
@@ -324,7 +324,7 @@ module _ (St : Type 0) (join : St → St → Ans St) (changed : St → St → Bo
       let b : left (x .kept) ≤ cap = left-le (x .kept) in
       omega arith
 
-  length-start : (bs : List Block) (s : St) → length (startSlots St join changed exec blocks bs s) ≡ length bs
+  length-start : (bs : List Block) (s : St) → length (startSlots St join joinBlurs changed exec blocks bs s) ≡ length bs
   unfolding startSlots
   length-start [] s = refl
   length-start (b ∷ bs) s = ap suc (length-map bs (λ c. blank))
@@ -334,12 +334,12 @@ module _ (St : Type 0) (join : St → St → Ans St) (changed : St → St → Bo
 
   start : St → Run St
   unfolding startSlots
-  start s = record { slots = startSlots St join changed exec blocks blocks s; next = at 0; trail = [] }
+  start s = record { slots = startSlots St join joinBlurs changed exec blocks blocks s; next = at 0; trail = []; blurs = 0 }
 
   start-pot : (s : St) → pot (start s) ≤ most
   unfolding start most
   start-pot s =
-      let ss : List (Slot St) = startSlots St join changed exec blocks blocks s in
+      let ss : List (Slot St) = startSlots St join joinBlurs changed exec blocks blocks s in
       let a : total ss ≤ length ss * cap = total-le ss in
       let b : length ss * cap ≡ size * cap = ap (λ (n : ℕ). n * cap) (length-start blocks s) in
       let d : size * total ss ≤ size * (size * cap) = mul-le-mul-left size (le-of-both (total ss) (length ss * cap) (size * cap) a b) in
@@ -352,24 +352,24 @@ module _ (St : Type 0) (join : St → St → Ans St) (changed : St → St → Bo
     first-pot : pot (start s) ≤ most
     first-pot = start-pot s
 
-    bounded : (f : ℕ) → Bounded most (turns St join changed exec blocks f (start s))
+    bounded : (f : ℕ) → Bounded most (turns St join joinBlurs changed exec blocks f (start s))
     unfolding start
     bounded f = steps-bounded f (start s) most (record { okay = start-ok blocks s fs; sum = omega (arith, first-pot) })
 
-    run-ends : (f : ℕ) → most ≤ f → hasEnded St join changed exec blocks (turns St join changed exec blocks f (start s)) ≡ true
+    run-ends : (f : ℕ) → most ≤ f → hasEnded St join joinBlurs changed exec blocks (turns St join joinBlurs changed exec blocks f (start s)) ≡ true
     unfolding start
     run-ends f h = steps-end f (start s) (start-ok blocks s fs) (omega (arith, first-pot, h))
 
-    run-same : (f : ℕ) → most ≤ f → turns St join changed exec blocks f (start s) ≡ turns St join changed exec blocks most (start s)
+    run-same : (f : ℕ) → most ≤ f → turns St join joinBlurs changed exec blocks f (start s) ≡ turns St join joinBlurs changed exec blocks most (start s)
     run-same f h =
-        ap (λ (n : ℕ). turns St join changed exec blocks n (start s)) (sym (add-sub-of-le h))
+        ap (λ (n : ℕ). turns St join joinBlurs changed exec blocks n (start s)) (sym (add-sub-of-le h))
         ∙ steps-add most (f - most) (start s)
-        ∙ steps-still (f - most) (turns St join changed exec blocks most (start s)) (run-ends most (le-refl most))
+        ∙ steps-still (f - most) (turns St join joinBlurs changed exec blocks most (start s)) (run-ends most (le-refl most))
 
-    run-settled : (f : ℕ) → hasEnded St join changed exec blocks (turns St join changed exec blocks f (start s)) ≡ true → turns St join changed exec blocks f (start s) ≡ turns St join changed exec blocks most (start s)
-    run-settled f e = sym (steps-still most (turns St join changed exec blocks f (start s)) e) ∙ sym (steps-add f most (start s)) ∙ run-same (f + most) (omega arith)
+    run-settled : (f : ℕ) → hasEnded St join joinBlurs changed exec blocks (turns St join joinBlurs changed exec blocks f (start s)) ≡ true → turns St join joinBlurs changed exec blocks f (start s) ≡ turns St join joinBlurs changed exec blocks most (start s)
+    run-settled f e = sym (steps-still most (turns St join joinBlurs changed exec blocks f (start s)) e) ∙ sym (steps-add f most (start s)) ∙ run-same (f + most) (omega arith)
 
-    pub bounds : Bounds St join changed exec blocks Form cap s
+    pub bounds : Bounds St join joinBlurs changed exec blocks Form cap s
     unfolding run start most
     bounds = record {
       few-visits = λ f. omega (arith, bounded f .sum);

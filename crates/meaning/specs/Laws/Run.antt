@@ -12,7 +12,7 @@ use lib.Seq.{getD-set-same, getD-set-other, set-out}
 use Rattle.meaning.specs.Limits.{areaWords}
 use Rattle.meaning.specs.Answers.{Ans, ordinary}
 use Rattle.meaning.specs.Lists.{all}
-use Rattle.meaning.specs.AbstractState.{State, join, changed, Token, firstState}
+use Rattle.meaning.specs.AbstractState.{State, join, changed, Token, firstState, joinBlurs}
 use Rattle.meaning.specs.Blocks.{Routine, exec, instrsOf}
 use Rattle.meaning.specs.Loop.{mostChanges, mostVisits, Result, Block, Status, fine, failed, Slot, Next, at, stopped, Run, visits, Propagation, position, noBlock, blank, afterChange, afterJoin, toKept, toSuccessor, propagate, mark, afterBlock, visitBlock as runLoopBlock, turnAt, turn, turns, startSlots, run, hasEnded, Failure, Verdict, accept, violation, refusal, lowest, verdictFor, verdictAt, verdict}
 use Rattle.meaning.specs.Listing.{read, readListing}
@@ -64,9 +64,9 @@ module _ (q : Routine) (p : promised q ≡ true) where
   abbrev most : ℕ
   most = mostVisits (length blocks) l
 
-  bounds : Bounds State join changed (exec q) blocks (Strong l) (mostChanges l) (firstState l ts)
+  bounds : Bounds State join joinBlurs changed (exec q) blocks (Strong l) (mostChanges l) (firstState l ts)
   bounds =
-      Laws.bounds State join changed (exec q) blocks (Strong l) (rank l) (mostChanges l) (rank-le l)
+      Laws.bounds State join joinBlurs changed (exec q) blocks (Strong l) (rank l) (mostChanges l) (rank-le l)
       (join-strong l) (λ s o t e fs fo. change-lt l s o t (join-law s o t e) (fs .form) (fo .form)) (exec-keeps q p) (firstState l ts) (first-strong l ts small)
 
   pub visits-bound : (f : ℕ) → visits (runWith q f) ≤ most
@@ -78,17 +78,17 @@ module _ (q : Routine) (p : promised q ≡ true) where
   pub kept-strong : (f j : ℕ) (k : State) → getD (runWith q f .slots) j blank .kept ≡ some k → Strong l k
   kept-strong = bounds .forms
 
-  pub ends-itself : (f : ℕ) → most ≤ f → hasEnded State join changed (exec q) blocks (runWith q f) ≡ true
+  pub ends-itself : (f : ℕ) → most ≤ f → hasEnded State join joinBlurs changed (exec q) blocks (runWith q f) ≡ true
   ends-itself = bounds .ends
 
   pub same-run : (f : ℕ) → most ≤ f → runWith q f ≡ runWith q most
   same-run = bounds .same
 
   -- a run that has ended is the whole run, and one that has not has made fewer steps than the bound
-  pub settled : (f : ℕ) → hasEnded State join changed (exec q) blocks (runWith q f) ≡ true → runWith q f ≡ runWith q most
+  pub settled : (f : ℕ) → hasEnded State join joinBlurs changed (exec q) blocks (runWith q f) ≡ true → runWith q f ≡ runWith q most
   settled = bounds .settled
 
-  pub unsettled : (k : ℕ) → hasEnded State join changed (exec q) blocks (runWith q k) ≡ false → k < most
+  pub unsettled : (k : ℕ) → hasEnded State join joinBlurs changed (exec q) blocks (runWith q k) ≡ false → k < most
   unsettled k e = decide (leb most k) (λ h. absurd (true≢false (sym (ends-itself k (leb-le h)) ∙ e))) (λ h. leb-gt h)
 
   -- ---- the refusals of a run
@@ -116,59 +116,59 @@ module _ (q : Routine) (p : promised q ≡ true) where
   PropagationOk a = (AllOk (a .slots)) × (NextOk (a .next))
 
   module _ (b : Block) (t : State) (ht : Strong l t) where
-    change-ok : (e j : ℕ) (ss : List (Slot State)) (n : ℕ) (k : State) (c : Bool) → AllOk ss → Strong l k → PropagationOk (afterChange State join changed (exec q) blocks b e j ss n k c)
+    change-ok : (e j : ℕ) (ss : List (Slot State)) (n : ℕ) (k : State) (c : Bool) → AllOk ss → Strong l k → PropagationOk (afterChange State join joinBlurs changed (exec q) blocks b e j ss n k c)
     change-ok e j ss n k true a h = (set-ok ss j (record { kept = some k; status = fine; changes = suc (getD ss j blank .changes) }) a h, tt)
     change-ok e j ss n k false a h = (a, tt)
 
-    join-ok : (e j : ℕ) (ss : List (Slot State)) (n : ℕ) (s : State) {x : Ans State} → AllOk ss → Sure (Strong l) x → PropagationOk (afterJoin State join changed (exec q) blocks b e j ss n s x)
+    join-ok : (e j : ℕ) (ss : List (Slot State)) (n : ℕ) (s : State) {x : Ans State} → AllOk ss → Sure (Strong l) x → PropagationOk (afterJoin State join joinBlurs changed (exec q) blocks b e j ss n s x)
     join-ok e j ss n s a (sure {a = k} h) = change-ok e j ss n k (changed s k) a h
     join-ok e j ss n s a (unsure w) = (a, w)
 
-    kept-ok : (e j : ℕ) (ss : List (Slot State)) (n : ℕ) (k : Option State) → AllOk ss → KeptOk k → PropagationOk (toKept State join changed (exec q) blocks b t e j ss n k)
+    kept-ok : (e j : ℕ) (ss : List (Slot State)) (n : ℕ) (k : Option State) → AllOk ss → KeptOk k → PropagationOk (toKept State join joinBlurs changed (exec q) blocks b t e j ss n k)
     kept-ok e j ss n none a h = (set-ok ss j (record { kept = some t; status = fine; changes = getD ss j blank .changes }) a ht, tt)
     kept-ok e j ss n (some s) a h = join-ok e j ss n s a (join-sure l s t small h ht)
 
-    next-ok : (e : ℕ) (ss : List (Slot State)) (x : Next) → AllOk ss → NextOk x → PropagationOk (toSuccessor State join changed (exec q) blocks b t e ss x)
+    next-ok : (e : ℕ) (ss : List (Slot State)) (x : Next) → AllOk ss → NextOk x → PropagationOk (toSuccessor State join joinBlurs changed (exec q) blocks b t e ss x)
     next-ok e ss (at n) a h = kept-ok e (position blocks e) ss n (getD ss (position blocks e) blank .kept) a (a (position blocks e))
     next-ok e ss (stopped r o) a h = (a, h)
 
-    propagate-ok : (es : List ℕ) (a : Propagation State) → PropagationOk a → PropagationOk (propagate State join changed (exec q) blocks b t es a)
+    propagate-ok : (es : List ℕ) (a : Propagation State) → PropagationOk a → PropagationOk (propagate State join joinBlurs changed (exec q) blocks b t es a)
     unfolding propagate
     propagate-ok [] a h = h
-    propagate-ok (e ∷ es) a h = propagate-ok es (toSuccessor State join changed (exec q) blocks b t e (a .slots) (a .next)) (next-ok e (a .slots) (a .next) (h .0) (h .1))
+    propagate-ok (e ∷ es) a h = propagate-ok es (toSuccessor State join joinBlurs changed (exec q) blocks b t e (a .slots) (a .next)) (next-ok e (a .slots) (a .next) (h .0) (h .1))
 
   abbrev RunOk : Run State → Type 0
   RunOk r = (AllOk (r .slots)) × (NextOk (r .next))
 
-  mark-ok : (ss : List (Slot State)) (i : ℕ) (x : Status) → AllOk ss → AllOk (mark State join changed (exec q) blocks ss i x)
+  mark-ok : (ss : List (Slot State)) (i : ℕ) (x : Status) → AllOk ss → AllOk (mark State join joinBlurs changed (exec q) blocks ss i x)
   mark-ok ss i x a = set-ok ss i (record { kept = getD ss i blank .kept; status = x; changes = getD ss i blank .changes }) a (a i)
 
-  block-ok : (r : Run State) (i : ℕ) {x : Result State} → RunOk r → Ends (Strong l) x → RunOk (afterBlock State join changed (exec q) blocks r i x)
+  block-ok : (r : Run State) (i : ℕ) {x : Result State} → RunOk r → Ends (Strong l) x → RunOk (afterBlock State join joinBlurs changed (exec q) blocks r i x)
   block-ok r i h (ends {t} w) =
       let b : Block = getD blocks i noBlock in
-      propagate-ok b t w (b .successors) (record { slots = mark State join changed (exec q) blocks (r .slots) i fine; next = at (suc i) }) (mark-ok (r .slots) i fine (h .0), tt)
+      propagate-ok b t w (b .successors) (record { slots = mark State join joinBlurs changed (exec q) blocks (r .slots) i fine; next = at (suc i) }) (mark-ok (r .slots) i fine (h .0), tt)
   block-ok r i h leaves = (mark-ok (r .slots) i fine (h .0), tt)
   block-ok r i h (breaks {c} {o}) = (mark-ok (r .slots) i (failed c o) (h .0), tt)
   block-ok r i h (bars w) = (h .0, w)
 
-  visit-ok : (r : Run State) (i : ℕ) (k : Option State) → RunOk r → KeptOk k → RunOk (runLoopBlock State join changed (exec q) blocks r i k)
+  visit-ok : (r : Run State) (i : ℕ) (k : Option State) → RunOk r → KeptOk k → RunOk (runLoopBlock State join joinBlurs changed (exec q) blocks r i k)
   visit-ok r i none h w = (h .0, tt)
   visit-ok r i (some s) h w = block-ok r i h (exec-ends q p i s w)
 
-  step-ok : (r : Run State) (x : Next) → RunOk r → RunOk (turnAt State join changed (exec q) blocks r x)
+  step-ok : (r : Run State) (x : Next) → RunOk r → RunOk (turnAt State join joinBlurs changed (exec q) blocks r x)
   step-ok r (at i) h = go (ltb i (length blocks))
     where
-      go : (b : Bool) → RunOk (cond b (runLoopBlock State join changed (exec q) blocks r i (getD (r .slots) i blank .kept)) r)
+      go : (b : Bool) → RunOk (cond b (runLoopBlock State join joinBlurs changed (exec q) blocks r i (getD (r .slots) i blank .kept)) r)
       go true = visit-ok r i (getD (r .slots) i blank .kept) h (h .0 i)
       go false = h
   step-ok r (stopped n o) h = h
 
-  steps-ok : (f : ℕ) (r : Run State) → RunOk r → RunOk (turns State join changed (exec q) blocks f r)
+  steps-ok : (f : ℕ) (r : Run State) → RunOk r → RunOk (turns State join joinBlurs changed (exec q) blocks f r)
   unfolding turns turn
   steps-ok zero r h = h
-  steps-ok (suc f) r h = steps-ok f (turn State join changed (exec q) blocks r) (step-ok r (r .next) h)
+  steps-ok (suc f) r h = steps-ok f (turn State join joinBlurs changed (exec q) blocks r) (step-ok r (r .next) h)
 
-  first-ok : (bs : List Block) → AllOk (startSlots State join changed (exec q) blocks bs (firstState l ts))
+  first-ok : (bs : List Block) → AllOk (startSlots State join joinBlurs changed (exec q) blocks bs (firstState l ts))
   unfolding startSlots
   first-ok [] j = tt
   first-ok (b ∷ bs) zero = first-strong l ts small
@@ -182,7 +182,7 @@ module _ (q : Routine) (p : promised q ≡ true) where
   -- A run that a refusal ended: not 8, 9 or 23.
   pub refusals : (f : ℕ) → NextOk (runWith q f .next)
   unfolding run
-  refusals f = steps-ok f (record { slots = startSlots State join changed (exec q) blocks blocks (firstState l ts); next = at 0; trail = [] }) (first-ok blocks, tt) .1
+  refusals f = steps-ok f (record { slots = startSlots State join joinBlurs changed (exec q) blocks blocks (firstState l ts); next = at 0; trail = []; blurs = 0 }) (first-ok blocks, tt) .1
 
 -- ---- the answer to a listing that is read as q
 

@@ -11,7 +11,7 @@ use lib.ListN.{length}
 use Rattle.meaning.specs.Answers.{ordinary, Outcome, done, violated, refused, then, Ans, ok, refuse, lift, fails, needs}
 use Rattle.meaning.specs.Lists.{keep, any}
 use Rattle.meaning.specs.Labels.{localLabel, globalLabel, fieldLabel}
-use Rattle.meaning.specs.BorrowGraph.{Graph, held, onPairs, wellFormed, release, newName, borrowWeak, borrowStrong, isMutable, fullyBorrowed, borrowed, mutablyBorrowed}
+use Rattle.meaning.specs.BorrowGraph.{held, onPairs, wellFormed, release, newName, borrowWeak, borrowStrong, isMutable, fullyBorrowed, borrowed, mutablyBorrowed}
 use Rattle.meaning.specs.AbstractState.{Local, count1, Operand, nonRef, reference, Token, ofValue, ofRef}
 use Rattle.meaning.specs.EntryPoints.{Running, Answer, Answers, withGraph, answer, writable, freezable, readable, needsName, newRef, onGraph, addCopy, addBorrow, addFieldBorrow, addLocalBorrow, addResourceBorrow, releaseName, valueFor, releaseValue, freezeRef, comparison, readRef, writeRef, borrowLoc, borrowField, borrowGlobal, moveFrom, vectorTest, vectorOp, vectorElementBorrow, operandNames, releaseAll, borrowFrom, handOver, parentsOf, returnValues, putNumber, ascend, localNames, notAcquired, call, ret}
 use Rattle.meaning.specs.Laws.Base.{and-i, eqb-self}
@@ -23,7 +23,7 @@ use Rattle.meaning.specs.Laws.Own.{fair, Owns, times, count-yes, times-a
 -- what is done has the property; what is refused is not refused with 8, 9 or 23
 pub data Meets {A : Type 0} (P : A → Type 0) : Outcome A → Type 0 where
   met : {a : A} → P a → Meets P (done a)
-  broke : {c : ℕ} → Meets P (violated c)
+  broke : {k c : ℕ} → Meets P (violated k c)
   barred : {n : ℕ} → ordinary n ≡ true → Meets P (refused n)
 
 pub meets-then : {A B : Type 0} {P : A → Type 0} {Q : B → Type 0} {a : Outcome A} → Meets P a → (f : A → Outcome B) → ((x : A) → P x → Meets Q (f x)) → Meets Q (then a f)
@@ -35,9 +35,9 @@ pub meets-lift : {A : Type 0} {P : A → Type 0} (a : Ans A) → fair a ≡ true
 meets-lift (ok x) e k = met (k x refl)
 meets-lift (refuse n) e k = barred e
 
-pub meets-fails : {A : Type 0} {P : A → Type 0} (b : Bool) (c : ℕ) {k : Outcome A} → Meets P k → Meets P (fails b c k)
-meets-fails true c h = broke
-meets-fails false c h = h
+pub meets-fails : {A : Type 0} {P : A → Type 0} (n : ℕ) (b : Bool) (c : ℕ) {k : Outcome A} → Meets P k → Meets P (fails n b c k)
+meets-fails n true c h = broke
+meets-fails n false c h = h
 
 pub meets-needs : {A : Type 0} {P : A → Type 0} (b : Bool) (n : ℕ) {k : Outcome A} → ordinary n ≡ true → (b ≡ true → Meets P k) → Meets P (needs b n k)
 meets-needs true n e h = h refl
@@ -46,22 +46,22 @@ meets-needs false n e h = barred e
 -- read off
 abbrev isDone : {A : Type 0} → Outcome A → Type 0
 isDone (done a) = Unit {0}
-isDone (violated c) = ⊥
+isDone (violated k c) = ⊥
 isDone (refused n) = ⊥
 
 abbrev isRefused : {A : Type 0} → Outcome A → Type 0
 isRefused (done a) = ⊥
-isRefused (violated c) = ⊥
+isRefused (violated k c) = ⊥
 isRefused (refused n) = Unit {0}
 
 abbrev fromDone : {A : Type 0} → A → Outcome A → A
 fromDone d (done a) = a
-fromDone d (violated c) = d
+fromDone d (violated k c) = d
 fromDone d (refused n) = d
 
 abbrev fromRefused : {A : Type 0} → ℕ → Outcome A → ℕ
 fromRefused d (done a) = d
-fromRefused d (violated c) = d
+fromRefused d (violated k c) = d
 fromRefused d (refused n) = n
 
 pub meets-done : {A : Type 0} {P : A → Type 0} {a : Outcome A} → Meets P a → (x : A) → a ≡ done x → P x
@@ -119,7 +119,7 @@ module _ (l : ℕ) (ls : List Local) where
       let s : r .next < 65536 = omega arith in
       rw (lt-ltb (r .next) 65536 s)
       (meets-then (meets-lift (newName (r .graph) (r .next) b) (newName-fair l (r .graph) (r .next) xs (suc m) b (h .own) k) (λ g e. newName-own l (r .graph) (r .next) xs m b g (h .own) e))
-      (λ g. done (record { locals = r .locals; graph = g; next = suc (r .next); root = r .root }))
+      (λ g. done (record { locals = r .locals; graph = g; next = suc (r .next); root = r .root; blurs = r .blurs }))
       (λ g o. met (record { keeps = record { root = h .root; locals = h .locals; own = o .0 }; noEdge = o .1 })))
 
   -- a borrow from the root, or from a name in use beside c
@@ -189,7 +189,7 @@ module _ (l : ℕ) (ls : List Local) where
   freezeRef-keeps n xs m r h k =
       known-keeps n (n ∷ xs) (suc m) r h (uses-head n xs)
       (meets-needs (isMutable (r .graph) n) 13 refl (λ e.
-      meets-fails (not (freezable (r .graph) n none)) 104
+      meets-fails (r .blurs) (not (freezable (r .graph) n none)) 104
       (replace-keeps false (addCopy n (r .next)) n xs m r h k (λ s f. strong-keeps n [] (r .next) (n ∷ xs) m s f (uses-head n xs)))))
 
   pub comparison-keeps : (v w : Operand) (xs : List ℕ) (m : ℕ) (r : Running) → Keeps l ls (operandNames (v ∷ []) ++ (operandNames (w ∷ []) ++ xs)) m r → Meets (Made xs m) (comparison v w r)
@@ -199,9 +199,9 @@ module _ (l : ℕ) (ls : List Local) where
   comparison-keeps (reference k) nonRef xs m r h = barred refl
   comparison-keeps (reference k) (reference n) xs m r h =
       known-keeps k (k ∷ n ∷ xs) m r h (uses-head k (n ∷ xs))
-      (meets-fails (not (readable (r .graph) k none)) 105
+      (meets-fails (r .blurs) (not (readable (r .graph) k none)) 105
       (known-keeps n (k ∷ n ∷ xs) m r h (let u : Uses n (n ∷ xs) = uses-head n xs in omega arith)
-      (meets-fails (not (readable (r .graph) n none)) 105
+      (meets-fails (r .blurs) (not (readable (r .graph) n none)) 105
       (meets-then (release-keeps k (n ∷ xs) m r h) (λ s. then (releaseName n s) (λ t. answer t nonRef))
       (λ s p. meets-then (release-keeps n xs m s p) (λ t. answer t nonRef) (λ t q. met q))))))
 
@@ -209,7 +209,7 @@ module _ (l : ℕ) (ls : List Local) where
   unfolding readRef
   readRef-keeps n xs m r h =
       known-keeps n (n ∷ xs) m r h (uses-head n xs)
-      (meets-fails (not (readable (r .graph) n none)) 105
+      (meets-fails (r .blurs) (not (readable (r .graph) n none)) 105
       (meets-then (release-keeps n xs m r h) (λ s. answer s nonRef) (λ s q. met q)))
 
   pub writeRef-keeps : (n : ℕ) (xs : List ℕ) (m : ℕ) (r : Running) → Keeps l ls (n ∷ xs) m r → Meets (Keeps l ls xs m) (writeRef n r)
@@ -217,49 +217,49 @@ module _ (l : ℕ) (ls : List Local) where
   writeRef-keeps n xs m r h =
       known-keeps n (n ∷ xs) m r h (uses-head n xs)
       (meets-needs (isMutable (r .graph) n) 13 refl (λ e.
-      meets-fails (not (writable (r .graph) n)) 106 (release-keeps n xs m r h)))
+      meets-fails (r .blurs) (not (writable (r .graph) n)) 106 (release-keeps n xs m r h)))
 
   pub borrowLoc-keeps : (b : Bool) (i : ℕ) (xs : List ℕ) (m : ℕ) (r : Running) → Keeps l ls xs (suc m) r → length xs ≤ 46 → Meets (Made xs m) (borrowLoc b i r)
   unfolding borrowLoc addLocalBorrow
   borrowLoc-keeps b i xs m r h k =
       known-root xs (suc m) r h
-      (meets-fails (not b && mutablyBorrowed (r .graph) (r .root) (some (localLabel i))) 107
+      (meets-fails (r .blurs) (not b && mutablyBorrowed (r .graph) (r .root) (some (localLabel i))) 107
       (borrow-keeps b (addLocalBorrow i (r .next)) xs m r h k (λ s f. strong-keeps (s .root) (localLabel i ∷ []) (r .next) xs m s f (uses-root (r .next ∷ xs) m s (f .keeps) xs))))
 
   pub borrowField-keeps : (b : Bool) (n j : ℕ) (xs : List ℕ) (m : ℕ) (r : Running) → Keeps l ls (n ∷ xs) (suc m) r → length xs ≤ 45 → Meets (Made xs m) (borrowField b n j r)
   unfolding borrowField addFieldBorrow
   borrowField-keeps b n j xs m r h k =
       known-keeps n (n ∷ xs) (suc m) r h (uses-head n xs)
-      (meets-fails (cond b (fullyBorrowed (r .graph) n) (not (readable (r .graph) n (some (fieldLabel j))))) 108
+      (meets-fails (r .blurs) (cond b (fullyBorrowed (r .graph) n) (not (readable (r .graph) n (some (fieldLabel j))))) 108
       (replace-keeps b (addFieldBorrow n j (r .next)) n xs m r h k (λ s f. strong-keeps n (fieldLabel j ∷ []) (r .next) (n ∷ xs) m s f (uses-head n xs))))
 
   pub borrowGlobal-keeps : (b : Bool) (i : ℕ) (xs : List ℕ) (m : ℕ) (r : Running) → Keeps l ls xs (suc m) r → length xs ≤ 46 → Meets (Made xs m) (borrowGlobal b i r)
   unfolding borrowGlobal addResourceBorrow
   borrowGlobal-keeps b i xs m r h k =
       known-root xs (suc m) r h
-      (meets-fails ((b && borrowed (r .graph) (r .root) (some (globalLabel i))) || mutablyBorrowed (r .graph) (r .root) (some (globalLabel i))) 109
+      (meets-fails (r .blurs) ((b && borrowed (r .graph) (r .root) (some (globalLabel i))) || mutablyBorrowed (r .graph) (r .root) (some (globalLabel i))) 109
       (borrow-keeps b (addResourceBorrow i (r .next)) xs m r h k (λ s f. weak-keeps (s .root) (globalLabel i ∷ []) (r .next) xs m s (f .keeps) (uses-root (r .next ∷ xs) m s (f .keeps) xs))))
 
   pub moveFrom-keeps : (i : ℕ) (xs : List ℕ) (m : ℕ) (r : Running) → Keeps l ls xs m r → Meets (Made xs m) (moveFrom i r)
   unfolding moveFrom
-  moveFrom-keeps i xs m r h = known-root xs m r h (meets-fails (borrowed (r .graph) (r .root) (some (globalLabel i))) 109 (met h))
+  moveFrom-keeps i xs m r h = known-root xs m r h (meets-fails (r .blurs) (borrowed (r .graph) (r .root) (some (globalLabel i))) 109 (met h))
 
-  meets-vector : {A : Type 0} {P : A → Type 0} (b : Bool) (g : Graph) (n c : ℕ) {k : Outcome A} → Meets P k → Meets P (vectorTest b g n c k)
-  meets-vector true g n c h = meets-needs (isMutable g n) 13 refl (λ e. meets-fails (not (writable g n)) c h)
-  meets-vector false g n c h = h
+  meets-vector : {A : Type 0} {P : A → Type 0} (b : Bool) (r : Running) (n c : ℕ) {k : Outcome A} → Meets P k → Meets P (vectorTest b r n c k)
+  meets-vector true r n c h = meets-needs (isMutable (r .graph) n) 13 refl (λ e. meets-fails (r .blurs) (not (writable (r .graph) n)) c h)
+  meets-vector false r n c h = h
 
   pub vectorOp-keeps : (v : Operand) (b : Bool) (xs : List ℕ) (m : ℕ) (r : Running) → Keeps l ls (operandNames (v ∷ []) ++ xs) m r → Meets (Keeps l ls xs m) (vectorOp v b r)
   unfolding vectorOp
   vectorOp-keeps nonRef b xs m r h = barred refl
   vectorOp-keeps (reference n) b xs m r h =
-      known-keeps n (n ∷ xs) m r h (uses-head n xs) (meets-vector b (r .graph) n 110 (release-keeps n xs m r h))
+      known-keeps n (n ∷ xs) m r h (uses-head n xs) (meets-vector b r n 110 (release-keeps n xs m r h))
 
   pub element-keeps : (v : Operand) (b : Bool) (xs : List ℕ) (m : ℕ) (r : Running) → Keeps l ls (operandNames (v ∷ []) ++ xs) (suc m) r → length xs ≤ 45 → Meets (Made xs m) (vectorElementBorrow v b r)
   unfolding vectorElementBorrow addBorrow
   element-keeps nonRef b xs m r h k = barred refl
   element-keeps (reference n) b xs m r h k =
       known-keeps n (n ∷ xs) (suc m) r h (uses-head n xs)
-      (meets-vector b (r .graph) n 111
+      (meets-vector b r n 111
       (replace-keeps b (addBorrow n (r .next)) n xs m r h k (λ s f. weak-keeps n [] (r .next) (n ∷ xs) m s (f .keeps) (uses-head n xs))))
 
   -- ---- call and return
@@ -283,7 +283,7 @@ module _ (l : ℕ) (ls : List Local) where
   handOver-keeps [] c xs m r h w k = k
   handOver-keeps (n ∷ ns) c xs m r h w k =
       known-keeps n xs m r h (let a : 1 ≤ times n xs = within-head n ns xs w in omega arith)
-      (meets-fails (isMutable (r .graph) n && not (writable (r .graph) n)) c (handOver-keeps ns c xs m r h (λ q e. w q (omega arith)) k))
+      (meets-fails (r .blurs) (isMutable (r .graph) n && not (writable (r .graph) n)) c (handOver-keeps ns c xs m r h (λ q e. w q (omega arith)) k))
 
   -- the values returned are in use too, each a place of its own
   pub record Returned (ts : List Token) (xs : List ℕ) (m : ℕ) (a : Answers) : Type 0 where
@@ -358,7 +358,7 @@ module _ (l : ℕ) (ls : List Local) where
       let muts : List ℕ = keep (isMutable (r .graph)) alls in
       let f₂ : Answers → Outcome Answers = λ a. then (releaseAll alls (a .state)) (λ s. done (record { state = s; operands = a .operands })) in
       known-root l ls (ys ++ xs) (length ts + m) r h
-      (meets-fails (any (λ i. borrowed (r .graph) (r .root) (some (globalLabel i))) acquired) 109
+      (meets-fails (r .blurs) (any (λ i. borrowed (r .graph) (r .root) (some (globalLabel i))) acquired) 109
       (handOver-keeps l ls ys 112 (ys ++ xs) (length ts + m) r h (λ p e. let a : times p (ys ++ xs) ≡ times p ys + times p xs = times-append p ys xs in omega arith)
       (meets-then
       (returnValues-keeps l ls ts muts alls (ys ++ xs) m r h k
@@ -392,9 +392,9 @@ module _ (l : ℕ) (ls : List Local) where
   ret-meets vs xs m r h =
       let ys : List ℕ = operandNames vs in
       meets-then (releaseAll-keeps l ls (ascend (localNames (r .locals))) (ys ++ xs) m r (keeps-as l ls (ys ++ (xs ++ localNames ls)) (ascend (localNames (r .locals)) ++ (ys ++ xs)) m r h turn))
-      (λ s. needsName (s .graph) (s .root) (fails (borrowed (s .graph) (s .root) none) 113 (handOver ys 114 s (done s))))
+      (λ s. needsName (s .graph) (s .root) (fails (s .blurs) (borrowed (s .graph) (s .root) none) 113 (handOver ys 114 s (done s))))
       (λ s k. known-root l ls (ys ++ xs) m s k
-      (meets-fails (borrowed (s .graph) (s .root) none) 113
+      (meets-fails (s .blurs) (borrowed (s .graph) (s .root) none) 113
       (handOver-keeps l ls ys 114 (ys ++ xs) m s k (λ p e. let a : times p (ys ++ xs) ≡ times p ys + times p xs = times-append p ys xs in omega arith) (met tt))))
     where
       split : (n : ℕ) → times n (operandNames vs ++ (xs ++ localNames ls)) ≡ times n (operandNames vs) + (times n xs + times n (localNames ls))

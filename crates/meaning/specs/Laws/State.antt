@@ -10,7 +10,7 @@ use lib.ListN.{length, getD, List·getD-eq-default}
 use Rattle.meaning.specs.Answers.{ok, andThen, Ans, refuse, leaves}
 use Rattle.meaning.specs.Lists.{sum, all}
 use Rattle.meaning.specs.References.{EdgeSet, Edge, emptySet, covered}
-use Rattle.meaning.specs.BorrowGraph.{Graph, held, setAt, onPairs, release, joinGraphs, Name, holds, GEdge, pairOk, wellFormed}
+use Rattle.meaning.specs.BorrowGraph.{Graph, held, setAt, onPairs, release, joinGraphs, Name, holds, GEdge, pairOk, wellFormed, blursTo}
 use Rattle.meaning.specs.AbstractState.{Local, absent, value, ref, Step, joinLocal, Parts, joinLocals, State, join, Form, eqLocal, eqLocals, eqEdges, eqSet, eqSets, changed, count1, did, changes}
 use Rattle.meaning.specs.Loop.{mostChanges}
 use Rattle.meaning.specs.Laws.Base.{refuse≢ok, ok-inj, andThen-ok, guard-ok, eqb-self, sum-bound, sum-bound-but, and-l, and-r, and-i, sum-le, sum-lt, both, decide, leb-le, leb-gt, not-true, eqb-ne, all-and}
@@ -126,7 +126,7 @@ pub record Trimmed (xs : List Local) (g h : Graph) (r : Parts) : Type 0 where
 
 module _ (a : Local) (xs : List Local) (g h : Graph) (s : Step) (r : Parts) (p : Stepped a g h s) (q : Trimmed xs (s .ours) (s .theirs) r) where
   out : Parts
-  out = record { locals = s .local ∷ r .locals; ours = r .ours; theirs = r .theirs }
+  out = record { locals = s .local ∷ r .locals; ours = r .ours; theirs = r .theirs; blurs = blursTo g (s .ours) + blursTo h (s .theirs) + r .blurs }
 
   cons-local : (j : ℕ) → (getD (out .locals) j absent ≡ getD (a ∷ xs) j absent) ⊎ (getD (out .locals) j absent ≡ absent)
   unfolding out
@@ -177,8 +177,8 @@ joinLocals-law [] [] g h r e = subst (λ (z : Parts). Trimmed [] g h z) (ok-inj 
 joinLocals-law [] (b ∷ ys) g h r e = absurd (refuse≢ok e)
 joinLocals-law (a ∷ xs) [] g h r e = absurd (refuse≢ok e)
 joinLocals-law (a ∷ xs) (b ∷ ys) g h r e =
-    let z = andThen-ok (joinLocal a b g h) (λ s. andThen (joinLocals xs ys (s .ours) (s .theirs)) (λ t. ok (record { locals = s .local ∷ t .locals; ours = t .ours; theirs = t .theirs }))) r e in
-    let y = andThen-ok (joinLocals xs ys (z .0 .ours) (z .0 .theirs)) (λ t. ok (record { locals = z .0 .local ∷ t .locals; ours = t .ours; theirs = t .theirs })) r (z .2) in
+    let z = andThen-ok (joinLocal a b g h) (λ s. andThen (joinLocals xs ys (s .ours) (s .theirs)) (λ t. ok (record { locals = s .local ∷ t .locals; ours = t .ours; theirs = t .theirs; blurs = blursTo g (s .ours) + blursTo h (s .theirs) + t .blurs }))) r e in
+    let y = andThen-ok (joinLocals xs ys (z .0 .ours) (z .0 .theirs)) (λ t. ok (record { locals = z .0 .local ∷ t .locals; ours = t .ours; theirs = t .theirs; blurs = blursTo g (z .0 .ours) + blursTo h (z .0 .theirs) + t .blurs })) r (z .2) in
     subst (λ (u : Parts). Trimmed (a ∷ xs) g h u) (ok-inj (y .2))
     (trimmed-cons a xs g h (z .0) (y .0) (joinLocal-law a b g h (z .0) (z .1)) (joinLocals-law xs ys (z .0 .ours) (z .0 .theirs) (y .0) (y .1)))
 

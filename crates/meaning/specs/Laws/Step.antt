@@ -62,12 +62,12 @@ local-use (x ∷ xs) (suc i) n h =
     let b : 1 ≤ times n (localNames xs) = local-use xs i n h in
     omega arith
 
-names-le : (vs : List Operand) → length (operandNames vs) ≤ length vs
+pub names-le : (vs : List Operand) → length (operandNames vs) ≤ length vs
 names-le [] = zero-le
 names-le (nonRef ∷ vs) = let h : length (operandNames vs) ≤ length vs = names-le vs in omega arith
 names-le (reference n ∷ vs) = let h : length (operandNames vs) ≤ length vs = names-le vs in omega arith
 
-locals-le : (xs : List Local) → length (localNames xs) ≤ length xs
+pub locals-le : (xs : List Local) → length (localNames xs) ≤ length xs
 locals-le [] = zero-le
 locals-le (absent ∷ xs) = let h : length (localNames xs) ≤ length xs = locals-le xs in omega arith
 locals-le (value ∷ xs) = let h : length (localNames xs) ≤ length xs = locals-le xs in omega arith
@@ -141,7 +141,7 @@ module _ (l : ℕ) (small : l ≤ 16) where
       go absent e = barred refl
       go value e =
           known-root l (r .locals) xs (suc m) r (h .keeps)
-          (meets-fails (mutablyBorrowed (r .graph) (r .root) (some (localLabel i))) 101
+          (meets-fails (r .blurs) (mutablyBorrowed (r .graph) (r .root) (some (localLabel i))) 101
           (met (good-as vs (nonRef ∷ vs) m r (good-less (suc m) m vs r h (omega arith)) (λ n. refl))))
       go (ref n) e =
           let u : 1 ≤ times n (localNames (r .locals)) = local-use (r .locals) i n e in
@@ -168,7 +168,7 @@ module _ (l : ℕ) (small : l ≤ 16) where
       go absent e = barred refl
       go value e =
           known-root l (r .locals) (operandNames vs ++ localNames (r .locals)) m r (h .keeps)
-          (meets-fails (borrowed (r .graph) (r .root) (some (localLabel i))) 102
+          (meets-fails (r .blurs) (borrowed (r .graph) (r .root) (some (localLabel i))) 102
           (met (good-local vs (nonRef ∷ vs) i absent m r h (λ n. let a : times n (localNames (set (r .locals) i absent)) + 0 ≡ times n (localNames (r .locals)) + 0 = after value e value≢absent n in omega arith))))
         where
           value≢absent : value ≡ absent → ⊥
@@ -205,7 +205,7 @@ module _ (l : ℕ) (small : l ≤ 16) where
       go absent e = met (plain absent e (λ n. refl))
       go value e =
           let k : Good l m vs s = plain value e (λ n. refl) in
-          known-root l (s .locals) (operandNames vs ++ localNames (s .locals)) m s (k .keeps) (meets-fails (borrowed (s .graph) (s .root) (some (localLabel i))) 103 (met k))
+          known-root l (s .locals) (operandNames vs ++ localNames (s .locals)) m s (k .keeps) (meets-fails (s .blurs) (borrowed (s .graph) (s .root) (some (localLabel i))) 103 (met k))
       go (ref j) e =
           let k : Good l m (reference j ∷ vs) s = good-local (v ∷ vs) (reference j ∷ vs) i (localOf v) m r h
           (λ n. let a : times n (localNames (set (r .locals) i (localOf v))) + times n (j ∷ []) ≡ times n (localNames (r .locals)) + times n (operandNames (v ∷ [])) = law (ref j) e n in

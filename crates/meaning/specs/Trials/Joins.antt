@@ -44,7 +44,7 @@ top a b = ok (cap3 b)
 abbrev two : List Block
 two = record { entry = 0; exit = 0; successors = 1 ∷ [] } ∷ record { entry = 1; exit = 1; successors = 0 ∷ [] } ∷ []
 
-loops : visits (run ℕ top (λ a b. not (eqb a b)) (λ i s. ended (suc s)) two 100 0) ≡ 6
+loops : visits (run ℕ top (λ a b. 0) (λ a b. not (eqb a b)) (λ i s. ended 0 (suc s)) two 100 0) ≡ 6
 unfolding run turns turn propagate startSlots position
 loops = refl
 

@@ -8,7 +8,7 @@ use lib.ListN.{length}
 use Rattle.meaning.specs.Lists.{all}
 use Rattle.meaning.specs.References.{insert, eqEdge, eqPath, prefix, has, put, ltEdge, ltPath, setOk, ordered, short, isBlur}
 use Rattle.meaning.specs.BorrowGraph.{splice, setAt, release, wellFormed, holds, spliced, without, addAll, addEdge, setTo, limit, ascending, inOrder, newName, borrowWeak, borrowStrong, putName, renamed, renameNames, renameEdges, putEdge, isMutable, borrowed, mutablyBorrowed, fullyBorrowed}
-use Rattle.meaning.specs.AbstractState.{ofRef, canonical, crosses, ownNames, newNameOf, localHolding, State, join, changed, firstState, firstLocals, firstNames, ofValue, Token}
+use Rattle.meaning.specs.AbstractState.{ofRef, canonical, crosses, ownNames, newNameOf, localHolding, State, join, changed, firstState, firstLocals, firstNames, ofValue, Token, joinBlurs}
 use Rattle.meaning.specs.EntryPoints.{newRef, addBorrow, addLocalBorrow, releaseName, valueFor, moveLoc, stLoc, borrowLoc, putNumber, ascend, releaseAll, borrowFrom, handOver, notAcquired, returnValues, call, ret, addCopy, addFieldBorrow, addResourceBorrow, releaseValue, copyLoc, freezeRef, comparison, readRef, writeRef, borrowField, borrowGlobal, moveFrom, vectorOp, vectorElementBorrow}
 use Rattle.meaning.specs.Steps.{MoveLoc, StLoc, Ret, Call, popValues, popMany, push, pushAll, pushNew, step, Values, Instr, Pop, CopyLoc, FreezeRef, Compare, ReadRef, WriteRef, BorrowLoc, BorrowField, BorrowGlobal, MoveFrom, MoveTo, VectorOp, BorrowElement}
 use Rattle.meaning.specs.Blocks.{Routine, instrsOf, runFrom, runBlock, exec}
@@ -24,7 +24,7 @@ moved = record {
   code = MoveLoc 0 ∷ StLoc 1 ∷ MoveLoc 1 ∷ Call 1 (7 ∷ []) (ofRef true ∷ []) ∷ Ret ∷ [];
 }
 
-pub moved-accepted : verdict (moved .blocks) (run State join changed (exec moved) (moved .blocks) 10 (firstState (moved .locals) (moved .params))) ≡ accept
+pub moved-accepted : verdict (moved .blocks) (run State join joinBlurs changed (exec moved) (moved .blocks) 10 (firstState (moved .locals) (moved .params))) ≡ accept
 unfolding firstState firstLocals firstNames run turns loopStep propagate startSlots position verdict lowest exec runBlock runFrom instrsOf step popValues popMany push pushAll pushNew valueFor newRef stLoc borrowLoc moveLoc addLocalBorrow addBorrow borrowed mutablyBorrowed isMutable newName borrowStrong borrowWeak putName wellFormed holds ascending setAt setTo setOk ordered short inOrder isBlur addAll addEdge insert limit has put prefix eqEdge eqPath ltEdge ltPath canonical crosses renamed renameNames renameEdges putEdge ownNames newNameOf localHolding call notAcquired handOver returnValues borrowFrom releaseAll releaseName release spliced without splice ascend putNumber ret
 moved-accepted = refl
 
@@ -38,7 +38,7 @@ left = record {
   code = Values 0 1 ofValue ∷ MoveLoc 0 ∷ MoveLoc 1 ∷ StLoc 0 ∷ StLoc 1 ∷ Ret ∷ [];
 }
 
-pub left-refused : verdict (left .blocks) (run State join changed (exec left) (left .blocks) 10 (firstState (left .locals) (left .params))) ≡ refusal 14 4
+pub left-refused : verdict (left .blocks) (run State join joinBlurs changed (exec left) (left .blocks) 10 (firstState (left .locals) (left .params))) ≡ refusal 14 4
 unfolding firstState firstLocals firstNames run turns loopStep propagate startSlots position verdict lowest exec runBlock runFrom instrsOf step popValues popMany push pushAll pushNew valueFor newRef stLoc borrowLoc moveLoc addLocalBorrow addBorrow borrowed mutablyBorrowed isMutable newName borrowStrong borrowWeak putName wellFormed holds ascending setAt setTo setOk ordered short inOrder isBlur addAll addEdge insert limit has put prefix eqEdge eqPath ltEdge ltPath canonical crosses renamed renameNames renameEdges putEdge ownNames newNameOf localHolding call notAcquired handOver returnValues borrowFrom releaseAll releaseName release spliced without splice ascend putNumber ret
 left-refused = refl
 
@@ -61,7 +61,7 @@ unfolding run verdict exec firstState
 whole l ts n is v =
     let b : List Block = record { entry = 0; exit = length is - 1; successors = [] } ∷ [] in
     let q : Routine = record { params = ts; locals = l; returns = n; blocks = b; code = is } in
-    isVerdict (verdict b (run State join changed (exec q) b 3 (firstState l (q .params)))) v
+    isVerdict (verdict b (run State join joinBlurs changed (exec q) b 3 (firstState l (q .params)))) v
 
 abbrev load : Instr
 load = Values 0 1 ofValue

@@ -1,7 +1,7 @@
 -- `reference_safety_lib::put_words` meets its contract. Assumes nothing.
 use native.Mathlib.Omega.{arith}
 use lib.ListN.{length-set}
-use Rattle.reference_safety_lib.specs.WordLaws.{put-four}
+use Rattle.reference_safety_lib.specs.WordLaws.{put-six}
 use borrow.Author.Needs.{needs}
 use Rattle.reference_safety_lib.proofs.put_words.Statement.{statement}
 use Rattle.reference_safety_lib.proofs.put_words.Tie as tie
@@ -16,13 +16,19 @@ slice-write-answer-3 : tie.Need-slice-write-answer-3
 slice-write-answer-3 c = simp length-set (omega arith)
 
 slice-write-answer-4 : tie.Need-slice-write-answer-4
-slice-write-answer-4 c = search needs
+slice-write-answer-4 c = simp length-set (omega arith)
+
+slice-write-answer-5 : tie.Need-slice-write-answer-5
+slice-write-answer-5 c = simp length-set (omega arith)
+
+slice-write-answer-6 : tie.Need-slice-write-answer-6
+slice-write-answer-6 c = simp length-set (omega arith)
 
 same-length : tie.Need-same-length
 same-length c = search needs
 
 returns : tie.Need-returns
-returns c = put-four (c .args .answer .now) _ _ _ _ (c .pre)
+returns c = put-six (c .args .answer .now) _ _ _ _ _ _ (c .pre)
 
 pub put-words-spec : {M : Type 1} → statement M
 put-words-spec =
@@ -32,5 +38,7 @@ put-words-spec =
     slice-write-answer-2
     slice-write-answer-3
     slice-write-answer-4
+    slice-write-answer-5
+    slice-write-answer-6
     same-length
     returns)

@@ -1,14 +1,21 @@
 -- `reference_safety_lib::verdict_words` meets its contract. Assumes nothing.
 use mathlib.Core.Path.{sym, ap, subst}
+use mathlib.Core.List.{_++_}
 use Prim.Native.Nat.{_≤_}
 use native.Mathlib.Omega.{arith}
 use Rattle.meaning.specs.Laws.Answer.{Low}
 use Rattle.absint.specs.Models.{rulingOf}
 use Rattle.absint.specs.declared.Ruling.{Ruling}
-use Rattle.reference_safety_lib.specs.Words.{rulingWords}
+use Rattle.reference_safety_lib.specs.Words.{rulingWords, blurredWords}
 use borrow.Author.Needs.{needs}
 use Rattle.reference_safety_lib.proofs.verdict_words.Statement.{statement}
 use Rattle.reference_safety_lib.proofs.verdict_words.Tie as tie
+
+cast-low : tie.Need-cast-low
+cast-low c = search needs
+
+cast-high : tie.Need-cast-high
+cast-high c = search needs
 
 enum-told : tie.Need-enum-told
 enum-told c = search needs
@@ -16,43 +23,45 @@ enum-told c = search needs
 enum-known-ruling : tie.Need-enum-known-ruling
 enum-known-ruling c = search needs
 
-cast-t8 : tie.Need-cast-t8
-cast-t8 c = search needs
+cast-t11 : tie.Need-cast-t11
+cast-t11 c = search needs
 
-cast-t9 : tie.Need-cast-t9
-cast-t9 c = search needs
+cast-t12 : tie.Need-cast-t12
+cast-t12 c = search needs
 
 enum-known-ruling-2 : tie.Need-enum-known-ruling-2
 enum-known-ruling-2 c = search needs
 
-cast-t10 : tie.Need-cast-t10
-cast-t10 c = search needs
+cast-t13 : tie.Need-cast-t13
+cast-t13 c = search needs
 
-cast-t11 : tie.Need-cast-t11
-cast-t11 c =
-    let low : c .before .ruling2 .given .0 .1 .0 ≤ 65536 = subst (λ (r : Ruling). Low (rulingOf r)) (c .before .ruling2 .given .1) (c .before .before .before .pre) in
+cast-t14 : tie.Need-cast-t14
+cast-t14 c =
+    let low : c .before .ruling2 .given .0 .1 .0 ≤ 65536 = subst (λ (r : Ruling). Low (rulingOf r)) (c .before .ruling2 .given .1) (c .before .before .before .before .before .pre) in
     omega (arith, low)
 
 returns : tie.Need-returns
-returns c = ap (λ (r : Ruling). rulingWords (rulingOf r) (c .before .before .args .v .visits)) (sym (c .enum-told .given .1))
+returns c = ap (λ (r : Ruling). rulingWords (rulingOf r) (c .before .before .before .before .args .v .visits) ++ blurredWords (c .before .before .before .before .args .v .blurred)) (sym (c .enum-told .given .1))
 
 returns-2 : tie.Need-returns-2
-returns-2 c = ap (λ (r : Ruling). rulingWords (rulingOf r) (c .before .before .before .before .args .v .visits)) (sym (c .before .before .ruling .given .1))
+returns-2 c = ap (λ (r : Ruling). rulingWords (rulingOf r) (c .before .before .before .before .before .before .args .v .visits) ++ blurredWords (c .before .before .before .before .before .before .args .v .blurred)) (sym (c .before .before .ruling .given .1))
 
 returns-3 : tie.Need-returns-3
-returns-3 c = ap (λ (r : Ruling). rulingWords (rulingOf r) (c .before .before .before .args .v .visits)) (sym (c .before .ruling2 .given .1))
+returns-3 c = ap (λ (r : Ruling). rulingWords (rulingOf r) (c .before .before .before .before .before .args .v .visits) ++ blurredWords (c .before .before .before .before .before .args .v .blurred)) (sym (c .before .ruling2 .given .1))
 
 pub verdict-words-spec : {M : Type 1} → statement M
 verdict-words-spec =
     tie.close
     (tie.spec
+    cast-low
+    cast-high
     enum-told
     enum-known-ruling
-    cast-t8
-    cast-t9
-    enum-known-ruling-2
-    cast-t10
     cast-t11
+    cast-t12
+    enum-known-ruling-2
+    cast-t13
+    cast-t14
     returns
     returns-2
     returns-3)

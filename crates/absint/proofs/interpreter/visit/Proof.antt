@@ -50,11 +50,11 @@ ended : (c : tie.After-run-block) → let s = (c .before .before .before .before
     → exec (routine s) (s .args .t .next) (stateOf (first s)) ≡ endFor (block c .successors) (runningOf (last c))
 ended c =
     let x = c .run-block .result in
-    Law.placed-end (block c .successors) (x .state .violation) (x .state .refusal) (runningOf (last c)) (x .place .0) _ (ran c)
+    Law.placed-end (block c .successors) (x .state .blurred) (x .state .violation) (x .state .refusal) (runningOf (last c)) (x .place .0) _ (ran c)
 
 ended-some : (c : tie.After-run-block) → let s = (c .before .before .before .before .before .before .before .before) in
     c .run-block .result .state .violation ≡ 0 → c .run-block .result .state .refusal ≡ 0
-    → ((c .before .before .before .before .block-at) .result .count ≡ 0 → ⊥) → exec (routine s) (s .args .t .next) (stateOf (first s)) ≡ Result.ended (stateOf (last c))
+    → ((c .before .before .before .before .block-at) .result .count ≡ 0 → ⊥) → exec (routine s) (s .args .t .next) (stateOf (first s)) ≡ Result.ended (c .run-block .result .state .blurred) (stateOf (last c))
 ended-some c v n h =
     let b = (c .before .before .before .before .block-at) .result in
     ended c v n ∙ ap {B = Result State} (λ (es : List ℕ). endFor es (runningOf (last c))) (take-some (b .count) (b .first .0) (b .second .0) (Law.positive (b .count) h))
@@ -75,18 +75,18 @@ marked c x = ap (λ (xs : List Status). set xs ((c .before .before .before .befo
 
 -- the run of the block, and the start, from here
 abbrev its-run : tie.After-with-locals → tie.After-run-block
-its-run c = (c .before .before .before .before .before .before .before .before .before .before .before .before)
+its-run c = (c .before .before .before .before .before .before .before .before .before .before .before .before .before)
 
 abbrev its-start : tie.After-with-locals → tie.Start
-its-start c = (c .before .before .before .before .before .before .before .before .before .before .before .before .before .before .before .before .before .before .before .before)
+its-start c = (c .before .before .before .before .before .before .before .before .before .before .before .before .before .before .before .before .before .before .before .before .before)
 
 strong : (c : tie.After-with-locals) → Strong (its-start c .args .routine .locals) (stateOf (last (its-run c)))
 unfolding statusesOf
 strong c =
     let s = its-start c in
     Law.ended-strong (s .args .listing .now) (s .args .code .now) (s .args .routine) (s .args .area .now) (s .args .t) (s .pre .0)
-    (stateOf (first s)) (s .pre .1 .kept) (counted (c .before .before .before .before .before .before .before .before .before) ((c .before .before .before .clear) .ensures .3))
-    (stateOf (last (its-run c))) (ended-some (its-run c) ((c .before .before .before .before .before .before .if1) .left) ((c .before .before .before .before .if2) .left) ((c .before .if3) .left))
+    (stateOf (first s)) (s .pre .1 .kept) (counted (c .before .before .before .before .before .before .before .before .before .before) ((c .before .before .before .clear) .ensures .3))
+    (its-run c .run-block .result .state .blurred) (stateOf (last (its-run c))) (ended-some (its-run c) ((c .before .before .before .before .before .before .before .if1) .left) ((c .before .before .before .before .before .if2) .left) ((c .before .if3) .left))
 
 abbrev sent : tie.After-with-locals → Words
 sent c = words (last (its-run c) .locals) (last (its-run c) .names) (last (its-run c) .edges) (c .with-locals .result)
@@ -126,9 +126,16 @@ add-u c =
     let k = p .fewer in
     omega (arith, h, k)
 
+plus-requires : tie.Need-plus-requires
+plus-requires c κs =
+    let p = (c .before .before .before .before .before .before .before .before .before .before .before .before .before .before .pre) .0 in
+    let h = p .few in
+    let k = p .small in
+    omega (arith, h, k)
+
 fail-requires : tie.Need-fail-requires
 fail-requires c κs =
-    let p = (c .before .before .before .before .before .before .before .before .before .before .before .before .before .before .pre) .0 in
+    let p = (c .before .before .before .before .before .before .before .before .before .before .before .before .before .before .before .pre) .0 in
     let h = p .within in
     let k = p .blocks in
     omega (arith, h, k)
@@ -136,16 +143,17 @@ fail-requires c κs =
 returns : tie.Need-returns
 unfolding statusesOf
 returns c =
-    let s = (c .before .before .before .before .before .before .before .before .before .before .before .before .before .before .before) in
-    let o = (c .before .before .before .before) in
-    let r = (c .before .before .before .before .before .before .before) in
+    let s = (c .before .before .before .before .before .before .before .before .before .before .before .before .before .before .before .before) in
+    let o = (c .before .before .before .before .before) in
+    let r = (c .before .before .before .before .before .before .before .before) in
     let x = r .run-block .result in
     let fail = c .fail in
     Law.turned-violated (s .args .listing .now) (s .args .code .now) (s .args .routine) (s .args .area .now) (s .args .t) (s .pre .0)
-    (stateOf (first s)) (s .pre .1 .kept) (counted o (fail .ensures .3)) (fail .result) (x .state .violation) (x .place .0)
-    (Law.placed-violated (block r .successors) (x .state .violation) (x .state .refusal) (runningOf (last r)) (x .place .0) _ (ran r) ((c .before .if1) .taken))
+    (stateOf (first s)) (s .pre .1 .kept) (counted o (fail .ensures .3)) (fail .result) (x .state .blurred) (x .state .violation) (x .place .0)
+    (Law.placed-violated (block r .successors) (x .state .blurred) (x .state .violation) (x .state .refusal) (runningOf (last r)) (x .place .0) _ (ran r) ((c .before .before .if1) .taken))
     (fail .ensures .1 ∙ marked o (failed (x .state .violation) (x .place .0))) (fail .ensures .0 ∙ after o)
     (fail .ensures .2 .visits ∙ add-one (s .args .t .visits)) (fail .ensures .2 .turns ∙ o .onward .ensures .3)
+    (fail .ensures .2 .blurred ∙ (c .before .plus) .ensures .0) ((c .before .plus) .ensures .1)
 
 stop-requires : tie.Need-stop-requires
 stop-requires c κs = search needs
@@ -160,12 +168,20 @@ returns-2 c =
     let stop = c .stop in
     Law.turned-refused (s .args .listing .now) (s .args .code .now) (s .args .routine) (s .args .area .now) (s .args .t) (s .pre .0)
     (stateOf (first s)) (s .pre .1 .kept) (counted o (stop .ensures .3)) (stop .result) (x .state .refusal) (x .place .0)
-    (Law.placed-refused (block r .successors) (x .state .violation) (x .state .refusal) (runningOf (last r)) (x .place .0) _ (ran r) ((c .before .before .before .if1) .left) ((c .before .if2) .taken))
+    (Law.placed-refused (block r .successors) (x .state .blurred) (x .state .violation) (x .state .refusal) (runningOf (last r)) (x .place .0) _ (ran r) ((c .before .before .before .if1) .left) ((c .before .if2) .taken))
     (stop .ensures .1 ∙ o .onward .ensures .1) (stop .ensures .0) (stop .ensures .2 .visits ∙ add-one (s .args .t .visits)) (stop .ensures .2 .turns ∙ o .onward .ensures .3)
+    (stop .ensures .2 .blurred ∙ o .onward .ensures .4)
+
+plus-requires-2 : tie.Need-plus-requires-2
+plus-requires-2 c κs =
+    let p = (c .before .before .before .before .before .before .before .before .before .before .before .before .before .before .before .before .pre) .0 in
+    let h = p .few in
+    let k = p .small in
+    omega (arith, h, k)
 
 clear-requires : tie.Need-clear-requires
 clear-requires c κs =
-    let p = (c .before .before .before .before .before .before .before .before .before .before .before .before .before .before .before .before .pre) .0 in
+    let p = (c .before .before .before .before .before .before .before .before .before .before .before .before .before .before .before .before .before .pre) .0 in
     let h = p .within in
     let k = p .blocks in
     omega (arith, h, k)
@@ -173,23 +189,24 @@ clear-requires c κs =
 returns-3 : tie.Need-returns-3
 unfolding statusesOf
 returns-3 c =
-    let s = (c .before .before .before .before .before .before .before .before .before .before .before .before .before .before .before .before .before .before .before) in
-    let o = (c .before .before .before .before .before .before .before .before) in
-    let r = (c .before .before .before .before .before .before .before .before .before .before .before) in
-    let b = (c .before .before .before .before .before .before .before .before .before .before .before .before .before .before .before .block-at) in
+    let s = (c .before .before .before .before .before .before .before .before .before .before .before .before .before .before .before .before .before .before .before .before) in
+    let o = (c .before .before .before .before .before .before .before .before .before) in
+    let r = (c .before .before .before .before .before .before .before .before .before .before .before .before) in
+    let b = (c .before .before .before .before .before .before .before .before .before .before .before .before .before .before .before .before .block-at) in
     let clear = (c .before .before .clear) in
     let none = ap {B = List ℕ} (λ (n : ℕ). take n (b .result .first .0 ∷ b .result .second .0 ∷ [])) (c .if3 .taken) in
     Law.turned-returned (s .args .listing .now) (s .args .code .now) (s .args .routine) (s .args .area .now) (s .args .t) (s .pre .0)
-    (stateOf (first s)) (s .pre .1 .kept) (counted o (clear .ensures .3)) (clear .result)
-    (ended r ((c .before .before .before .before .before .if1) .left) ((c .before .before .before .if2) .left) ∙ ap {B = Result State} (λ (es : List ℕ). endFor es (runningOf (last r))) none)
+    (stateOf (first s)) (s .pre .1 .kept) (counted o (clear .ensures .3)) (clear .result) (r .run-block .result .state .blurred)
+    (ended r ((c .before .before .before .before .before .before .if1) .left) ((c .before .before .before .before .if2) .left) ∙ ap {B = Result State} (λ (es : List ℕ). endFor es (runningOf (last r))) none)
     (clear .ensures .1 ∙ marked o fine) (clear .ensures .0 ∙ after o) (clear .ensures .2 .visits ∙ add-one (s .args .t .visits)) (clear .ensures .2 .turns ∙ o .onward .ensures .3)
+    (clear .ensures .2 .blurred ∙ (c .before .before .before .plus2) .ensures .0) ((c .before .before .before .plus2) .ensures .1)
 
 with-locals-requires : tie.Need-with-locals-requires
 with-locals-requires c κs = search needs
 
 propagate-requires : tie.Need-propagate-requires
 propagate-requires c κs =
-    let p = (c .before .before .before .before .before .before .before .before .before .before .before .before .before .before .before .before .before .before .before .before .before .before .before .before .pre) .0 in
+    let p = (c .before .before .before .before .before .before .before .before .before .before .before .before .before .before .before .before .before .before .before .before .before .before .before .before .before .pre) .0 in
     let w = (c .before .before .before .before) in
     let l = w .with-locals .ensures .0 in (
       p .blocks,
@@ -200,6 +217,7 @@ propagate-requires c κs =
         strong = subst (λ (n : ℕ). Strong n (stateOf (sent w))) (sym l) (subst (Strong (its-start w .args .routine .locals)) (sym (same-state w)) (strong w));
       },
       Law.positive _ ((c .before .before .before .before .before .if3) .left),
+      (let h = p .few in let k = p .small in let b = (c .before .before .before .before .before .before .before .clear) .ensures .2 .blurred in let a = (c .before .before .before .before .before .before .before .before .plus2) .ensures .0 in let f = (c .before .before .before .before .before .before .before .before .plus2) .ensures .1 in omega (arith, h, k, b, a, f)),
     )
 
 same-length : tie.Need-same-length
@@ -208,20 +226,21 @@ same-length c = search needs
 returns-4 : tie.Need-returns-4
 unfolding statusesOf
 returns-4 c =
-    let s = (c .before .before .before .before .before .before .before .before .before .before .before .before .before .before .before .before .before .before .before .before .before .before .before .before .before .before .before) in
+    let s = (c .before .before .before .before .before .before .before .before .before .before .before .before .before .before .before .before .before .before .before .before .before .before .before .before .before .before .before .before) in
     let w = (c .before .before .before .before .before .before .before) in
-    let o = (c .before .before .before .before .before .before .before .before .before .before .before .before .before .before .before .before) in
-    let r = (c .before .before .before .before .before .before .before .before .before .before .before .before .before .before .before .before .before .before .before) in
-    let b = (c .before .before .before .before .before .before .before .before .before .before .before .before .before .before .before .before .before .before .before .before .before .before .before .block-at) in
+    let o = (c .before .before .before .before .before .before .before .before .before .before .before .before .before .before .before .before .before) in
+    let r = (c .before .before .before .before .before .before .before .before .before .before .before .before .before .before .before .before .before .before .before .before) in
+    let b = (c .before .before .before .before .before .before .before .before .before .before .before .before .before .before .before .before .before .before .before .before .before .before .before .before .block-at) in
     let clear = (c .before .before .before .before .before .before .before .before .before .before .clear) in
     let propagate = (c .before .before .propagate) in
     Law.turned-ended (s .args .listing .now) (s .args .code .now) (s .args .routine) (s .args .area .now) (s .args .t) (s .pre .0)
     (stateOf (first s)) (s .pre .1 .kept) (counted o (clear .ensures .3))
-    (stateOf (sent w)) (block r) (propagate .last .0) (clear .result) (propagate .result)
-    (ended-some r ((c .before .before .before .before .before .before .before .before .before .before .before .before .before .if1) .left)
-    ((c .before .before .before .before .before .before .before .before .before .before .before .if2) .left) ((c .before .before .before .before .before .before .before .before .if3) .left)
-    ∙ ap {B = Result State} Result.ended (sym (same-state w)))
+    (r .run-block .result .state .blurred) (stateOf (sent w)) (block r) (propagate .last .0) (clear .result) (propagate .result)
+    (ended-some r ((c .before .before .before .before .before .before .before .before .before .before .before .before .before .before .if1) .left)
+    ((c .before .before .before .before .before .before .before .before .before .before .before .before .if2) .left) ((c .before .before .before .before .before .before .before .before .if3) .left)
+    ∙ ap {B = Result State} (Result.ended (r .run-block .result .state .blurred)) (sym (same-state w)))
     (b .ensures) (clear .ensures .1 ∙ marked o fine) (clear .ensures .0 ∙ after o) (clear .ensures .2 .visits ∙ add-one (s .args .t .visits)) (clear .ensures .2 .turns ∙ o .onward .ensures .3)
+    (clear .ensures .2 .blurred ∙ (c .before .before .before .before .before .before .before .before .before .before .before .plus2) .ensures .0) ((c .before .before .before .before .before .before .before .before .before .before .before .plus2) .ensures .1)
     (subst (λ (n : ℕ). Propagated (blocksIn (s .args .routine .blocks) (s .args .routine .«block_count»)) n (block r) (stateOf (sent w)) (s .args .area .now) (propagate .last .0) (clear .result) (propagate .result))
     (w .with-locals .ensures .0) (propagate .ensures))
 
@@ -233,10 +252,12 @@ visit-spec =
     run-block-requires
     onward-requires
     add-u
+    plus-requires
     fail-requires
     returns
     stop-requires
     returns-2
+    plus-requires-2
     clear-requires
     returns-3
     with-locals-requires

@@ -1,11 +1,12 @@
 use mathlib.Core.Path.{ap}
-use Prim.Native.Nat.{ℕ, _≤_}
+use Prim.Native.Nat.{ℕ, _+_, _≤_}
 use lib.ListN.{length}
 use mathlib.Core.List.{List, [], _∷_}
 use lib.ListN.{take}
-use Rattle.meaning.specs.Limits.{areaWords}
+use Rattle.meaning.specs.Limits.{areaWords, u32Most}
 use Rattle.listing.specs.Models.{blockOf, blocksIn}
 use Rattle.abstract_state.specs.Models.{words, stateOf}
+use Rattle.absint.specs.Models.{blurredEnd}
 use Rattle.absint.specs.PropagateLaws as H
 use native.Mathlib.Omega.{arith}
 use borrow.Author.Needs.{needs}
@@ -15,7 +16,8 @@ use Rattle.absint.proofs.propagate.propagate.Tie as tie
 propagate-to-requires : tie.Need-propagate-to-requires
 propagate-to-requires c κs =
     let pre = (c .before .before .before .pre) in
-    (pre .0, pre .1, pre .2)
+    let small : (c .before .before .before .args) .t .blurred + u32Most ≤ blurredEnd = pre .4 in
+    (pre .0, pre .1, pre .2, omega (arith, small))
 
 same-length : tie.Need-same-length
 same-length c = search needs
@@ -32,7 +34,11 @@ propagate-to-requires-2 c κs =
     let first = (c .before .before .before .before .before .before .propagate-to) in
     let wide : areaWords ≤ length (s .args .area .now) = s .pre .1 in
     let k = first .kept .0 in
-    (s .pre .0, omega (arith, wide, k), record { fits = s .pre .2 .fits; sound = first .ensures .1; strong = s .pre .2 .strong })
+    let small : s .args .t .blurred + u32Most ≤ blurredEnd = s .pre .4 in
+    let passed = first .ensures .0 .passed in
+    let b = passed .blurred in
+    let f = passed .few in
+    (s .pre .0, omega (arith, wide, k), record { fits = s .pre .2 .fits; sound = first .ensures .1; strong = s .pre .2 .strong }, omega (arith, small, b, f))
 
 same-length-2 : tie.Need-same-length-2
 same-length-2 c = search needs

@@ -1,6 +1,6 @@
 use mathlib.Core.Path.{_≡_, refl, sym, ap, _∙_}
 use Rattle.meaning.specs.Laws.Base.{not-true, not-no}
-use Rattle.meaning.specs.AbstractState.{join, changed}
+use Rattle.meaning.specs.AbstractState.{join, joinBlurs, changed}
 use Rattle.meaning.specs.Area.{keptOf}
 use Rattle.meaning.specs.Answers.{ok}
 use Rattle.meaning.specs.EntryPoints.{Running}
@@ -10,7 +10,7 @@ use Rattle.references.specs.ModelLaws.{told-yes, told-no}
 use Rattle.listing.specs.Models.{blockOf}
 use Rattle.abstract_state.specs.Models.{Words, words, stateOf}
 use Rattle.abstract_state_join.specs.Models.{Joins, changedBy}
-use Rattle.absint.specs.Models.{From, StartsFrom}
+use Rattle.absint.specs.Models.{statusesOf, From, StartsFrom}
 use Rattle.absint.specs.PropagateLaws as H
 use Rattle.absint.specs.TurnLaws.{kept-root}
 use borrow.Author.Needs.{needs}
@@ -55,6 +55,10 @@ answered c z = sym (joins c .answer) ∙ told-yes (c .join .result .refusal) (st
 told : (c : tie.After-join) → c .join .result .refusal ≡ 0 → c .join .result .changed ≡ changed (stateOf (old c)) (stateOf (joined c))
 told c z = c .join .ensures (from (its-kept c) .fits) (its-start c .pre .3 .fits) .1 ∙ ap (changedBy (stateOf (old c))) (answered c z)
 
+-- what it passes up
+blurs : (c : tie.After-join) → c .join .result .blurred ≡ joinBlurs (stateOf (old c)) (stateOf (sent (its-start c)))
+blurs c = c .join .ensures (from (its-kept c) .fits) (its-start c .pre .3 .fits) .4
+
 rooted : (c : tie.After-join) → c .join .result .state .«num_locals» ≡ its-start c .args .s .«num_locals»
 rooted c = ap (λ (r : Running). r .root) (joins c .rest) ∙ from (its-kept c) .locals
 
@@ -95,6 +99,9 @@ returns c =
 join-requires : tie.Need-join-requires
 join-requires c κs = search needs
 
+plus-requires : tie.Need-plus-requires
+plus-requires c κs = (its-start c) .pre .4
+
 stop-requires : tie.Need-stop-requires
 stop-requires c κs = search needs
 
@@ -102,15 +109,18 @@ same-length-2 : tie.Need-same-length-2
 same-length-2 c = search needs
 
 returns-2 : tie.Need-returns-2
+unfolding statusesOf
 returns-2 c =
-    let j = (c .before .before .before .before) in
+    let j = (c .before .before .before .before .before) in
+    let plus = (c .before .before .before .before .plus) in
     let s = its-start j in
     let a = s .args in
     let stop = c .stop in
     let n = j .join .result .refusal in (
       λ bs e within few. H.propagated-refused bs (a .s .«num_locals») (blockOf (a .b)) (stateOf (sent s)) (a .e .0) (a .area .now) (a .t) (s .pre .0) (a .j) e within few (s .pre .2)
-          (stop .result) (stop .ensures .3) (stateOf (old j)) n (from (its-kept j) .kept)
-          (sym (joins j .answer) ∙ told-no n (stateOf (joined j)) ((c .before .before .if2) .taken)) (stop .ensures .0) (stop .ensures .1) (stop .ensures .2),
+          (stop .result) (stop .ensures .3) (stateOf (old j)) n (j .join .result .blurred) (from (its-kept j) .kept)
+          (sym (joins j .answer) ∙ told-no n (stateOf (joined j)) ((c .before .before .if2) .taken)) (blurs j) (stop .ensures .0) (stop .ensures .1)
+          (record { visits = stop .ensures .2 .visits; turns = stop .ensures .2 .turns; blurred = stop .ensures .2 .blurred ∙ plus .ensures .0; few = plus .ensures .1 }),
       s .pre .3 .sound,
     )
 
@@ -119,15 +129,17 @@ store-requires-2 c κs = search needs
 
 revisit-requires : tie.Need-revisit-requires
 revisit-requires c κs =
-    let s = its-start (c .before .before .before .before .before .before .before .before .before .before .before .before .before) in
+    let s = its-start (c .before .before .before .before .before .before .before .before .before .before .before .before .before .before) in
     (s .pre .1, s .pre .0)
 
 same-length-3 : tie.Need-same-length-3
 same-length-3 c = search needs
 
 returns-3 : tie.Need-returns-3
+unfolding statusesOf
 returns-3 c =
-    let j = (c .before .before .before .before .before .before .before .before .before .before .before .before .before .before) in
+    let j = (c .before .before .before .before .before .before .before .before .before .before .before .before .before .before .before) in
+    let plus = (c .before .before .before .before .before .before .before .before .before .before .before .before .before .before .plus) in
     let s = its-start j in
     let a = s .args in
     let f = joins j .fits in
@@ -137,8 +149,9 @@ returns-3 c =
     let m = j .join .result .state .«num_locals» in
     let w = store .ensures (f .locals) (f .tells .words) (f .tells .rows) in (
       λ bs e within few. H.propagated-changed bs (a .s .«num_locals») (blockOf (a .b)) (stateOf (sent s)) (a .e .0) (a .area .now) (a .t) (s .pre .0) (a .j) e within few (s .pre .2)
-          (r .result) (r .ensures .3) (stateOf (old j)) (stateOf (joined j)) m (store .last .0) _ (kept-root m (a .s .«num_locals») (rooted j))
-          (from (its-kept j) .kept) (answered j z) (sym (told j z) ∙ (c .before .before .before .before .before .before .before .before .before .before .before .if3) .taken) w refl (r .ensures .0) (r .ensures .1) (r .ensures .2),
+          (r .result) (r .ensures .3) (stateOf (old j)) (stateOf (joined j)) m (store .last .0) _ (j .join .result .blurred) (kept-root m (a .s .«num_locals») (rooted j))
+          (from (its-kept j) .kept) (answered j z) (blurs j) (sym (told j z) ∙ (c .before .before .before .before .before .before .before .before .before .before .before .if3) .taken) w refl (r .ensures .0) (r .ensures .1)
+          (record { visits = r .ensures .2 .visits; turns = r .ensures .2 .turns; blurred = r .ensures .2 .blurred ∙ plus .ensures .0; few = plus .ensures .1 }),
       H.stored-sound m (a .s .«num_locals») (a .j) (stateOf (joined j)) (a .area .now) (store .last .0) (rooted j) w (s .pre .3 .sound) (strong j z),
     )
 
@@ -146,13 +159,16 @@ same-length-4 : tie.Need-same-length-4
 same-length-4 c = search needs
 
 returns-4 : tie.Need-returns-4
+unfolding statusesOf
 returns-4 c =
-    let j = (c .before .before .before) in
+    let j = (c .before .before .before .before) in
+    let plus = (c .before .before .before .plus) in
     let s = its-start j in
     let a = s .args in
     let z = (c .before .if2) .left in (
       λ bs e within few. H.propagated-same bs (a .s .«num_locals») (blockOf (a .b)) (stateOf (sent s)) (a .e .0) (a .area .now) (a .t) (s .pre .0) (a .j) e within few (s .pre .2)
-          (stateOf (old j)) (stateOf (joined j)) (from (its-kept j) .kept) (answered j z) (sym (told j z) ∙ (c .if3) .left),
+          _ (stateOf (old j)) (stateOf (joined j)) (j .join .result .blurred) (from (its-kept j) .kept) (answered j z) (blurs j) (sym (told j z) ∙ (c .if3) .left) refl refl
+          (record { visits = refl; turns = refl; blurred = plus .ensures .0; few = plus .ensures .1 }),
       s .pre .3 .sound,
     )
 
@@ -166,6 +182,7 @@ propagate-at-spec =
     same-length
     returns
     join-requires
+    plus-requires
     stop-requires
     same-length-2
     returns-2

@@ -36,7 +36,7 @@ propagate-at-requires c κs =
     let s = (c .before .before .before .before .before) in
     let few : s .args .n ≤ 16 = s .pre .0 in
     let z : (c .before .before .position-of) .result < s .args .n = (c .before .if2) .left in
-    ((c .before .before .before .if1) .left, omega (arith, few, z), s .pre .1, s .pre .2)
+    ((c .before .before .before .if1) .left, omega (arith, few, z), s .pre .1, s .pre .2, s .pre .3)
 
 same-length : tie.Need-same-length
 same-length c = search needs

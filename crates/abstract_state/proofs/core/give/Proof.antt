@@ -10,7 +10,7 @@ returns c = λ ls ns es.
     let r = runningOf (words ls ns es (a .state)) in
     record {
       fits = λ h. record { locals = h .locals; tells = h .tells };
-      gives = λ h. halted-then {B = Answer} (a .state .violation) (a .state .refusal) r (λ s. record { state = s; operand = operandOf (a .value) });
+      gives = λ h. halted-then {B = Answer} (a .state .blurred) (a .state .violation) (a .state .refusal) r (λ s. record { state = s; operand = operandOf (a .value) });
     }
 
 pub give-spec : {M : Type 1} → statement M

@@ -15,7 +15,7 @@ returns-2 : tie.Need-returns-2
 returns-2 c = λ ls ns es.
     let a = (c .before .before .before .args) in
     let r = runningOf (words ls ns es (a .state)) in
-    does-here _ ls ns es _ _ refl (stays (a .state .violation) (a .state .refusal) r r (heeding (toldOf (a .t))) (c .if1 .left))
+    does-here _ ls ns es _ _ refl (stays (a .state .blurred) (a .state .violation) (a .state .refusal) r r (heeding (toldOf (a .t))) (c .if1 .left))
 
 pub pass-refusal-spec : {M : Type 1} → statement M
 pass-refusal-spec = tie.close (tie.spec returns returns-2)

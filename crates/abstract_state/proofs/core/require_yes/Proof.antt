@@ -25,7 +25,7 @@ returns-3 : tie.Need-returns-3
 returns-3 c = λ ls ns es.
     let a = (c .before .before .before .args) in
     let r = runningOf (words ls ns es (a .state)) in
-    does-here _ ls ns es _ _ refl (stays (a .state .violation) (a .state .refusal) r r (needing (toldOf (a .t)) (a .number)) (c .if1 .left))
+    does-here _ ls ns es _ _ refl (stays (a .state .blurred) (a .state .violation) (a .state .refusal) r r (needing (toldOf (a .t)) (a .number)) (c .if1 .left))
 
 pub require-yes-spec : {M : Type 1} → statement M
 require-yes-spec = tie.close (tie.spec returns returns-2 returns-3)

@@ -25,7 +25,7 @@ returns-3 : tie.Need-returns-3
 returns-3 c = λ ls ns es.
     let a = (c .before .before .before .args) in
     let r = runningOf (words ls ns es (a .state)) in
-    does-here _ ls ns es _ _ refl (stays (a .state .violation) (a .state .refusal) r r (failing (toldOf (a .t)) (a .code)) (c .if1 .left))
+    does-here _ ls ns es _ _ refl (stays (a .state .blurred) (a .state .violation) (a .state .refusal) r r (failing (toldOf (a .t)) (a .code)) (c .if1 .left))
 
 pub violate-if-spec : {M : Type 1} → statement M
 violate-if-spec = tie.close (tie.spec returns returns-2 returns-3)

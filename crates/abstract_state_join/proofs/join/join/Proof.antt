@@ -7,6 +7,7 @@ use Rattle.meaning.specs.AbstractState.{State}
 use Rattle.references.specs.ModelLaws.{told-yes, told-no}
 use Rattle.abstract_state.specs.Models.{words, stateOf}
 use Rattle.abstract_state_join.specs.Models.{changedBy}
+use Rattle.abstract_state_join.specs.JoinLaws.{blurs-refused}
 use borrow.Author.Needs.{needs}
 use Rattle.abstract_state_join.proofs.join.join.Statement.{statement}
 use Rattle.abstract_state_join.proofs.join.join.Tie as tie
@@ -39,6 +40,7 @@ returns c = λ fa fb.
       sym (ap (changedBy s) e),
       m .1,
       m .2,
+      blurs-refused s o n e,
     )
 
 changed-requires : tie.Need-changed-requires
@@ -62,6 +64,7 @@ returns-2 c = λ fa fb.
       (c .changed) .ensures fa f (sym (ap (λ (r : Running). r .root) (m .0 .rest))) o e ∙ sym (ap (changedBy s) e),
       m .1,
       m .2,
+      m .3,
     )
 
 pub join-spec : {M : Type 1} → statement M

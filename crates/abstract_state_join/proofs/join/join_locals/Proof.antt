@@ -1,7 +1,7 @@
 use mathlib.Core.Path.{_≡_, refl, ap, _∙_}
 use mathlib.Core.Logic.{_⊎_, inl, inr}
 use mathlib.Core.List.{map}
-use Prim.Native.Nat.{ℕ, _-_, _≤_, _<_, min}
+use Prim.Native.Nat.{ℕ, _+_, _*_, _-_, _≤_, _<_, min}
 use lib.Dec.{leb}
 use lib.ListN.{length, take, drop, getD, length-set, length-drop}
 use Rattle.meaning.specs.Answers.{andThen}
@@ -22,11 +22,11 @@ use Rattle.abstract_state_join.proofs.join.join_locals.Tie as tie
 
 abbrev Inv-loop : tie.InvT-loop
 Inv-loop locals₀ names₀ edges₀ locals2 names2₀ edges2₀ n m k p₀ i₀ locals names edges names2 edges2 p i =
-    (i ≤ k) × (p .refusal ≡ 0)
+    (i ≤ k) × (p .refusal ≡ 0) × (p .blurred ≤ 255 * i)
     × (length locals₀ ≡ 16 → length locals2 ≡ 16 → Tells names₀ edges₀ (p₀ .ours) → Tells names2₀ edges2₀ (p₀ .theirs)
     → (length locals ≡ 16) × Tells names edges (p .ours) × Tells names2 edges2 (p .theirs)
     × (andThen (joinLocals (drop i (localsIn locals n)) (drop i (localsIn locals2 m)) (graphIn names edges (p .ours)) (graphIn names2 edges2 (p .theirs)))
-    (after (map localIn (take i locals)))
+    (after (map localIn (take i locals)) (p .blurred))
     ≡ joinLocals (localsIn locals₀ n) (localsIn locals2 m) (graphIn names₀ edges₀ (p₀ .ours)) (graphIn names2₀ edges2₀ (p₀ .theirs))))
 
 abbrev μ-loop : tie.MeasureT-loop
@@ -49,7 +49,7 @@ lesser-requires : tie.Need-lesser-requires Inv-loop μ-loop
 lesser-requires c κs = search needs
 
 loop-holds : tie.Need-loop-holds Inv-loop μ-loop
-loop-holds c = (omega arith, refl, λ hl hm t u. (hl, t, u, start _))
+loop-holds c = (omega arith, refl, omega arith, λ hl hm t u. (hl, t, u, start _))
 
 mul-local-of : tie.Need-mul-local-of Inv-loop μ-loop
 mul-local-of c = omega arith
@@ -93,36 +93,43 @@ returns c =
     let a = (s .before .before .before .args) in
     let n = (s .before .before .count) in
     let m = (s .before .count2) in
-    let i : l .i < s .lesser .result = (w .before .before .before .before .before .before .loop-test) .taken in
-    λ fa fb.
-    let q = l .inv .2 (fa .locals) (fb .locals) (fa .tells) (fb .tells) in
-    let g = graphIn (l .names) (l .edges) (l .p .ours) in
-    let h = graphIn (l .names2) (l .edges2) (l .p .theirs) in
-    let e = turn .ensures (q .1) (q .2) in
-    record {
-      parts =
-          ends (l .locals) (a .locals2 .now) (n .result) (m .result) (l .i) (w .local-word .result) g h _ (q .0) (fb .locals)
-          (omega (arith, n .ensures)) (omega (arith, m .ensures)) (omega (arith, s .lesser .ensures)) (omega (arith, s .lesser .ensures)) (q .3) (turn .result .refusal) _ _
-          (written (turn .result .refusal) _ _ _ _ _ (w .local-word .ensures .0) (e .step) ∙ meets w g h) ((c .if1) .taken) _
-          ∙ (λ j. joinLocals (clip (a .locals .now) (a .s .«num_locals») (n .result) (fa .locals) (n .ensures) j) (clip (a .locals2 .now) (a .o .«num_locals») (m .result) (fb .locals) (m .ensures) j)
-          (graphIn (a .names .now) (a .edges .now) (a .s .«borrow_graph»)) (graphIn (a .names2 .now) (a .edges2 .now) (a .o .«borrow_graph»)));
-      locals = simp length-set (q .0);
-      ours = e .ours;
-      theirs = e .theirs;
-    }
+    let i : l .i < s .lesser .result = (w .before .before .before .before .before .before .loop-test) .taken in (
+      omega (arith, turn .ensures .0),
+      λ fa fb.
+          let q = l .inv .3 (fa .locals) (fb .locals) (fa .tells) (fb .tells) in
+          let g = graphIn (l .names) (l .edges) (l .p .ours) in
+          let h = graphIn (l .names2) (l .edges2) (l .p .theirs) in
+          let e = turn .ensures .1 (q .1) (q .2) in
+          record {
+            parts =
+                ends (l .locals) (a .locals2 .now) (n .result) (m .result) (l .i) (w .local-word .result) g h (l .p .blurred) _ (q .0) (fb .locals)
+                (omega (arith, n .ensures)) (omega (arith, m .ensures)) (omega (arith, s .lesser .ensures)) (omega (arith, s .lesser .ensures)) (q .3) (turn .result .refusal) _ _
+                (written (turn .result .refusal) _ _ _ _ _ (w .local-word .ensures .0) (e .step) ∙ meets w g h) ((c .if1) .taken) _
+                ∙ (λ j. joinLocals (clip (a .locals .now) (a .s .«num_locals») (n .result) (fa .locals) (n .ensures) j) (clip (a .locals2 .now) (a .o .«num_locals») (m .result) (fb .locals) (m .ensures) j)
+                (graphIn (a .names .now) (a .edges .now) (a .s .«borrow_graph»)) (graphIn (a .names2 .now) (a .edges2 .now) (a .o .«borrow_graph»)));
+            locals = simp length-set (q .0);
+            ours = e .ours;
+            theirs = e .theirs;
+          },
+    )
+
+add-p : tie.Need-add-p Inv-loop μ-loop
+add-p c =
+    let s = (c .before .before .before .before .before .before .before .before .before .before .before .before .before .before .before .before .before .before) in
+    omega (arith, (c .before .before .before .before .before .before .before .before .before .before .before .before .before .before .before .loop) .inv .2, (c .before .before .before .turn) .ensures .0, (c .before .before .before .before .before .before .before .before .before .before .before .before .before .before .loop-test) .taken, s .lesser .ensures, s .before .before .count .ensures)
 
 add-i : tie.Need-add-i Inv-loop μ-loop
 add-i c =
-    let s = (c .before .before .before .before .before .before .before .before .before .before .before .before .before .before .before .before .before) in
-    omega (arith, (c .before .before .before .before .before .before .before .before .before .before .before .before .before .loop-test) .taken, s .lesser .ensures, s .before .before .count .ensures)
+    let s = (c .before .before .before .before .before .before .before .before .before .before .before .before .before .before .before .before .before .before) in
+    omega (arith, (c .before .before .before .before .before .before .before .before .before .before .before .before .before .before .loop-test) .taken, s .lesser .ensures, s .before .before .count .ensures)
 
 loop-less : tie.Need-loop-less Inv-loop μ-loop
-loop-less c = omega arith
+loop-less c = omega (arith, (c .before .before .before .before .before .before .before .before .before .before .before .before .before .before .loop-test) .taken)
 
 loop-again : tie.Need-loop-again Inv-loop μ-loop
 loop-again c =
-    let turn = (c .before .before .turn) in
-    let w = (c .before .before .before .before .before .before .before) in
+    let turn = (c .before .before .before .turn) in
+    let w = (c .before .before .before .before .before .before .before .before) in
     let l = (w .before .before .before .before .before .before .before .loop) in
     let s = (w .before .before .before .before .before .before .before .before .before .before) in
     let a = (s .before .before .before .args) in
@@ -130,18 +137,19 @@ loop-again c =
     let m = (s .before .count2) in
     let i : l .i < s .lesser .result = (w .before .before .before .before .before .before .loop-test) .taken in (
       omega arith,
-      (c .if1) .left,
+      (c .before .if1) .left,
+      omega (arith, l .inv .2, turn .ensures .0),
       λ hl hm t u.
-          let q = l .inv .2 hl hm t u in
+          let q = l .inv .3 hl hm t u in
           let g = graphIn (l .names) (l .edges) (l .p .ours) in
           let h = graphIn (l .names2) (l .edges2) (l .p .theirs) in
-          let e = turn .ensures (q .1) (q .2) in (
+          let e = turn .ensures .1 (q .1) (q .2) in (
             simp length-set (q .0),
             e .ours,
             e .theirs,
-            goes-on (l .locals) (a .locals2 .now) (n .result) (m .result) (l .i) (w .local-word .result) g h _ (q .0) hm
+            goes-on (l .locals) (a .locals2 .now) (n .result) (m .result) (l .i) (w .local-word .result) g h (l .p .blurred) _ (q .0) hm
                 (omega (arith, n .ensures)) (omega (arith, m .ensures)) (omega (arith, s .lesser .ensures)) (omega (arith, s .lesser .ensures)) (q .3) (turn .result .refusal) _ _
-                (written (turn .result .refusal) _ _ _ _ _ (w .local-word .ensures .0) (e .step) ∙ meets w g h) ((c .if1) .left),
+                (written (turn .result .refusal) _ _ _ _ _ (w .local-word .ensures .0) (e .step) ∙ meets w g h) ((c .before .if1) .left) _ (let b = e .blurs ((c .before .if1) .left) in omega (arith, b)),
           ),
     )
 
@@ -153,24 +161,26 @@ returns-2 c =
     let l = (c .before .before .loop) in
     let n : ℕ = count .result in
     let m : ℕ = count2 .result in
-    let i : l .i ≡ min n m = omega (arith, (c .before .before .before .before .before .lesser) .ensures, (c .before .loop-test) .left) in
-    λ fa fb.
-    let q = l .inv .2 (fa .locals) (fb .locals) (fa .tells) (fb .tells) in
-    let xs = localsIn (l .locals) n in
-    let ys = localsIn (a .locals2 .now) m in
-    let p : length (drop (l .i) xs) ≡ n - l .i = length-drop (l .i) xs ∙ ap (λ (k : ℕ). k - l .i) (locals-are (l .locals) n n (q .0) (omega (arith, count .ensures))) in
-    let r : length (drop (l .i) ys) ≡ m - l .i = length-drop (l .i) ys ∙ ap (λ (k : ℕ). k - l .i) (locals-are (a .locals2 .now) m m (fb .locals) (omega (arith, count2 .ensures))) in
-    let d : (length (drop (l .i) xs) ≡ 0) ⊎ (length (drop (l .i) ys) ≡ 0) = decide (leb n m)
-    (λ t. let k : n ≤ m = leb-le t in inl (omega (arith, p, i))) (λ t. let k : m < n = leb-gt t in inr (omega (arith, r, i))) in
-    record {
-      parts = end-unequal (drop (l .i) xs) (drop (l .i) ys) (graphIn (l .names) (l .edges) (l .p .ours)) (graphIn (l .names2) (l .edges2) (l .p .theirs))
-          (map localIn (take (l .i) (l .locals))) _ (q .3) d (λ z. (c .if2) .taken (omega (arith, p, r, i)))
-          ∙ (λ j. joinLocals (clip (a .locals .now) (a .s .«num_locals») n (fa .locals) (count .ensures) j) (clip (a .locals2 .now) (a .o .«num_locals») m (fb .locals) (count2 .ensures) j)
-          (graphIn (a .names .now) (a .edges .now) (a .s .«borrow_graph»)) (graphIn (a .names2 .now) (a .edges2 .now) (a .o .«borrow_graph»)));
-      locals = q .0;
-      ours = q .1;
-      theirs = q .2;
-    }
+    let i : l .i ≡ min n m = omega (arith, (c .before .before .before .before .before .lesser) .ensures, (c .before .loop-test) .left) in (
+      omega (arith, l .inv .2, l .inv .0, count .ensures, i),
+      λ fa fb.
+          let q = l .inv .3 (fa .locals) (fb .locals) (fa .tells) (fb .tells) in
+          let xs = localsIn (l .locals) n in
+          let ys = localsIn (a .locals2 .now) m in
+          let p : length (drop (l .i) xs) ≡ n - l .i = length-drop (l .i) xs ∙ ap (λ (k : ℕ). k - l .i) (locals-are (l .locals) n n (q .0) (omega (arith, count .ensures))) in
+          let r : length (drop (l .i) ys) ≡ m - l .i = length-drop (l .i) ys ∙ ap (λ (k : ℕ). k - l .i) (locals-are (a .locals2 .now) m m (fb .locals) (omega (arith, count2 .ensures))) in
+          let d : (length (drop (l .i) xs) ≡ 0) ⊎ (length (drop (l .i) ys) ≡ 0) = decide (leb n m)
+          (λ t. let k : n ≤ m = leb-le t in inl (omega (arith, p, i))) (λ t. let k : m < n = leb-gt t in inr (omega (arith, r, i))) in
+          record {
+            parts = end-unequal (drop (l .i) xs) (drop (l .i) ys) (graphIn (l .names) (l .edges) (l .p .ours)) (graphIn (l .names2) (l .edges2) (l .p .theirs))
+                (map localIn (take (l .i) (l .locals))) (l .p .blurred) _ (q .3) d (λ z. (c .if2) .taken (omega (arith, p, r, i)))
+                ∙ (λ j. joinLocals (clip (a .locals .now) (a .s .«num_locals») n (fa .locals) (count .ensures) j) (clip (a .locals2 .now) (a .o .«num_locals») m (fb .locals) (count2 .ensures) j)
+                (graphIn (a .names .now) (a .edges .now) (a .s .«borrow_graph»)) (graphIn (a .names2 .now) (a .edges2 .now) (a .o .«borrow_graph»)));
+            locals = q .0;
+            ours = q .1;
+            theirs = q .2;
+          },
+    )
 
 returns-3 : tie.Need-returns-3 Inv-loop μ-loop
 returns-3 c =
@@ -180,21 +190,23 @@ returns-3 c =
     let l = (c .before .before .loop) in
     let n = count .result in
     let m = count2 .result in
-    let i : l .i ≡ n = omega (arith, (c .before .before .before .before .before .lesser) .ensures, (c .if2) .left, (c .before .loop-test) .left) in
-    λ fa fb.
-    let q = l .inv .2 (fa .locals) (fb .locals) (fa .tells) (fb .tells) in
-    record {
-      parts = told-yes (l .p .refusal) _ (l .inv .1)
-          ∙ end-equal _ _ (graphIn (l .names) (l .edges) (l .p .ours)) (graphIn (l .names2) (l .edges2) (l .p .theirs)) (map localIn (take (l .i) (l .locals))) _ (q .3)
-          (locals-end (l .locals) n n (q .0) (omega (arith, count .ensures)) (l .i) (omega arith))
-          (locals-end (a .locals2 .now) m m (fb .locals) (omega (arith, count2 .ensures)) (l .i) (omega (arith, (c .if2) .left))) _
-          (locals-all (l .locals) (a .s .«num_locals») n (q .0) (count .ensures) (l .i) i)
-          ∙ (λ j. joinLocals (clip (a .locals .now) (a .s .«num_locals») n (fa .locals) (count .ensures) j) (clip (a .locals2 .now) (a .o .«num_locals») m (fb .locals) (count2 .ensures) j)
-          (graphIn (a .names .now) (a .edges .now) (a .s .«borrow_graph»)) (graphIn (a .names2 .now) (a .edges2 .now) (a .o .«borrow_graph»)));
-      locals = q .0;
-      ours = q .1;
-      theirs = q .2;
-    }
+    let i : l .i ≡ n = omega (arith, (c .before .before .before .before .before .lesser) .ensures, (c .if2) .left, (c .before .loop-test) .left) in (
+      omega (arith, l .inv .2, l .inv .0, count .ensures, i),
+      λ fa fb.
+          let q = l .inv .3 (fa .locals) (fb .locals) (fa .tells) (fb .tells) in
+          record {
+            parts = told-yes (l .p .refusal) _ (l .inv .1)
+                ∙ end-equal _ _ (graphIn (l .names) (l .edges) (l .p .ours)) (graphIn (l .names2) (l .edges2) (l .p .theirs)) (map localIn (take (l .i) (l .locals))) (l .p .blurred) _ (q .3)
+                (locals-end (l .locals) n n (q .0) (omega (arith, count .ensures)) (l .i) (omega arith))
+                (locals-end (a .locals2 .now) m m (fb .locals) (omega (arith, count2 .ensures)) (l .i) (omega (arith, (c .if2) .left))) _
+                (locals-all (l .locals) (a .s .«num_locals») n (q .0) (count .ensures) (l .i) i)
+                ∙ (λ j. joinLocals (clip (a .locals .now) (a .s .«num_locals») n (fa .locals) (count .ensures) j) (clip (a .locals2 .now) (a .o .«num_locals») m (fb .locals) (count2 .ensures) j)
+                (graphIn (a .names .now) (a .edges .now) (a .s .«borrow_graph»)) (graphIn (a .names2 .now) (a .edges2 .now) (a .o .«borrow_graph»)));
+            locals = q .0;
+            ours = q .1;
+            theirs = q .2;
+          },
+    )
 
 pub join-locals-spec : {M : Type 1} → statement M
 join-locals-spec =
@@ -218,6 +230,7 @@ join-locals-spec =
     element-write-locals
     turn-requires
     returns
+    add-p
     add-i
     loop-less
     loop-again

@@ -40,7 +40,7 @@ returns c =
     let d = subst (λ (x : GEdge). Added x es (a .g .edges) ((c .add-edge) .last .0) ((c .add-edge) .result)) ((c .before .before .edge) .ensures) ((c .add-edge) .ensures .1 (t .rows) (wf-neat g w)) in
     let u = added-edits (between p (record { strong = false; path = path }) k) es (a .g .edges) ((c .add-edge) .last .0) ((c .add-edge) .result) d (g .names) in
     answers-edits (borrowWeak g p path k) ns es (a .g) t ((c .add-edge) .last .0) ((c .add-edge) .result) ((c .add-edge) .ensures .0) (λ h e. borrowWeak-law g p path k h e .formed) w
-    (u .0 ∙ weak-ok g p path k w (and-r (wellFormed g) (pairOk (g .names) p k) y), u .1, u .2)
+    (u .0 ∙ weak-ok g p path k w (and-r (wellFormed g) (pairOk (g .names) p k) y), u .1, u .2, u .3)
 
 returns-2 : tie.Need-returns-2
 returns-2 c =

@@ -3,9 +3,10 @@ use Prim.Native.Nat.{_≤_}
 use lib.ListN.{length}
 use Rattle.meaning.specs.Limits.{maxEdges}
 use Rattle.meaning.specs.BorrowGraph.{GEdge, Name, wellFormed, pairOk, borrowStrong}
+use Rattle.meaning.specs.Laws.Blurs.{newly-self}
 use Rattle.meaning.specs.Laws.Pass.{wf-neat}
 use Rattle.references.specs.Models.{edgesIn, pathAt, told}
-use Rattle.references.specs.ModelLaws.{edges-few, edges-count, told-no}
+use Rattle.references.specs.ModelLaws.{edges-few, edges-count, told-yes, told-no}
 use Rattle.borrow_graph_edit.specs.Edits.{graphWith, Added, added-edits}
 use Rattle.borrow_graph_edit.specs.BorrowLaws.{strong, strong-ends, staying-formed, moving-fits, moving-pairs, strong-moved}
 use mathlib.Core.Bool.{true, _&&_}
@@ -63,8 +64,19 @@ edge-requires c κs = search needs
 add-edge-requires : tie.Need-add-edge-requires
 add-edge-requires c κs = search needs
 
+newly-blurred-requires : tie.Need-newly-blurred-requires
+newly-blurred-requires c κs = search needs
+
 returns : tie.Need-returns
-returns c = ((c .before .before .add-edge) .ensures .0, λ e ns t. let v = last (c .before .before) e ns t in (v .0, λ y. absurd (y ((c .if2) .taken)), v .1))
+returns c =
+    let add-edge = (c .before .before .before .before .before .add-edge) in (
+      add-edge .ensures .0,
+      λ e ns t.
+          let v = last (c .before .before .before .before .before) e ns t in
+          let y = add-edge .result in
+          let fs = edgesIn (add-edge .last .0) (y .edges) in
+          (sym (told-yes (y .refusal) (graphWith ns fs) ((c .before .before .before .if2) .taken)) ∙ v .0, λ z. absurd (z refl), v .1, (c .newly-blurred) .ensures e (v .1)),
+    )
 
 returns-2 : tie.Need-returns-2
 returns-2 c =
@@ -77,6 +89,7 @@ returns-2 c =
                 ∙ sym (told-no (r .refusal) (graphWith ns (edgesIn ((c .before .before .add-edge) .last .0) (r .edges))) ((c .if2) .left)) ∙ v .0,
             λ y. (refl, refl),
             e,
+            sym (newly-self (edgesIn (a .edges .now) (a .m))),
           ),
     )
 
@@ -86,7 +99,7 @@ returns-3 c =
       (c .before .before .before .pre),
       λ e ns t.
           let ends = sym ((c .before .none-ends-at) .ensures e) ∙ (c .if1) .left in
-          (sym (strong-ends ns (edgesIn (a .edges .now) (a .m)) (a .parent .0) (pathAt (a .path)) (a .child .0) ends), λ y. (refl, refl), e),
+          (sym (strong-ends ns (edgesIn (a .edges .now) (a .m)) (a .parent .0) (pathAt (a .path)) (a .child .0) ends), λ y. (refl, refl), e, sym (newly-self (edgesIn (a .edges .now) (a .m)))),
     )
 
 pub factor-below-spec : {M : Type 1} → statement M
@@ -98,6 +111,7 @@ factor-below-spec =
     add-moved-requires
     edge-requires
     add-edge-requires
+    newly-blurred-requires
     returns
     returns-2
     returns-3)

@@ -6,10 +6,11 @@ use lib.ListN.{length, take, drop}
 use Rattle.meaning.specs.Answers.{Ans, ok}
 use Rattle.meaning.specs.Lists.{keep}
 use Rattle.meaning.specs.BorrowGraph.{GEdge, isBefore}
+use Rattle.meaning.specs.Laws.Blurs.{newly-self}
 use Rattle.meaning.specs.Refinement.Pairs.{edgesAt}
 use Rattle.references.specs.Models.{rowOf, edgesIn}
 use Rattle.references.specs.ModelLaws.{edges-count}
-use Rattle.borrow_graph_edit.specs.Places.{first-fits, first-over}
+use Rattle.borrow_graph_edit.specs.Places.{first-fits, first-over, first-blurs}
 use Rattle.borrow_graph_edit.specs.Replaces.{row-short}
 use native.Mathlib.Omega.{arith}
 use borrow.Author.Needs.{needs}
@@ -43,7 +44,7 @@ returns-2 c =
       λ e w.
           let n = edges-count (a .edges .now) (a .m) (omega (arith, e, pre)) in
           let s = place .ensures .1 e .1 ∙ (λ i. length (edgesAt (parent′ .ensures i) (child′ .ensures i) es)) in
-          (e, sym (first-over es (rowOf (a .t3)) 0 w (row-short (a .t3)) (omega (arith, s, (c .before .if1) .left)) (omega (arith, n, c .if2 .taken))), λ z. (refl, refl)),
+          (e, sym (first-over es (rowOf (a .t3)) 0 w (row-short (a .t3)) (omega (arith, s, (c .before .if1) .left)) (omega (arith, n, c .if2 .taken))), λ z. (refl, refl), sym (newly-self es)),
     )
 
 tagged-requires : tie.Need-tagged-requires
@@ -78,6 +79,7 @@ returns-3 c =
             ap {B = Ans (List GEdge)} ok (z .1 ∙ ap (λ (g : GEdge). take (place .result .low) es ++ (g ∷ drop (place .result .low) es)) y)
                 ∙ sym (first-fits es (rowOf (a .t3)) (place .result .low) w (row-short (a .t3)) (omega (arith, s, if1 .left)) b (omega (arith, n, if2 .left))),
             λ q. absurd (q refl),
+            sym (first-blurs es (rowOf (a .t3)) (place .result .low) w (row-short (a .t3)) (omega (arith, s, if1 .left)) b _ (z .1 ∙ ap (λ (g : GEdge). take (place .result .low) es ++ (g ∷ drop (place .result .low) es)) y)),
           ),
     )
 

@@ -119,7 +119,7 @@ returns c =
     let q = (c .before .before .before .before .before .before .before .before .before .before .loop) .inv h k in
     let s = setIn (insert′ .last .0) (insert′ .result .set) in
     let z = insert′ .ensures (q .0) in (
-      told-off (insert′ .result .refusal) s _ _ _ (z .0 ∙ offer-ok _ _) (turn (c .before .before) h k) ((c .if2) .left) s
+      told-off (insert′ .result .refusal) s _ _ _ (z .0 ∙ offer-ok _ _) (turn (c .before .before) h k) ((c .if2) .left) (setIn (insert′ .last .0) ((c .before .before .before .before .before .before .before .before .before .before .loop) .s))
           ∙ whole (c .before .before .before .before .before .before .before .before .before .before .before .before) k,
       z .1,
     )

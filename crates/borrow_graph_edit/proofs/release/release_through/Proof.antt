@@ -5,10 +5,11 @@ use lib.ListN.{length}
 use Rattle.meaning.specs.Lists.{keep}
 use Rattle.meaning.specs.Laws.Base.{and-l}
 use Rattle.meaning.specs.BorrowGraph.{Name, wellFormed, holds, other, release}
+use Rattle.meaning.specs.Laws.Blurs.{newly-self}
 use Rattle.meaning.specs.Refinement.Passes.{apart}
 use Rattle.meaning.specs.Laws.Pass.{release-when, without-neat, wf-neat}
 use Rattle.references.specs.Models.{edgesIn, told}
-use Rattle.references.specs.ModelLaws.{told-no}
+use Rattle.references.specs.ModelLaws.{told-yes, told-no}
 use Rattle.borrow_graph_edit.specs.Edits.{graphWith, told-as}
 use borrow.Author.Needs.{needs}
 use Rattle.borrow_graph_edit.proofs.release.release_through.Statement.{statement}
@@ -34,8 +35,20 @@ passed c =
 splice-all-requires : tie.Need-splice-all-requires
 splice-all-requires c κs = search needs
 
+newly-blurred-requires : tie.Need-newly-blurred-requires
+newly-blurred-requires c κs = search needs
+
 returns : tie.Need-returns
-returns c = ((c .before .before .splice-all) .ensures .0, λ e ns t. let v = passed (c .before .before) e ns t in (v .0, λ y. absurd (y ((c .if1) .taken)), v .1))
+returns c =
+    let splice-all = (c .before .before .before .before .before .splice-all) in
+    let a = (c .before .before .before .before .before .before .before .before .before .args) in (
+      splice-all .ensures .0,
+      λ e ns t.
+          let v = passed (c .before .before .before .before .before) e ns t in
+          let y = splice-all .result in
+          let fs = edgesIn (splice-all .last .0) (y .edges) in
+          (sym (told-yes (y .refusal) (graphWith (keep (other (a .id .0)) ns) fs) ((c .before .before .before .if1) .taken)) ∙ v .0, λ z. absurd (z refl), v .1, (c .newly-blurred) .ensures e (v .1)),
+    )
 
 returns-2 : tie.Need-returns-2
 returns-2 c =
@@ -49,8 +62,9 @@ returns-2 c =
                 ∙ sym (told-no (r .refusal) (graphWith ms (edgesIn ((c .before .before .splice-all) .last .0) (r .edges))) ((c .if1) .left)) ∙ v .0,
             λ y. (refl, refl),
             e,
+            sym (newly-self (edgesIn (a .edges .now) (a .m))),
           ),
     )
 
 pub release-through-spec : {M : Type 1} → statement M
-release-through-spec = tie.close (tie.spec splice-all-requires returns returns-2)
+release-through-spec = tie.close (tie.spec splice-all-requires newly-blurred-requires returns returns-2)

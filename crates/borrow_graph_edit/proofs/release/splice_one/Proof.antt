@@ -94,7 +94,7 @@ returns c =
       w .1,
       told-off (insert .result .refusal) u _ _ _
           (w .0 ∙ ap (λ (a : Ans Edge). offer s a) ((c .before .before .before .before .splice) .ensures .0) ∙ offer-fitting s (splice d x))
-          (one-turn d _ _ x g s _ (v .1)) ((c .if1) .left) u
+          (one-turn d _ _ x g s _ (v .1)) ((c .if1) .left) (setIn (insert .last .0) (l .t))
           ∙ ap (λ (r : List Edge). insertAll (map (splice d) r) (setIn (a′ .set .now) (a′ .s))) (set-cut rows (a′ .cs .len) n k (len′ .ensures)),
     )
 

@@ -61,7 +61,11 @@ execute-requires : tie.Need-execute-requires Inv-loop μ-loop
 execute-requires c κs = search needs
 
 add-k : tie.Need-add-k Inv-loop μ-loop
-add-k c = omega arith
+add-k c =
+    let code-len = (c .before .before .before .before .before .before .before .before .before .before .before .before .before .before .before .before .code-len) in
+    let lesser = (c .before .before .before .before .before .before .before .before .before .before .before .before .before .before .lesser) in
+    let loop-test = (c .before .before .before .before .before .before .before .before .before .before .before .loop-test) in
+    omega (arith, loop-test .taken, code-len .ensures .0, lesser .ensures)
 
 loop-less : tie.Need-loop-less Inv-loop μ-loop
 loop-less c = omega arith

@@ -17,7 +17,7 @@ returns : tie.Need-returns
 unfolding statusesOf
 returns c =
     let full : length ((c .args) .self .statuses) ≡ 16 = search length-of-map in
-    (refl, statuses-set ((c .args) .self) ((c .args) .j) ((c .args) .x), record { visits = refl; turns = refl }, statuses-count ((c .args) .self) full)
+    (refl, statuses-set ((c .args) .self) ((c .args) .j) ((c .args) .x), record { visits = refl; turns = refl; blurred = refl }, statuses-count ((c .args) .self) full)
 
 pub mark-spec : {M : Type 1} → statement M
 mark-spec = tie.close (tie.spec mul-x element-set-from-x returns)

@@ -17,7 +17,7 @@ returns : tie.Need-returns
 unfolding statusesOf
 returns c =
     let t = (c .before .before .args) .self in
-    (λ e. ap {B = Next} (λ (b : Bool). cond b (stopped (t .number) (t .place .0)) (at (t .next + 1))) e, refl, refl, refl)
+    (λ e. ap {B = Next} (λ (b : Bool). cond b (stopped (t .number) (t .place .0)) (at (t .next + 1))) e, refl, refl, refl, refl)
 
 pub onward-spec : {M : Type 1} → statement M
 onward-spec = tie.close (tie.spec add-t add-t-2 returns)

@@ -20,7 +20,7 @@ returns c =
       ap {B = Next} (λ (b : Bool). cond b (stopped (u .number) (u .place .0)) (at (s .args .j))) off
           ∙ ap (λ (b : Bool). at (cond b (s .args .j) (s .args .self .next))) (sym ((c .if1) .taken)),
       clear .ensures .1,
-      record { visits = clear .ensures .2 .visits; turns = clear .ensures .2 .turns },
+      record { visits = clear .ensures .2 .visits; turns = clear .ensures .2 .turns; blurred = clear .ensures .2 .blurred },
       clear .ensures .3,
     )
 

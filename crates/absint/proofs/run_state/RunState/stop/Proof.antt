@@ -10,7 +10,7 @@ returns : tie.Need-returns
 unfolding statusesOf
 returns c =
     let full : length ((c .args) .self .statuses) ≡ 16 = search length-of-map in
-    (refl, refl, record { visits = refl; turns = refl }, statuses-count ((c .args) .self) full)
+    (refl, refl, record { visits = refl; turns = refl; blurred = refl }, statuses-count ((c .args) .self) full)
 
 pub stop-spec : {M : Type 1} → statement M
 stop-spec = tie.close (tie.spec returns)

@@ -1,0 +1,4 @@
+pub mod Today
+pub mod DroppedStep
+pub mod Dropped
+pub mod Theorems
