@@ -31,9 +31,9 @@ pub struct Operands {
 }
 
 // A state stops at its first violation or refusal: one of the two is its number (the violation, where both are given), and both are 0
-// while it goes on. A stopped state's number is handed on, with `blurred` beside a violation; what else it holds is free. `value` is what the last step answered, if it
-// answers a value, else free. The frame root has the name `num_locals`, and `next_id` is the next fresh name. `blurred` counts the sets that
-// the graph calls have blurred; it stays at the most that it can hold.
+// while it goes on. A stopped state's number is handed on, with `blurred` beside a violation; what else it holds is free. `value` is what
+// the last step answered, if it answers a value, else free. The frame root has the name `num_locals`, and `next_id` is the next fresh name.
+// `blurred` counts the sets that the graph calls have blurred; it stays at the most that it can hold.
 pub struct AbstractState {
     pub violation: u8,
     pub refusal: u8,

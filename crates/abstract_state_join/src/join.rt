@@ -155,6 +155,7 @@ fn meet(a: Local, b: Local) -> Meeting
     }
 }
 
+// The bound of a byte, kept where the byte is widened: a side's sum of them then fits 32 bits.
 fn wide(n: u8) -> u32
     ensures { λ r. ⌜ (r ≡ n) × (r ≤ 255) ⌝ }
 {
