@@ -5,7 +5,7 @@
 #include <stdio.h>
 #include <stdlib.h>
 
-/* Document 01's example: VIOLATION 102 3. */
+/* Document 01's example: VIOLATION 102 3, and BORROWED AT 2. */
 static const uint8_t moved[] = {0x03, 0x00, 0x01, 0x00, 0x00, 0x01, 0x00, 0x05, 0x00, 0x02, 0x00, 0x00, 0x00, 0x03,
                                 0x00, 0x00, 0x05, 0x00, 0x18, 0x00, 0x00, 0x00, 0x01, 0x00, 0x00, 0x01, 0x00, 0x0D,
                                 0x00, 0x00, 0x02, 0x00, 0x12, 0x00, 0x00, 0x01, 0x01, 0x00, 0x0C, 0x00, 0x00};
@@ -54,9 +54,9 @@ static bool all(const uint32_t *words, size_t from, size_t to, uint32_t value) {
     return true;
 }
 
-static bool answers(uint32_t kind, uint32_t number, uint32_t place, uint32_t visits, uint64_t blurred) {
+static bool answers(uint32_t kind, uint32_t number, uint32_t place, uint32_t visits, uint64_t blurred, uint32_t borrowed_at) {
     return answer[0] == kind && answer[1] == number && answer[2] == place && answer[3] == visits &&
-           ((uint64_t)answer[5] << 32 | answer[4]) == blurred && answer[BUSLATIM_ANSWER_WORDS] == USED;
+           ((uint64_t)answer[5] << 32 | answer[4]) == blurred && answer[6] == borrowed_at && answer[BUSLATIM_ANSWER_WORDS] == USED;
 }
 
 static bool verify(const uint8_t *listing, size_t len, size_t area_len, size_t answer_len) {
@@ -75,27 +75,27 @@ static bool analyze(const uint8_t *listing, size_t len) {
 
 int main(void) {
     expect(call(BUSLATIM_AREA_WORDS + BEYOND, BUSLATIM_ANSWER_WORDS + BEYOND), "no answer");
-    expect(answers(BUSLATIM_VIOLATION, BUSLATIM_MOVELOC_EXISTS_BORROW, 3, 1, 0), "not VIOLATION 102 3 after one visit");
+    expect(answers(BUSLATIM_VIOLATION, BUSLATIM_MOVELOC_EXISTS_BORROW, 3, 1, 0, 2), "not VIOLATION 102 3, BORROWED AT 2 after one visit");
     expect(all(area, 0, BUSLATIM_AREA_WORDS, 0), "the area is not zero");
     expect(all(area, BUSLATIM_AREA_WORDS, BUSLATIM_AREA_WORDS + BEYOND, USED), "a word beyond the area is written");
 
     expect(verify(lends, sizeof lends, BUSLATIM_AREA_WORDS, BUSLATIM_ANSWER_WORDS), "no answer for a routine that is accepted");
-    expect(answers(BUSLATIM_ACCEPT, 0, 0, 1, 1), "not ACCEPT after one visit that blurred one set");
+    expect(answers(BUSLATIM_ACCEPT, 0, 0, 1, 1, 0), "not ACCEPT after one visit that blurred one set");
 
     expect(call(BUSLATIM_AREA_WORDS - 1, BUSLATIM_ANSWER_WORDS), "no answer with a short area");
-    expect(answers(BUSLATIM_REFUSED, BUSLATIM_REFUSED_AREA, 0, 0, 0), "a short area is not REFUSED 7 0");
+    expect(answers(BUSLATIM_REFUSED, BUSLATIM_REFUSED_AREA, 0, 0, 0, 0), "a short area is not REFUSED 7 0");
     expect(all(area, 0, BUSLATIM_AREA_WORDS, USED), "a short area is written");
 
-    expect(!call(BUSLATIM_AREA_WORDS, BUSLATIM_ANSWER_WORDS - 1), "five words are taken for an answer");
+    expect(!call(BUSLATIM_AREA_WORDS, BUSLATIM_ANSWER_WORDS - 1), "six words are taken for an answer");
     expect(all(answer, 0, BUSLATIM_ANSWER_WORDS + BEYOND, USED), "a short answer is written");
     expect(all(area, 0, BUSLATIM_AREA_WORDS, USED), "the area is written though the answer is short");
 
     expect(analyze(moved, sizeof moved - 1), "analyze: no answer for a cut listing");
-    expect(answers(BUSLATIM_REFUSED, BUSLATIM_REFUSED_ENDS_EARLY, 36, 0, 0), "a cut listing is not REFUSED 1 36");
+    expect(answers(BUSLATIM_REFUSED, BUSLATIM_REFUSED_ENDS_EARLY, 36, 0, 0, 0), "a cut listing is not REFUSED 1 36");
     expect(all(area, 0, BUSLATIM_AREA_WORDS, USED), "the area is written though the listing is cut");
 
     expect(analyze(drops, sizeof drops), "analyze: no answer");
-    expect(answers(BUSLATIM_REFUSED, BUSLATIM_REFUSED_EMPTY_STACK, 0, 1, 0), "not REFUSED 10 0 after one visit");
+    expect(answers(BUSLATIM_REFUSED, BUSLATIM_REFUSED_EMPTY_STACK, 0, 1, 0, 0), "not REFUSED 10 0 after one visit");
     expect(area[0] / KEPT == 1, "the first block has no kept state after refusal 10");
     puts("called from C");
     return 0;

@@ -1,6 +1,6 @@
 //! The static library called from Rust: a violation, an acceptance after a set was blurred, an area too short, an answer too short.
 
-/// Document 01's example: VIOLATION 102 3.
+/// Document 01's example: VIOLATION 102 3, and BORROWED AT 2.
 const LISTING: [u8; 41] = [
     0x03, 0x00, 0x01, 0x00, 0x00, 0x01, 0x00, 0x05, 0x00, 0x02, 0x00, 0x00, 0x00, 0x03, 0x00, 0x00, 0x05, 0x00, 0x18,
     0x00, 0x00, 0x00, 0x01, 0x00, 0x00, 0x01, 0x00, 0x0D, 0x00, 0x00, 0x02, 0x00, 0x12, 0x00, 0x00, 0x01, 0x01, 0x00,
@@ -20,7 +20,7 @@ const LENDS: [u8; 113] = [
 /// Those of include/buslatim.h that are used here. `callers/run` sees that they are the header's.
 mod buslatim {
     pub const AREA_WORDS: usize = 16384;
-    pub const ANSWER_WORDS: usize = 6;
+    pub const ANSWER_WORDS: usize = 7;
     pub const ACCEPT: u32 = 0;
     pub const VIOLATION: u32 = 1;
     pub const REFUSED: u32 = 2;
@@ -63,18 +63,18 @@ fn main() {
     let mut area = vec![USED; AREA_WORDS + 1];
     let mut answer = [USED; ANSWER_WORDS + 1];
     assert!(verify(&LISTING, &mut area, &mut answer));
-    assert_eq!(answer, [VIOLATION, MOVELOC_EXISTS_BORROW, 3, 1, 0, 0, USED]);
+    assert_eq!(answer, [VIOLATION, MOVELOC_EXISTS_BORROW, 3, 1, 0, 0, 2, USED]);
     assert!(area[..AREA_WORDS].iter().all(|w| *w == 0));
     assert_eq!(area[AREA_WORDS], USED);
 
     let mut answer = [USED; ANSWER_WORDS];
     assert!(verify(&LENDS, &mut area, &mut answer));
-    assert_eq!(answer, [ACCEPT, 0, 0, 1, 1, 0]);
+    assert_eq!(answer, [ACCEPT, 0, 0, 1, 1, 0, 0]);
 
     let mut area = vec![USED; AREA_WORDS - 1];
     let mut answer = [USED; ANSWER_WORDS];
     assert!(verify(&LISTING, &mut area, &mut answer));
-    assert_eq!(answer, [REFUSED, REFUSED_AREA, 0, 0, 0, 0]);
+    assert_eq!(answer, [REFUSED, REFUSED_AREA, 0, 0, 0, 0, 0]);
     assert!(area.iter().all(|w| *w == USED));
 
     let mut area = vec![USED; AREA_WORDS];

@@ -13,14 +13,14 @@
 extern "C" {
 #endif
 
-#define BUSLATIM_VERSION "2.0.0"
-#define BUSLATIM_VERSION_MAJOR 2
+#define BUSLATIM_VERSION "3.0.0"
+#define BUSLATIM_VERSION_MAJOR 3
 #define BUSLATIM_VERSION_MINOR 0
 #define BUSLATIM_VERSION_PATCH 0
 
 /* The least number of words of the work area, and of an answer. */
 #define BUSLATIM_AREA_WORDS 16384
-#define BUSLATIM_ANSWER_WORDS 6
+#define BUSLATIM_ANSWER_WORDS 7
 
 /* The most visits of blocks that a call makes. A routine of B blocks and L locals takes at most B * (1 + B * (11 * L * L + L)); this is for 16
  * and 16. */
@@ -28,8 +28,8 @@ extern "C" {
 
 /*
  * What a call needs besides the area: this many bytes of stack below the caller's frame. The deepest path of calls in the machine code takes
- * 43,192 bytes, and what memcpy takes comes on top; the code neither recurses nor calls by pointer, so no listing takes more. On a painted
- * stack 3,496 listings took up to 43,016 bytes. bench/stack/run measures both again; another kit may compile to other frames.
+ * 43,560 bytes, and what memcpy takes comes on top; the code neither recurses nor calls by pointer, so no listing takes more. On a painted
+ * stack 4,313 listings took up to 43,384 bytes. bench/stack/run measures both again; another kit may compile to other frames.
  */
 #define BUSLATIM_STACK_BYTES 49152
 
@@ -87,13 +87,17 @@ enum {
  * answer[2]: the instruction's offset or the refusal's place; 0 for an acceptance
  * answer[3]: how often a block was run; 0 for refusals 1 to 7
  * answer[4], answer[5]: how many sets of edges were blurred in the run, as 2^32 * answer[5] + answer[4]; 0 for refusals 1 to 7
+ * answer[6]: for a violation the offset of the instruction that borrowed what it fails on; else 0
  *
  * The borrow edges from one name to another are a set. An edge put into a set of ten blurs it into one edge that stands for any part, so a
  * number above 0 says that the routine was judged less closely. Every visit of a block counts, also one that ends in a violation, and every
  * join; a visit or join that ends in a refusal does not.
  *
+ * Each edge has the offset of the instruction that made it. Where several edges would each be a reason for the violation, answer[6] is the
+ * lowest of their offsets (docs/LISTING.md). In a loop the borrow may stand behind the instruction that fails.
+ *
  * The first 16,384 words of the area end zero, whatever they held; an area of fewer words is refusal 7 and stays as it is. Words of the
- * area and of the answer beyond those named stay as they are. False, and nothing is written, where the answer has fewer than six words.
+ * area and of the answer beyond those named stay as they are. False, and nothing is written, where the answer has fewer than seven words.
  *
  * No pointer may be null. The area and the answer must not overlap each other or the listing. No pointer is kept and nothing is allocated. It
  * is re-entrant: the library has no data that is written, so threads may call at once, each with an area and an answer of its own.

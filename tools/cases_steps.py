@@ -4,79 +4,16 @@
 Each routine has one block, or where names are to be changed a second one that only returns. With the path of the oracle's `answer` the
 answers are held against the Rust's verdict.
 """
-import subprocess
-import sys
-from pathlib import Path
-
-from case_files import write
-
-VALUE, REF, MUT = 0, 1, 2
-
-
-def rec(kind, *body):
-    return len(body).to_bytes(2, "little") + kind.to_bytes(2, "little") + bytes(body)
-
-
-def word(n):
-    return n % 256, n // 256
-
-
-POP, FREEZE, EQ, READ, WRITE, RET, MOVE_TO = (rec(k) for k in (10, 14, 15, 16, 17, 23, 25))
-
-
-def copy(i):
-    return rec(11, i)
-
-
-def move(i):
-    return rec(12, i)
-
-
-def store(i):
-    return rec(13, i)
-
-
-def local(i, m):
-    return rec(18, i, m)
-
-
-def field(n, m):
-    return rec(19, *word(n), m)
-
-
-def resource(n, m):
-    return rec(20, *word(n), m)
-
-
-def move_from(n):
-    return rec(21, *word(n))
-
-
-def call(params, acquired, returns):
-    return rec(22, params, len(acquired), *(b for n in acquired for b in word(n)), len(returns), *returns)
-
-
-def values(takes, pushes, token=VALUE):
-    return rec(24, *word(takes), *word(pushes), token)
-
-
-def vector(takes, m, pushes, token=VALUE):
-    return rec(26, takes, m, pushes, token)
-
-
-def element(m):
-    return rec(27, m)
-
-
-LOAD = values(0, 1)
+from case_files import must_agree, oracle, write
+from records import (EQ, FREEZE, LOAD, MOVE_TO, MUT, POP, READ, REF, RET, VALUE, WRITE, block, call, copy, element, field, function, local, move,
+                     move_from, resource, store, values, vector)
 
 
 def routine(params, locals_, returns, code, successor=False):
-    head = rec(1, len(params), locals_, *params, returns, *[VALUE] * returns)
     n = len(code)
-    if successor:
-        return head + rec(2, *word(0), *word(n - 1), 1, *word(n)) + b"".join(code) + rec(2, *word(n), *word(n), 0) + RET
-    return head + rec(2, *word(0), *word(n - 1), 0) + b"".join(code)
+    first = block(0, n - 1, *([n] if successor else []))
+    second = block(n, n) + RET if successor else b""
+    return function(params, locals_, returns) + first + b"".join(code) + second
 
 
 def cases():
@@ -207,18 +144,13 @@ def cases():
     yield [MUT], 2, 0, [move(0), store(1)], 0, True
 
 
-def agreed():
+def agreed(answer):
     for case in cases():
         listing = routine(*case[:4], *case[5:])
         code, place = case[4] or (0, 0)
-        verdict = f"number: {code}, place: {place},"
-        if sys.argv[1:]:
-            told = subprocess.run([sys.argv[1], listing.hex()], capture_output=True, text=True).stdout.split("\n")[0]
-            if verdict not in told:
-                sys.exit(f"{listing.hex()}: stated {verdict}, the oracle says {told}")
+        if answer:
+            must_agree(answer, listing, code, place)
         yield listing, f"{code:03} {place:05}"
 
 
-if sys.argv[2:] or sys.argv[1:] and not Path(sys.argv[1]).is_file():
-    sys.exit(__doc__)
-write("cases_steps", agreed())
+write("cases_steps", agreed(oracle(__doc__)))

@@ -1,7 +1,8 @@
 //! Answers, and bytes as they are printed.
 
-/// What our `verify` answers in six words: 0 accepted, 1 violation, 2 refused; its number; its place; the visits; and
-/// how many sets the run blurred, the low word first. A visit or a join that is refused counts none.
+/// What our `verify` answers in seven words: 0 accepted, 1 violation, 2 refused; its number; its place; the visits; how
+/// many sets the run blurred, the low word first (a visit or a join that is refused counts none); and, after a violation,
+/// the offset at which what it fails on was borrowed, else 0.
 #[derive(Clone, Copy, Debug, Eq, Hash, Ord, PartialEq, PartialOrd)]
 pub struct Answer {
     pub kind: u32,
@@ -9,19 +10,20 @@ pub struct Answer {
     pub place: u32,
     pub visits: u32,
     pub blurred: u64,
+    pub borrowed_at: u32,
 }
 
-pub const WORDS: usize = 6;
+pub const WORDS: usize = 7;
 
 impl Answer {
     pub fn words(&self) -> [u32; WORDS] {
-        let Answer { kind, number, place, visits, blurred } = *self;
-        [kind, number, place, visits, blurred as u32, (blurred >> 32) as u32]
+        let Answer { kind, number, place, visits, blurred, borrowed_at } = *self;
+        [kind, number, place, visits, blurred as u32, (blurred >> 32) as u32, borrowed_at]
     }
 
     pub fn of(words: [u32; WORDS]) -> Answer {
-        let [kind, number, place, visits, low, high] = words;
-        Answer { kind, number, place, visits, blurred: (high as u64) << 32 | low as u64 }
+        let [kind, number, place, visits, low, high, borrowed_at] = words;
+        Answer { kind, number, place, visits, blurred: (high as u64) << 32 | low as u64, borrowed_at }
     }
 }
 

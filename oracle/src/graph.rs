@@ -1,11 +1,24 @@
 //! The graph that abstract_state.rs uses: the Rust's own. Each call that puts edges in counts the sets that it blurs
 //! (request A1); and while a run is watched there is a look at the limits of document 01 (21 and 22) at each call.
+//!
+//! The Rust's edges carry a `loc`, of any type; abstract_state.rs has the empty one there. Here it is the offset of the
+//! instruction that runs (request A9), and what becomes of it is left to the Rust's graph. `borrowed_by`, by which every
+//! test sees the edges that leave a name, tells a watched run what was tested.
 
-use crate::{kept, panics::Thrown, references::RefID, rust_graph};
-use std::{cell::Cell, collections::BTreeMap, fmt, fmt::Debug, panic::panic_any};
+use crate::{file_format::CodeOffset, kept, panics::Thrown, references::RefID, rust_graph};
+use std::{
+    cell::{Cell, RefCell},
+    collections::BTreeMap,
+    fmt,
+    fmt::Debug,
+    marker::PhantomData,
+    ops::Range,
+    panic::panic_any,
+};
 
 thread_local! {
     pub static WATCHING: Cell<bool> = const { Cell::new(false) };
+    static TESTS: RefCell<Tests> = const { RefCell::new(Tests::NONE) };
     /// Of the visit or join that goes on.
     static BLURRED: Cell<Blurred> = const { Cell::new(Blurred::NONE) };
     /// Of those before it.
@@ -47,24 +60,85 @@ pub fn passed_up() -> Blurred {
     PASSED_UP.take()
 }
 
+/// The tests that an instruction makes.
+struct Tests {
+    /// Of the instruction's record.
+    offset: CodeOffset,
+    count: usize,
+    /// The offsets of the edges that leave the name tested last.
+    edges: Vec<CodeOffset>,
+    trial: Option<Trial>,
+}
+
+/// The tests before this one, by its count, see no edge. It sees one alone, by its place among those that leave the name,
+/// or all.
+#[derive(Clone, Copy)]
+pub struct Trial {
+    pub test: usize,
+    pub alone: Option<usize>,
+}
+
+impl Tests {
+    const NONE: Tests = Tests { offset: 0, count: 0, edges: vec![], trial: None };
+
+    /// The places of the edges that the next test sees.
+    fn next(&mut self, edges: Vec<CodeOffset>) -> Range<usize> {
+        self.count += 1;
+        self.edges = edges;
+        match self.trial {
+            Some(trial) if self.count < trial.test => 0..0,
+            Some(Trial { test, alone: Some(edge) }) if self.count == test => edge..edge + 1,
+            _ => 0..self.edges.len(),
+        }
+    }
+}
+
+/// An instruction starts, whose record has this offset.
+pub fn start_at(offset: CodeOffset) {
+    TESTS.set(Tests { offset, ..Tests::NONE })
+}
+
+/// The count of the instruction's last test, and the offsets of the edges that leave the name tested.
+pub fn last_test() -> (usize, Vec<CodeOffset>) {
+    TESTS.with_borrow(|tests| (tests.count, tests.edges.clone()))
+}
+
+/// Runs an instruction again as a trial. Whether it fails, and the last test; what else it does counts for nothing.
+pub fn tried(trial: Trial, again: impl FnOnce() -> bool) -> (bool, usize) {
+    let (watching, blurred) = (WATCHING.replace(false), BLURRED.get());
+    let offset = TESTS.with_borrow(|tests| tests.offset);
+    TESTS.set(Tests { offset, trial: Some(trial), ..Tests::NONE });
+    let fails = again();
+    WATCHING.set(watching);
+    BLURRED.set(blurred);
+    (fails, last_test().0)
+}
+
 const MOST_EDGES: usize = 96;
 const MOST_LABELS: usize = 8;
 const MOST_IN_SET: usize = 10;
 
-type Rust<Loc, Lbl> = rust_graph::BorrowGraph<Loc, Lbl>;
+type Rust<Lbl> = rust_graph::BorrowGraph<CodeOffset, Lbl>;
 
 #[derive(Clone, PartialEq)]
-pub struct BorrowGraph<Loc: Copy, Lbl: Clone + Ord>(Rust<Loc, Lbl>);
+pub struct BorrowGraph<Loc: Copy, Lbl: Clone + Ord>(Rust<Lbl>, PhantomData<Loc>);
 
-impl<Loc: Copy + Debug, Lbl: Clone + Ord + Debug> Debug for BorrowGraph<Loc, Lbl> {
+impl<Loc: Copy, Lbl: Clone + Ord + Debug> Debug for BorrowGraph<Loc, Lbl> {
+    /// The Rust writes no `loc`, so the offsets come after what it writes.
     fn fmt(&self, f: &mut fmt::Formatter<'_>) -> fmt::Result {
-        self.0.fmt(f)
+        let names = self.0.all_refs().into_iter();
+        let offsets: Vec<CodeOffset> =
+            names.flat_map(|id| self.0.out_edges(id)).map(|(offset, ..)| offset).collect();
+        write!(f, "{:?}{}{offsets:?}", self.0, kept::OFFSETS)
     }
 }
 
-impl<Loc: Copy + Debug, Lbl: Clone + Ord + Debug> BorrowGraph<Loc, Lbl> {
+/// The names that borrow from one: as a whole, and by the first label.
+type BorrowedBy<Lbl> = (BTreeMap<RefID, ()>, BTreeMap<Lbl, BTreeMap<RefID, ()>>);
+
+impl<Lbl: Clone + Ord + Debug> BorrowGraph<(), Lbl> {
     pub fn new() -> Self {
-        Self(Rust::new())
+        Self(Rust::new(), PhantomData)
     }
 
     pub fn is_mutable(&self, id: RefID) -> bool {
@@ -75,24 +149,40 @@ impl<Loc: Copy + Debug, Lbl: Clone + Ord + Debug> BorrowGraph<Loc, Lbl> {
         self.0.new_ref(id, mutable)
     }
 
-    pub fn borrowed_by(&self, id: RefID) -> (BTreeMap<RefID, Loc>, BTreeMap<Lbl, BTreeMap<RefID, Loc>>) {
-        self.0.borrowed_by(id)
+    pub fn borrowed_by(&self, id: RefID) -> BorrowedBy<Lbl> {
+        let edges = self.0.out_edges(id);
+        let offsets = edges.iter().map(|(offset, ..)| *offset).collect();
+        let seen = TESTS.with_borrow_mut(|tests| tests.next(offsets));
+        if seen.len() == edges.len() {
+            return without_offsets(self.0.borrowed_by(id));
+        }
+        let mut some = Rust::new();
+        some.new_ref(id, true);
+        for (offset, path, _, child) in &edges[seen] {
+            some.new_ref(*child, true);
+            // Of a path a test sees the first label at most.
+            match path.first() {
+                None => some.add_weak_borrow(*offset, id, *child),
+                Some(label) => some.add_weak_field_borrow(*offset, id, label.clone(), *child),
+            }
+        }
+        without_offsets(some.borrowed_by(id))
     }
 
-    pub fn add_strong_borrow(&mut self, loc: Loc, parent: RefID, child: RefID) {
-        self.borrow(parent, |graph| graph.add_strong_borrow(loc, parent, child))
+    pub fn add_strong_borrow(&mut self, _: (), parent: RefID, child: RefID) {
+        self.borrow(parent, |graph, offset| graph.add_strong_borrow(offset, parent, child))
     }
 
-    pub fn add_strong_field_borrow(&mut self, loc: Loc, parent: RefID, field: Lbl, child: RefID) {
-        self.borrow(parent, |graph| graph.add_strong_field_borrow(loc, parent, field, child))
+    pub fn add_strong_field_borrow(&mut self, _: (), parent: RefID, field: Lbl, child: RefID) {
+        self.borrow(parent, |graph, offset| graph.add_strong_field_borrow(offset, parent, field, child))
     }
 
-    pub fn add_weak_borrow(&mut self, loc: Loc, parent: RefID, child: RefID) {
-        self.borrow(parent, |graph| graph.add_weak_borrow(loc, parent, child))
+    pub fn add_weak_borrow(&mut self, _: (), parent: RefID, child: RefID) {
+        self.borrow(parent, |graph, offset| graph.add_weak_borrow(offset, parent, child))
     }
 
-    pub fn add_weak_field_borrow(&mut self, loc: Loc, parent: RefID, field: Lbl, child: RefID) {
-        self.borrow(parent, |graph| graph.add_weak_field_borrow(loc, parent, field, child))
+    pub fn add_weak_field_borrow(&mut self, _: (), parent: RefID, field: Lbl, child: RefID) {
+        self.borrow(parent, |graph, offset| graph.add_weak_field_borrow(offset, parent, field, child))
     }
 
     /// The only call that makes paths longer.
@@ -116,7 +206,7 @@ impl<Loc: Copy + Debug, Lbl: Clone + Ord + Debug> BorrowGraph<Loc, Lbl> {
     }
 
     pub fn join(&self, other: &Self) -> Self {
-        let joined = Self(self.0.join(&other.0));
+        let joined = Self(self.0.join(&other.0), PhantomData);
         joined.within_limit();
         count(|all| &mut all.join, &self.0, edges(&other.0), &joined.0);
         // The last call of a state's join.
@@ -125,10 +215,10 @@ impl<Loc: Copy + Debug, Lbl: Clone + Ord + Debug> BorrowGraph<Loc, Lbl> {
     }
 
     /// The parent's edges may be moved, and one comes.
-    fn borrow(&mut self, parent: RefID, call: impl FnOnce(&mut Rust<Loc, Lbl>)) {
+    fn borrow(&mut self, parent: RefID, call: impl FnOnce(&mut Rust<Lbl>, CodeOffset)) {
         let before = self.0.clone();
         let moved = before.out_edges(parent).len();
-        call(&mut self.0);
+        call(&mut self.0, TESTS.with_borrow(|tests| tests.offset));
         self.within_limit();
         count(|all| &mut all.borrow, &before, moved + 1, &self.0)
     }
@@ -150,20 +240,27 @@ impl<Loc: Copy + Debug, Lbl: Clone + Ord + Debug> BorrowGraph<Loc, Lbl> {
     }
 }
 
-fn edges<Loc: Copy, Lbl: Clone + Ord>(graph: &Rust<Loc, Lbl>) -> usize {
+fn without_offsets<Lbl: Ord>(
+    (full, fields): (BTreeMap<RefID, CodeOffset>, BTreeMap<Lbl, BTreeMap<RefID, CodeOffset>>),
+) -> BorrowedBy<Lbl> {
+    let names = |borrows: BTreeMap<RefID, CodeOffset>| borrows.into_keys().map(|id| (id, ())).collect();
+    (names(full), fields.into_iter().map(|(label, borrows)| (label, names(borrows))).collect())
+}
+
+fn edges<Lbl: Clone + Ord>(graph: &Rust<Lbl>) -> usize {
     graph.all_refs().into_iter().map(|id| graph.out_edges(id).len()).sum()
 }
 
-fn plain<Loc: Copy + Debug, Lbl: Clone + Ord + Debug>(graph: &Rust<Loc, Lbl>) -> kept::Graph {
+fn plain<Lbl: Clone + Ord + Debug>(graph: &Rust<Lbl>) -> kept::Graph {
     kept::graph(&format!("{graph:?}"))
 }
 
 /// Counts the sets that a call blurred, by the graph before it, the most edges that it puts in and the graph after it.
-fn count<Loc: Copy + Debug, Lbl: Clone + Ord + Debug>(
+fn count<Lbl: Clone + Ord + Debug>(
     kind: fn(&mut Blurred) -> &mut u64,
-    before: &Rust<Loc, Lbl>,
+    before: &Rust<Lbl>,
     added: usize,
-    after: &Rust<Loc, Lbl>,
+    after: &Rust<Lbl>,
 ) {
     // Only `Debug` shows `overflown`, slowly. A set blurs by an eleventh edge and is then one weak edge with an empty
     // path: where no set is so, or none had so many edges, none was blurred.

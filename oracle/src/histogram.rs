@@ -15,6 +15,8 @@ pub struct Histogram {
     leftovers: u64,
     vanished: u64,
     blurred: Blurring,
+    /// Compared violations that edges of different offsets would each alone give.
+    several: u64,
     all: u64,
 }
 
@@ -40,7 +42,7 @@ impl Blurring {
 
 impl Histogram {
     pub fn add(&mut self, judged: &Judged) {
-        let Judged { answer, source, leftovers, vanished, blurred } = judged;
+        let Judged { answer, source, leftovers, vanished, blurred, several } = judged;
         let column = match source {
             Source::Rust => 0,
             Source::Reader => 1,
@@ -52,6 +54,7 @@ impl Histogram {
             if answer.kind == 0 && blurred.all() > 0 {
                 self.blurred.add(judged)
             }
+            self.several += *several as u64
         }
         self.leftovers += *leftovers as u64;
         self.vanished += *vanished as u64;
@@ -61,6 +64,10 @@ impl Histogram {
     /// The compared ones.
     pub fn compared(&self) -> u64 {
         self.outcomes.values().map(|columns| columns[0]).sum()
+    }
+
+    fn violations(&self) -> u64 {
+        self.outcomes.iter().filter(|((kind, _), _)| *kind == 1).map(|(_, columns)| columns[0]).sum()
     }
 }
 
@@ -87,6 +94,8 @@ impl fmt::Display for Histogram {
         let failed = format!("{vanished} of them though the last run of a block failed");
         writeln!(f, "{accepted} accepted after sets were blurred, {failed}; at most {most} sets")?;
         writeln!(f, "  blurred by borrows: {borrow}  by releases: {release}  by graphs' joins: {join}")?;
+        let several = format!("{} where edges of different offsets would each fail", self.several);
+        writeln!(f, "{} compared violations, {several}", self.violations())?;
         write!(f, "visits of the compared:")?;
         for (bits, count) in &self.visits {
             write!(f, "  <{}: {count}", 1u64 << bits)?

@@ -29,6 +29,8 @@ pub struct Judged {
     pub vanished: bool,
     /// By which calls sets were blurred.
     pub blurred: Blurred,
+    /// A violation that edges of different offsets would each alone give.
+    pub several: bool,
 }
 
 /// How a run of the Rust ended, and after how many visits.
@@ -38,6 +40,7 @@ pub struct Ending {
     /// 16 or 20 to 22.
     pub thrown: bool,
     pub blurred: Blurred,
+    pub several: bool,
 }
 
 pub(crate) struct Watched {
@@ -57,9 +60,11 @@ impl Ending {
     pub(crate) fn of(adapted: &Adapted, run: Result<Result<(), PartialVMError>, Caught>) -> Ending {
         let visits = adapted.cfg.visits.get();
         let stood = adapted.records[adapted.unit.code.last.get()] as u32;
+        let (mut low, mut high) = (0, 0);
         let (kind, number, place) = match &run {
             Ok(Ok(())) => (0, 0, 0),
             Ok(Err(error)) => {
+                (low, high) = error.borrowed.unwrap_or_default();
                 let offset = error.offset.expect("every violation has an offset");
                 (1, error.status as u32, adapted.records[offset as usize] as u32)
             }
@@ -68,13 +73,15 @@ impl Ending {
         };
         let blurred = passed_up();
         Ending {
-            answer: Answer { kind, number, place, visits, blurred: blurred.all() },
+            answer: Answer { kind, number, place, visits, blurred: blurred.all(), borrowed_at: low as u32 },
             thrown: matches!(run, Err(Caught::Thrown(_))),
             blurred,
+            several: low < high,
         }
     }
 }
 
+/// By the Rust's `verify`, which does not tell where something was borrowed.
 fn plain(adapted: &Adapted) -> Ending {
     adapted.cfg.visits.set(0);
     passed_up();
@@ -86,20 +93,20 @@ pub fn judge(listing: &[u8]) -> Judged {
     let routine = match listing::read(listing) {
         Ok(routine) => routine,
         Err(listing::Refusal { number, place }) => {
-            let answer = Answer { kind: 2, number, place, visits: 0, blurred: 0 };
+            let answer = Answer { kind: 2, number, place, visits: 0, blurred: 0, borrowed_at: 0 };
             let (source, blurred) = (Source::Reader, Blurred::default());
-            return Judged { answer, source, leftovers: false, vanished: false, blurred };
+            return Judged { answer, source, leftovers: false, vanished: false, blurred, several: false };
         }
     };
     let adapted = Adapted::new(&routine);
     let Watched { ending, leftovers, vanished, .. } = adapted.watched(false);
-    if leftovers || ending.thrown {
-        let Ending { answer, blurred, .. } = ending;
-        return Judged { answer, source: Source::Watched, leftovers, vanished, blurred };
+    let Ending { answer, thrown, blurred, several } = ending;
+    if leftovers || thrown {
+        return Judged { answer, source: Source::Watched, leftovers, vanished, blurred, several };
     }
-    let Ending { answer, blurred, .. } = plain(&adapted);
-    assert_eq!(answer, ending.answer, "watching changed the run of {}", hex(listing));
-    Judged { answer, source: Source::Rust, leftovers, vanished, blurred }
+    let Ending { answer: rust, blurred, .. } = plain(&adapted);
+    assert_eq!(rust, Answer { borrowed_at: 0, ..answer }, "watching changed the run of {}", hex(listing));
+    Judged { answer, source: Source::Rust, leftovers, vanished, blurred, several }
 }
 
 /// The kept states by entry, if the listing is read and its run ends without a refusal.

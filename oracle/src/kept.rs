@@ -7,6 +7,8 @@ pub struct Edge {
     pub strong: bool,
     /// Labels as kind × 65,536 + number: Local 0, Global 1, Field 2.
     pub path: Vec<u32>,
+    /// Of the instruction that made it; 0 where the text has none.
+    pub offset: u16,
 }
 
 #[derive(Clone, Debug, Default, Eq, PartialEq)]
@@ -35,9 +37,14 @@ fn words(text: &str) -> impl Iterator<Item = &str> {
     text.split(|c: char| !c.is_alphanumeric() && c != '_').filter(|w| !w.is_empty())
 }
 
+/// After the edges there may be their offsets, in the same order.
+pub const OFFSETS: &str = " offsets: ";
+
 pub fn graph(text: &str) -> Graph {
     let mut graph = Graph::default();
     let (mut name, mut parent, mut child, mut kind) = (0, 0, 0, 0);
+    let (text, offsets) = text.split_once(OFFSETS).unwrap_or((text, ""));
+    let all_offsets = words(offsets);
     let mut words = words(text);
     while let Some(word) = words.next() {
         let edges = graph.sets.get_mut(&(parent, child));
@@ -48,7 +55,9 @@ pub fn graph(text: &str) -> Graph {
                 child = name;
                 graph.sets.insert((parent, child), EdgeSet::default());
             }
-            "strong" => edges.unwrap().edges.push(Edge { strong: truth(words.next()), path: vec![] }),
+            "strong" => {
+                edges.unwrap().edges.push(Edge { strong: truth(words.next()), path: vec![], offset: 0 })
+            }
             "overflown" => edges.unwrap().blurred = truth(words.next()),
             "mutable" => {
                 graph.names.insert(parent, truth(words.next()));
@@ -63,6 +72,8 @@ pub fn graph(text: &str) -> Graph {
             }
         }
     }
+    let all_edges = graph.sets.values_mut().flat_map(|set| &mut set.edges);
+    all_edges.zip(all_offsets).for_each(|(edge, offset)| edge.offset = offset.parse().unwrap());
     graph
 }
 

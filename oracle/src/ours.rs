@@ -125,7 +125,7 @@ mod shown {
             let set = state.graph.sets.entry(pair).or_default();
             set.blurred = edge[1] & 32 != 0;
             let path = edge[2..][..(edge[1] & 15) as usize].to_vec();
-            set.edges.push(Edge { strong: edge[1] & 16 != 0, path })
+            set.edges.push(Edge { strong: edge[1] & 16 != 0, path, offset: (edge[1] >> 16) as u16 })
         }
         state
     }

@@ -1,9 +1,9 @@
 //! The stored list: listings with the oracle's answers, to be replayed without the Rust.
 //!
 //! All numbers are 32 bits, little-endian. First the number of entries; then each entry: the listing's length, its
-//! bytes, whose answer it is (0 the Rust's own, 1 an exporter's refusal, 2 the watched run's), and the answer's six
+//! bytes, whose answer it is (0 the Rust's own, 1 an exporter's refusal, 2 the watched run's), and the answer's seven
 //! words: 0 accepted, 1 violation, 2 refused; its number; its place; the visits; how many sets the run blurred, low and
-//! high.
+//! high; where what a violation fails on was borrowed, else 0.
 
 use crate::{
     answer::{Answer, WORDS},
@@ -27,15 +27,21 @@ fn number(source: Source) -> u32 {
 }
 
 pub fn entry(listing: Vec<u8>) -> Entry {
-    let Judged { answer, source, .. } = judge(&listing);
-    Entry { listing, source: number(source), answer }
+    judged(listing).0
+}
+
+/// Also whether several borrows would each give the violation.
+fn judged(listing: Vec<u8>) -> (Entry, bool) {
+    let Judged { answer, source, several, .. } = judge(&listing);
+    (Entry { listing, source: number(source), answer }, several)
 }
 
 const LONGEST: usize = 450;
 /// It takes many blocks to blur a set.
 const LONGEST_BLURRING: usize = 700;
 
-/// From each family so many of each outcome, of each scale of visits and of blurred sets; more where nothing of that varies.
+/// From each family so many of each outcome, of each scale of visits and of blurred sets, with one borrow and with several;
+/// more where nothing of that varies.
 fn of_each(answer: &Answer) -> u32 {
     match answer {
         Answer { kind: 2, number: 1..=6 | 16, .. } => 30,
@@ -55,12 +61,13 @@ pub fn choose(seed: u64, generated: u64) -> Vec<Entry> {
         if listing.len() > LONGEST_BLURRING {
             continue;
         }
-        let entry = entry(listing);
+        let (entry, several) = judged(listing);
         if entry.answer.blurred == 0 && entry.listing.len() > LONGEST {
             continue;
         }
         let Answer { kind, number, visits, blurred, .. } = entry.answer;
-        let sort = (family, entry.source, kind, number, visits.checked_ilog2(), blurred.checked_ilog2());
+        let scales = (visits.checked_ilog2(), blurred.checked_ilog2());
+        let sort = (family, entry.source, kind, number, scales, several);
         let count = taken.entry(sort).or_insert(0);
         *count += 1;
         if *count <= of_each(&entry.answer) {

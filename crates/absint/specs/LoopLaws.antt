@@ -25,7 +25,7 @@ abbrev pub past-block : Block
 past-block = record { entry = record { 0 = 0 }; exit = record { 0 = 0 }; count = 0; first = record { 0 = 0 }; second = record { 0 = 0 } }
 
 abbrev pub past-status : BlockPostcondition
-past-status = record { failed = false; code = 0; offset = record { 0 = 0 } }
+past-status = record { failed = false; code = 0; offset = record { 0 = 0 }; «borrowed_at» = record { 0 = 0 } }
 
 module _ (xs : List Block) (n : ℕ) (w : length xs ≡ 16) (h : n ≤ 16) where
   pub blocks-count : length (blocksIn xs n) ≡ n
@@ -82,9 +82,9 @@ module _ (bs : List M.Block) (t : RunState) (on : t .stopped ≡ false) (l : Low
   going e = e ∙ sym (ap (λ (b : Bool). cond b (refusal (t .number) (t .place .0)) (verdictFor (lowestBy bs (statusesOf t) none))) on)
 
   abbrev worst : Failure
-  worst = record { entry = l .entry .0; code = l .code; offset = l .offset .0 }
+  worst = record { entry = l .entry .0; code = l .code; offset = l .offset .0; borrowedAt = l .«borrowed_at» .0 }
 
-  pub verdict-found : l .found ≡ true → violation (l .code) (l .offset .0) ≡ verdictIn bs t
+  pub verdict-found : l .found ≡ true → violation (l .code) (l .offset .0) (l .«borrowed_at» .0) ≡ verdictIn bs t
   verdict-found h = going (ap verdictFor (sym (ap {B = Option Failure} (λ (b : Bool). cond b (some worst) none) h) ∙ all))
 
   pub verdict-none : l .found ≡ false → accept ≡ verdictIn bs t
@@ -93,7 +93,7 @@ module _ (bs : List M.Block) (t : RunState) (on : t .stopped ≡ false) (l : Low
 -- the failure of a block against the lowest one so far
 module _ (l : LowestFailure) (e : ℕ) (x : BlockPostcondition) where
   abbrev new : Option Failure
-  new = some (record { entry = e; code = x .code; offset = x .offset .0 })
+  new = some (record { entry = e; code = x .code; offset = x .offset .0; borrowedAt = x .«borrowed_at» .0 })
 
   pub lower-first : x .failed ≡ true → l .found ≡ false → new ≡ lower e (statusOf x) (failureOf l)
   lower-first f g = rw (f, g) refl

@@ -28,7 +28,7 @@ use Rattle.absint.specs.declared.Ruling.the-variants.{Accept, Violation,
 use Rattle.absint.specs.declared.Verdict as W
 
 abbrev pub statusOf : BlockPostcondition → Status
-statusOf x = cond (x .failed) (failed (x .code) (x .offset .0)) fine
+statusOf x = cond (x .failed) (failed (x .code) (x .offset .0) (x .«borrowed_at» .0)) fine
 
 unfoldable pub statusesOf : RunState → List Status
 statusesOf t = map statusOf (t .statuses)
@@ -40,14 +40,14 @@ nextOf t = cond (t .stopped) (stopped (t .number) (t .place .0)) (at (t .next))
 
 abbrev pub rulingOf : Ruling → Verdict
 rulingOf Accept = accept
-rulingOf (Violation c o) = violation c (o .0)
+rulingOf (Violation c o a) = violation c (o .0) (a .0)
 rulingOf (Refused n p) = refusal n p
 
 abbrev pub verdictOf : W.Verdict → Answered
 verdictOf v = record { verdict = rulingOf (v .ruling); visits = v .visits; blurred = v .blurred }
 
 abbrev pub failureOf : LowestFailure → Option Failure
-failureOf l = cond (l .found) (some (record { entry = l .entry .0; code = l .code; offset = l .offset .0 })) none
+failureOf l = cond (l .found) (some (record { entry = l .entry .0; code = l .code; offset = l .offset .0; borrowedAt = l .«borrowed_at» .0 })) none
 
 abbrev pub verdictIn : List M.Block → RunState → Verdict
 verdictIn bs t = cond (t .stopped) (refusal (t .number) (t .place .0)) (verdictFor (lowestBy bs (statusesOf t) none))

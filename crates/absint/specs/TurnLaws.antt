@@ -48,27 +48,27 @@ use Rattle.absint.specs.declared.run_state.RunState.{RunState}
 
 abbrev given : {A : Type 0} → A → Outcome A → A
 given d (done a) = a
-given d (A.violated k c) = d
+given d (A.violated k c o) = d
 given d (A.refused n) = d
 
 -- a state whose outcome is known goes on with it
-pub done-inv : {T : Type 0} (k v n : ℕ) (a b : T) → halted k v n a ≡ done b → a ≡ b
-done-inv {T} k v n a b e = go (eqb v 0) (eqb n 0) e
+pub done-inv : {T : Type 0} (k v o n : ℕ) (a b : T) → halted k v o n a ≡ done b → a ≡ b
+done-inv {T} k v o n a b e = go (eqb v 0) (eqb n 0) e
   where
-    go : (x y : Bool) → cond x (cond y (done a) (A.refused n)) (A.violated k v) ≡ done b → a ≡ b
+    go : (x y : Bool) → cond x (cond y (done a) (A.refused n)) (A.violated k v o) ≡ done b → a ≡ b
     go true true e = ap (given a) e
     go true false e = ap (given a) e
     go false y e = ap (given a) e
 
-module _ (es : List ℕ) (k v n : ℕ) (a : Running) (p : ℕ) (o : Result State) (e : placed es p (halted k v n a) ≡ o) where
-  pub placed-violated : (v ≡ 0 → ⊥) → o ≡ Result.violated k v p
-  placed-violated h = sym e ∙ ap (λ (x : Bool). placed es p (cond x (cond (eqb n 0) (done a) (A.refused n)) (A.violated k v))) (ne-eqb v 0 h)
+module _ (es : List ℕ) (k v w n : ℕ) (a : Running) (p : ℕ) (o : Result State) (e : placed es p (halted k v w n a) ≡ o) where
+  pub placed-violated : (v ≡ 0 → ⊥) → o ≡ Result.violated k v p w
+  placed-violated h = sym e ∙ ap (λ (x : Bool). placed es p (cond x (cond (eqb n 0) (done a) (A.refused n)) (A.violated k v w))) (ne-eqb v 0 h)
 
   pub placed-refused : v ≡ 0 → (n ≡ 0 → ⊥) → o ≡ Result.refused n p
-  placed-refused z h = sym e ∙ (λ i. placed es p (cond (eq-eqb v 0 z i) (cond (ne-eqb n 0 h i) (done a) (A.refused n)) (A.violated k v)))
+  placed-refused z h = sym e ∙ (λ i. placed es p (cond (eq-eqb v 0 z i) (cond (ne-eqb n 0 h i) (done a) (A.refused n)) (A.violated k v w)))
 
   pub placed-end : v ≡ 0 → n ≡ 0 → o ≡ endFor es a
-  placed-end z h = sym e ∙ (λ i. placed es p (cond (eq-eqb v 0 z i) (cond (eq-eqb n 0 h i) (done a) (A.refused n)) (A.violated k v)))
+  placed-end z h = sym e ∙ (λ i. placed es p (cond (eq-eqb v 0 z i) (cond (eq-eqb n 0 h i) (done a) (A.refused n)) (A.violated k v w)))
 
 -- words read the same in routines of as many locals
 pub kept-root : (m l : ℕ) → m ≡ l → (ws : List ℕ) (j : ℕ) → keptOf m ws j ≡ keptOf l ws j
@@ -139,12 +139,12 @@ module _ (s cs : List ℕ) (d : D.Routine) (ws : List ℕ) (t : RunState) (p : R
     room : length (q .blocks) ≤ length (statusesOf t)
     room = let z : d .«block_count» ≤ 16 = p .blocks in let c = p .count in omega (arith, c, sts, z)
 
-    pub turned-violated : (r : RunState) (j c o : ℕ) → exec q i k ≡ Result.violated j c o → statusesOf r ≡ set (statusesOf t) i (failed c o) → nextOf r ≡ at (suc i) → r .visits ≡ suc (t .visits) → r .turns ≡ t .turns + 1 → r .blurred ≡ t .blurred + j → j ≤ u32Most
+    pub turned-violated : (r : RunState) (j c o u : ℕ) → exec q i k ≡ Result.violated j c o u → statusesOf r ≡ set (statusesOf t) i (failed c o u) → nextOf r ≡ at (suc i) → r .visits ≡ suc (t .visits) → r .turns ≡ t .turns + 1 → r .blurred ≡ t .blurred + j → j ≤ u32Most
         → Turned s cs d ws ws t r
-    turned-violated r j c o e a b v m y f =
+    turned-violated r j c o u e a b v m y f =
         record {
-          step = λ x h. moved (turn State join joinBlurs changed (exec q) (q .blocks) x) ws r (set (statusesOf t) i (failed c o)) (at (suc i)) (suc (t .visits)) (t .blurred + j) a b v y
-              (F.step-violated State join joinBlurs changed (exec q) (q .blocks) x (keptOf (d .locals) ws) (statusesOf t) i (t .visits) (t .blurred) (at-next x h) inside k old j c o room e);
+          step = λ x h. moved (turn State join joinBlurs changed (exec q) (q .blocks) x) ws r (set (statusesOf t) i (failed c o u)) (at (suc i)) (suc (t .visits)) (t .blurred + j) a b v y
+              (F.step-violated State join joinBlurs changed (exec q) (q .blocks) x (keptOf (d .locals) ws) (statusesOf t) i (t .visits) (t .blurred) (at-next x h) inside k old j c o u room e);
           turns = m;
           fewer = let z : t .visits ≤ t .turns = p .fewer in omega (arith, v, m, z);
           small = few-more r j (omega (arith, f)) m y;
@@ -336,7 +336,7 @@ pub first-made : (a : Words) (l : ℕ) (ts : List S.Token) → l ≤ 16 → answ
 unfolding firstRunning
 first-made a l ts h e =
     let z : min l 16 ≡ l = omega (arith, h) in
-    let x : runningOf a ≡ firstRunning (min l 16) ts = ap (λ (y : R.Answer). y .state) (done-inv (a .state .blurred) (a .state .violation) (a .state .refusal) (record { state = runningOf a; operand = operandOf (a .state .value) }) (record { state = firstRunning (min l 16) ts; operand = S.Operand.nonRef }) e) in
+    let x : runningOf a ≡ firstRunning (min l 16) ts = ap (λ (y : R.Answer). y .state) (done-inv (a .state .blurred) (a .state .violation) (a .state .«borrowed_at» .0) (a .state .refusal) (record { state = runningOf a; operand = operandOf (a .state .value) }) (record { state = firstRunning (min l 16) ts; operand = S.Operand.nonRef }) e) in
     (ap (λ (y : Running). y .root) x ∙ z, (λ k. record { locals = x k .locals; graph = x k .graph }) ∙ ap (λ (n : ℕ). firstState n ts) z)
 
 pub stored-as : (m l : ℕ) (a b : State) (ws ws′ : List ℕ) → m ≡ l → a ≡ b → Stored m a 0 ws ws′ → Stored l b 0 ws ws′

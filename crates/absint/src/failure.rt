@@ -19,6 +19,7 @@ pub(crate) struct LowestFailure {
     pub entry: CodeOffset,
     pub code: u8,
     pub offset: CodeOffset,
+    pub borrowed_at: CodeOffset,
 }
 
 impl LowestFailure {
@@ -27,11 +28,13 @@ impl LowestFailure {
     {
         if x.failed {
             let offset = x.offset;
+            let borrowed_at = x.borrowed_at;
             let new = Self {
                 found: true,
                 entry: e,
                 code: x.code,
                 offset,
+                borrowed_at,
             };
             if self.found {
                 if self.entry.0 <= e.0 {
@@ -57,6 +60,7 @@ pub(crate) fn verdict_of(blocks: [Block; MAX_BLOCKS], n: usize, t: RunState) -> 
         entry: CodeOffset(0),
         code: 0,
         offset: CodeOffset(0),
+        borrowed_at: CodeOffset(0),
     };
     let mut i: usize = 0;
     while i < n {
@@ -68,7 +72,8 @@ pub(crate) fn verdict_of(blocks: [Block; MAX_BLOCKS], n: usize, t: RunState) -> 
     }
     if l.found {
         let offset = l.offset;
-        return Ruling::Violation(l.code, offset);
+        let borrowed_at = l.borrowed_at;
+        return Ruling::Violation(l.code, offset, borrowed_at);
     }
     Ruling::Accept
 }

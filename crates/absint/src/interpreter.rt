@@ -76,7 +76,8 @@ fn visit(
     u.visits = t.visits + 1;
     if s.violation != 0 {
         u.blurred = plus(t.blurred, s.blurred);
-        return u.fail(i, s.violation, place);
+        let borrowed_at = s.borrowed_at;
+        return u.fail(i, s.violation, place, borrowed_at);
     }
     if s.refusal != 0 {
         return u.stop(s.refusal, place);

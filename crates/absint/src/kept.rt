@@ -4,6 +4,7 @@ use abstract_state::state::AbstractState;
 use abstract_state::state::AbstractValue;
 use abstract_state::state::LOCALS;
 use borrow_graph::graph::BorrowGraph;
+use file_format::CodeOffset;
 use meaning::EDGE_WORDS;
 use meaning::MAX_EDGES;
 use meaning::MAX_NAMES;
@@ -40,7 +41,9 @@ pub(crate) fn start_from(
         present: k.present,
         state: AbstractState {
             violation: 0,
+            borrowed_at: CodeOffset(0),
             refusal: 0,
+            offset: CodeOffset(0),
             value: AbstractValue::NonReference,
             num_locals,
             next_id: num_locals as u32 + 1,

@@ -25,8 +25,8 @@ ghost use Rattle.absint.specs.Models.{verdictOf, Left};
 
 pub enum Ruling {
     Accept,
-    // The code, and the offset of the instruction.
-    Violation(u8, CodeOffset),
+    // The code, the offset of the instruction, and that of the lowest borrow behind it.
+    Violation(u8, CodeOffset, CodeOffset),
     // The number of document 01, and its place.
     Refused(u8, usize),
 }

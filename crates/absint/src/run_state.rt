@@ -14,11 +14,12 @@ ghost use Rattle.meaning.specs.Limits.{maxBlocks, u32Most};
 ghost use Rattle.meaning.specs.Loop.{fine, failed, at, stopped};
 ghost use Rattle.absint.specs.Models.{statusOf, statusesOf, nextOf, turnsEnd, blurredEnd, Started, SameCounts};
 
-// Code and offset are free where the block has not failed.
+// The rest is free where the block has not failed.
 pub(crate) struct BlockPostcondition {
     pub failed: bool,
     pub code: u8,
     pub offset: CodeOffset,
+    pub borrowed_at: CodeOffset,
 }
 
 // `next` counts until the run is stopped, `number` and `place` from then on; the others are free. `turns` counts visits and blocks passed
@@ -50,6 +51,7 @@ impl RunState {
             failed: false,
             code: 0,
             offset: CodeOffset(0),
+            borrowed_at: CodeOffset(0),
         };
         Self {
             next: 0,
@@ -93,14 +95,21 @@ impl RunState {
         t
     }
 
-    pub(crate) fn fail(self, j: usize, code: u8, offset: CodeOffset) -> Self
+    pub(crate) fn fail(
+        self,
+        j: usize,
+        code: u8,
+        offset: CodeOffset,
+        borrowed_at: CodeOffset,
+    ) -> Self
         requires { ⌜ j < maxBlocks ⌝ }
-        ensures { λ r. ⌜ (nextOf r ≡ nextOf self) × (statusesOf r ≡ set (statusesOf self) j (failed code (offset .0))) × SameCounts self r × (length (statusesOf self) ≡ maxBlocks) ⌝ }
+        ensures { λ r. ⌜ (nextOf r ≡ nextOf self) × (statusesOf r ≡ set (statusesOf self) j (failed code (offset .0) («borrowed_at» .0))) × SameCounts self r × (length (statusesOf self) ≡ maxBlocks) ⌝ }
     {
         let x = BlockPostcondition {
             failed: true,
             code,
             offset,
+            borrowed_at,
         };
         self.mark(j, x)
     }
@@ -114,6 +123,7 @@ impl RunState {
             failed: false,
             code: 0,
             offset: CodeOffset(0),
+            borrowed_at: CodeOffset(0),
         };
         self.mark(j, x)
     }

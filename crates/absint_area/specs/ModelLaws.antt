@@ -42,7 +42,12 @@ row-words x w at h =
     let p : upTo (min (getD x 1 0 % 16) 8) (λ i. labelIn (getD x (2 + i) 0)) ≡ upTo (min (w (at + 1) % 16) 8) (λ i. labelIn (w (at + 2 + i))) =
     upTo-same (min (getD x 1 0 % 16) 8) (min (w (at + 1) % 16) 8) (λ i. labelIn (getD x (2 + i) 0)) (λ i. labelIn (w (at + 2 + i))) (ap (λ (k : ℕ). min (k % 16) 8) m)
     (λ i k. let j : at + (2 + i) ≡ at + 2 + i = omega arith in ap labelIn (h (2 + i) (omega arith) ∙ ap w j)) in
-    λ i. record { parent = e i / 65536; child = e i % 65536; blurred = eqb (m i / 32) 1; edge = record { strong = eqb (m i / 16 % 2) 1; path = p i } }
+    λ i. record {
+      parent = e i / 65536;
+      child = e i % 65536;
+      blurred = eqb (m i / 32 % 2) 1;
+      edge = record { strong = eqb (m i / 16 % 2) 1; path = p i; offset = m i / 65536 };
+    }
 
 -- the state that these arrays hold
 pub state-made : (ls ns : List ℕ) (es : List (List ℕ)) (s : AbstractState) (n m : ℕ) → length ls ≡ 16 → length ns ≡ 48 → length es ≡ 96

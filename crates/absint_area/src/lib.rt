@@ -64,7 +64,7 @@ pub fn forget(area: &mut [u32])
     }
 }
 
-// The state without its violation, refusal, value and next name.
+// Of the state, its locals and its graph.
 pub fn store(
     area: &mut [u32],
     b: usize,

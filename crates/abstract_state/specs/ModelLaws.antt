@@ -3,16 +3,16 @@ use Prim.Native.Nat.{ℕ, zero, suc, _+_, _≤_, _<_}
 use mathlib.Core.Path.{_≡_, refl, sym, ap, _∙_}
 use mathlib.Core.Bool.{Bool, true, false, not, _&&_, cond, true≢false}
 use mathlib.Core.List.{List, [], _∷_}
-use mathlib.Core.Option.{Option}
+use mathlib.Core.Option.{Option, none, some}
 use native.Mathlib.Nat.{not-suc-le-zero, le-of-suc-le-suc}
 use native.Mathlib.Numerals.{add-one}
 use native.Mathlib.Omega.{arith}
 use borrow.Author.Tests.{ne-eqb, le-ltb}
 use lib.Dec.{eqb, ltb}
 use lib.ListN.{length, getD, set}
-use Rattle.meaning.specs.Answers.{Ans, ok, refuse, guard, Outcome, done, violated, refused, then, lift}
+use Rattle.meaning.specs.Answers.{Ans, ok, refuse, guard, Outcome, done, violated, refused, then, lift, failsAt}
 use Rattle.meaning.specs.Laws.Base.{ok-inj, refuse≢ok}
-use Rattle.meaning.specs.BorrowGraph.{Graph, blursBy, Borrows, wellFormed, held, newName, fullyBorrowed, borrowed, mutablyBorrowed, borrowedBy}
+use Rattle.meaning.specs.BorrowGraph.{Graph, blursBy, Borrows, wellFormed, held, newName, borrowsFully, borrows, borrowsMutably, lowestOf, borrowedBy}
 use Rattle.meaning.specs.BorrowGraph as L
 use Rattle.meaning.specs.AbstractState as S
 use Rattle.meaning.specs.AbstractState.{Operand, nonRef, reference}
@@ -20,57 +20,58 @@ use Rattle.meaning.specs.Area.{localAs, localIn}
 use Rattle.meaning.specs.EntryPoints as R
 use Rattle.meaning.specs.EntryPoints.{Running, Answer, countOn, onGraph, newRef}
 use Rattle.references.specs.Models.{told}
+use Rattle.borrow_graph.specs.Models.{lowIn}
 use Rattle.abstract_state.specs.Models.{Words, words, Fits, Does, Gives, runningOf, outcomeOf, halted, heeding, failing, needing, localsIn}
 use Rattle.abstract_state.specs.declared.state.AbstractState.{AbstractState}
 
 -- ---- states that stop
 
-module _ {A B : Type 0} (k v n : ℕ) (a : A) where
+module _ {A B : Type 0} (k v o n : ℕ) (a : A) where
   -- a stopped state stays as it is
-  pub stays : (b : B) (f : A → Outcome B) → (eqb v 0 && eqb n 0) ≡ false → halted k v n b ≡ then (halted k v n a) f
+  pub stays : (b : B) (f : A → Outcome B) → (eqb v 0 && eqb n 0) ≡ false → halted k v o n b ≡ then (halted k v o n a) f
   stays b f e = go (eqb v 0) (eqb n 0) e
     where
-      go : (x y : Bool) → (x && y) ≡ false → cond x (cond y (done b) (refused n)) (violated k v) ≡ then (cond x (cond y (done a) (refused n)) (violated k v)) f
+      go : (x y : Bool) → (x && y) ≡ false → cond x (cond y (done b) (refused n)) (violated k v o) ≡ then (cond x (cond y (done a) (refused n)) (violated k v o)) f
       go true true e = absurd (true≢false e)
       go true false e = refl
       go false y e = refl
 
   -- one that goes on does the next thing
-  pub goes : (f : A → Outcome B) → (eqb v 0 && eqb n 0) ≡ true → f a ≡ then (halted k v n a) f
+  pub goes : (f : A → Outcome B) → (eqb v 0 && eqb n 0) ≡ true → f a ≡ then (halted k v o n a) f
   goes f e = go (eqb v 0) (eqb n 0) e
     where
-      go : (x y : Bool) → (x && y) ≡ true → f a ≡ then (cond x (cond y (done a) (refused n)) (violated k v)) f
+      go : (x y : Bool) → (x && y) ≡ true → f a ≡ then (cond x (cond y (done a) (refused n)) (violated k v o)) f
       go true true e = refl
       go true false e = absurd (true≢false (sym e))
       go false y e = absurd (true≢false (sym e))
 
   -- what comes next is judged on the state that goes on only
-  pub here : (f g : A → Outcome B) → f a ≡ g a → then (halted k v n a) f ≡ then (halted k v n a) g
+  pub here : (f g : A → Outcome B) → f a ≡ g a → then (halted k v o n a) f ≡ then (halted k v o n a) g
   here f g e = go (eqb v 0) (eqb n 0)
     where
-      go : (x y : Bool) → then (cond x (cond y (done a) (refused n)) (violated k v)) f ≡ then (cond x (cond y (done a) (refused n)) (violated k v)) g
+      go : (x y : Bool) → then (cond x (cond y (done a) (refused n)) (violated k v o)) f ≡ then (cond x (cond y (done a) (refused n)) (violated k v o)) g
       go true true = e
       go true false = refl
       go false y = refl
 
-  pub halted-then : (f : A → B) → halted k v n (f a) ≡ then (halted k v n a) (λ x. done (f x))
+  pub halted-then : (f : A → B) → halted k v o n (f a) ≡ then (halted k v o n a) (λ x. done (f x))
   halted-then f = go (eqb v 0) (eqb n 0)
     where
-      go : (x y : Bool) → cond x (cond y (done (f a)) (refused n)) (violated k v) ≡ then (cond x (cond y (done a) (refused n)) (violated k v)) (λ x. done (f x))
+      go : (x y : Bool) → cond x (cond y (done (f a)) (refused n)) (violated k v o) ≡ then (cond x (cond y (done a) (refused n)) (violated k v o)) (λ x. done (f x))
       go true true = refl
       go true false = refl
       go false y = refl
 
 pub then-done : {A : Type 0} (o : Outcome A) → o ≡ then o done
 then-done (done a) = refl
-then-done (violated k c) = refl
+then-done (violated k c o) = refl
 then-done (refused n) = refl
 
 -- ---- calls in a row
 
 pub then-then : {A B C : Type 0} (o : Outcome A) (f : A → Outcome B) (g : B → Outcome C) → then (then o f) g ≡ then o (λ a. then (f a) g)
 then-then (done a) f g = refl
-then-then (violated k c) f g = refl
+then-then (violated k c o) f g = refl
 then-then (refused n) f g = refl
 
 pub does-then : (f g : Running → Outcome Running) (a b c : Words) → Does f a b → Does g b c → Does (λ s. then (f s) g) a c
@@ -89,13 +90,13 @@ gives-then f g a b c p q = record {
 pub does-as : (f g : Running → Outcome Running) (a b : Words) → (Fits a → f (runningOf a) ≡ g (runningOf a)) → Does f a b → Does g a b
 does-as f g a b e p = record {
   fits = p .fits;
-  does = λ h. p .does h ∙ here (a .state .blurred) (a .state .violation) (a .state .refusal) (runningOf a) f g (e h);
+  does = λ h. p .does h ∙ here (a .state .blurred) (a .state .violation) (a .state .«borrowed_at» .0) (a .state .refusal) (runningOf a) f g (e h);
 }
 
 pub gives-as : (f g : Running → Outcome Answer) (a b : Words) → (Fits a → f (runningOf a) ≡ g (runningOf a)) → Gives f a b → Gives g a b
 gives-as f g a b e p = record {
   fits = p .fits;
-  gives = λ h. p .gives h ∙ here (a .state .blurred) (a .state .violation) (a .state .refusal) (runningOf a) f g (e h);
+  gives = λ h. p .gives h ∙ here (a .state .blurred) (a .state .violation) (a .state .«borrowed_at» .0) (a .state .refusal) (runningOf a) f g (e h);
 }
 
 -- nothing is done
@@ -108,26 +109,26 @@ pub does-here : (f : Running → Outcome Running) (ls ns : List ℕ) (es : List 
 does-here f ls ns es s t g e = record { fits = λ h. record { locals = h .locals; tells = rw g (h .tells) }; does = λ h. e }
 
 -- a state that goes on gets a number more
-module _ {A : Type 0} (k v n : ℕ) (a : A) (e : (eqb v 0 && eqb n 0) ≡ true) where
-  pub new-violation : (c : ℕ) → halted k c n a ≡ halted k c 0 a
-  new-violation c = go (eqb v 0) (eqb n 0) e
+module _ {A : Type 0} (k v o n : ℕ) (a : A) (e : (eqb v 0 && eqb n 0) ≡ true) where
+  pub new-violation : (c w : ℕ) → halted k c w n a ≡ halted k c w 0 a
+  new-violation c w = go (eqb v 0) (eqb n 0) e
     where
-      go : (x y : Bool) → (x && y) ≡ true → cond (eqb c 0) (cond y (done a) (refused n)) (violated k c) ≡ halted k c 0 a
+      go : (x y : Bool) → (x && y) ≡ true → cond (eqb c 0) (cond y (done a) (refused n)) (violated k c w) ≡ halted k c w 0 a
       go true true e = refl
       go true false e = absurd (true≢false (sym e))
       go false y e = absurd (true≢false (sym e))
 
-  -- (it has no violation, so that the sets blurred are not asked for)
-  pub new-refusal : (j m : ℕ) → halted k v m a ≡ halted j 0 m a
+  -- (it has no violation, so that the sets blurred and the borrow are not asked for)
+  pub new-refusal : (j m : ℕ) → halted k v o m a ≡ halted j 0 0 m a
   new-refusal j m = go (eqb v 0) e
     where
-      go : (x : Bool) → (x && eqb n 0) ≡ true → cond x (cond (eqb m 0) (done a) (refused m)) (violated k v) ≡ halted j 0 m a
+      go : (x : Bool) → (x && eqb n 0) ≡ true → cond x (cond (eqb m 0) (done a) (refused m)) (violated k v o) ≡ halted j 0 0 m a
       go true e = refl
       go false e = absurd (true≢false (sym e))
 
   -- refused by a number of its own
-  pub stopped : (m : ℕ) → halted k v m a ≡ then (halted k v n a) (λ s. halted 0 0 m s)
-  stopped m = new-refusal 0 m ∙ goes k v n a (λ s. halted 0 0 m s) e
+  pub stopped-by : (m : ℕ) → halted k v o m a ≡ then (halted k v o n a) (λ s. halted 0 0 0 m s)
+  stopped-by m = new-refusal 0 m ∙ goes k v o n a (λ s. halted 0 0 0 m s) e
 
 -- ---- questions
 
@@ -138,38 +139,56 @@ told-then {A} {B} m b f = go (eqb m 0)
     go true = refl
     go false = refl
 
-module _ (v n : ℕ) (a : Running) (m : ℕ) (b : Bool) (e : (eqb v 0 && eqb n 0) ≡ true) where
-  pub heeded : halted (a .blurs) v m a ≡ then (halted (a .blurs) v n a) (heeding (told m b))
-  heeded = new-refusal (a .blurs) v n a e 0 m ∙ told-then m b (λ y. done a) ∙ goes (a .blurs) v n a (heeding (told m b)) e
+module _ (v o n : ℕ) (a : Running) (m : ℕ) (e : (eqb v 0 && eqb n 0) ≡ true) where
+  abbrev now : Outcome Running
+  now = halted (a .blurs) v o n a
 
-  pub failed : (c : ℕ) → (eqb m 0 && b) ≡ true → halted (a .blurs) c n a ≡ then (halted (a .blurs) v n a) (failing (told m b) c)
-  failed c h = new-violation (a .blurs) v n a e c ∙ go (eqb m 0) b h ∙ told-then m b (λ y. halted (a .blurs) (cond y c 0) 0 a) ∙ goes (a .blurs) v n a (failing (told m b) c) e
-    where
-      go : (x y : Bool) → (x && y) ≡ true → halted (a .blurs) c 0 a ≡ cond x (halted (a .blurs) (cond y c 0) 0 a) (refused m)
-      go true true h = refl
-      go true false h = absurd (true≢false (sym h))
-      go false y h = absurd (true≢false (sym h))
+  pub heeded : (b : Bool) → halted (a .blurs) v o m a ≡ then now (heeding (told m b))
+  heeded b = new-refusal (a .blurs) v o n a e 0 m ∙ told-then m b (λ y. done a) ∙ goes (a .blurs) v o n a (heeding (told m b)) e
 
-  pub not-failed : (c : ℕ) → (eqb m 0 && b) ≡ false → halted (a .blurs) v m a ≡ then (halted (a .blurs) v n a) (failing (told m b) c)
-  not-failed c h = new-refusal (a .blurs) v n a e 0 m ∙ go (eqb m 0) b h ∙ told-then m b (λ y. halted (a .blurs) (cond y c 0) 0 a) ∙ goes (a .blurs) v n a (failing (told m b) c) e
-    where
-      go : (x y : Bool) → (x && y) ≡ false → cond x (done a) (refused m) ≡ cond x (halted (a .blurs) (cond y c 0) 0 a) (refused m)
-      go true true h = absurd (true≢false h)
-      go true false h = refl
-      go false y h = refl
+  -- the lowest offset w that was found, and the code c
+  module _ (w c : ℕ) where
+    abbrev failure : Option ℕ → Outcome Running
+    failure l = cond (eqb c 0) (done a) (failsAt (a .blurs) l c (done a))
 
-  pub needed : (c : ℕ) → (eqb m 0 && not b) ≡ true → halted (a .blurs) v c a ≡ then (halted (a .blurs) v n a) (needing (told m b) c)
-  needed c h = new-refusal (a .blurs) v n a e 0 c ∙ go (eqb m 0) b h ∙ told-then m b (λ y. halted 0 0 (cond y 0 c) a) ∙ goes (a .blurs) v n a (needing (told m b) c) e
+    pub failed : (eqb m 0 && ltb w 65536) ≡ true → halted (a .blurs) c w n a ≡ then now (failing (told m (lowIn w)) c)
+    failed h =
+        new-violation (a .blurs) v o n a e c w ∙ go (eqb m 0) (ltb w 65536) h ∙ told-then m (lowIn w) failure
+        ∙ goes (a .blurs) v o n a (failing (told m (lowIn w)) c) e
+      where
+        go : (x y : Bool) → (x && y) ≡ true → halted (a .blurs) c w 0 a ≡ cond x (failure (cond y (some w) none)) (refused m)
+        go true true h = refl
+        go true false h = absurd (true≢false (sym h))
+        go false y h = absurd (true≢false (sym h))
+
+    pub not-failed : (eqb m 0 && ltb w 65536) ≡ false → halted (a .blurs) v o m a ≡ then now (failing (told m (lowIn w)) c)
+    not-failed h =
+        new-refusal (a .blurs) v o n a e 0 m ∙ go (eqb m 0) (ltb w 65536) (eqb c 0) h ∙ told-then m (lowIn w) failure
+        ∙ goes (a .blurs) v o n a (failing (told m (lowIn w)) c) e
+      where
+        go : (x y z : Bool) → (x && y) ≡ false
+            → cond x (done a) (refused m) ≡ cond x (cond z (done a) (failsAt (a .blurs) (cond y (some w) none) c (done a))) (refused m)
+        go true true z h = absurd (true≢false h)
+        go true false true h = refl
+        go true false false h = refl
+        go false y z h = refl
+
+  pub needed : (b : Bool) (c : ℕ) → (eqb m 0 && not b) ≡ true → halted (a .blurs) v o c a ≡ then now (needing (told m b) c)
+  needed b c h =
+      new-refusal (a .blurs) v o n a e 0 c ∙ go (eqb m 0) b h ∙ told-then m b (λ y. halted 0 0 0 (cond y 0 c) a)
+      ∙ goes (a .blurs) v o n a (needing (told m b) c) e
     where
-      go : (x y : Bool) → (x && not y) ≡ true → halted 0 0 c a ≡ cond x (halted 0 0 (cond y 0 c) a) (refused m)
+      go : (x y : Bool) → (x && not y) ≡ true → halted 0 0 0 c a ≡ cond x (halted 0 0 0 (cond y 0 c) a) (refused m)
       go true true h = absurd (true≢false (sym h))
       go true false h = refl
       go false y h = absurd (true≢false (sym h))
 
-  pub not-needed : (c : ℕ) → (eqb m 0 && not b) ≡ false → halted (a .blurs) v m a ≡ then (halted (a .blurs) v n a) (needing (told m b) c)
-  not-needed c h = new-refusal (a .blurs) v n a e 0 m ∙ go (eqb m 0) b h ∙ told-then m b (λ y. halted 0 0 (cond y 0 c) a) ∙ goes (a .blurs) v n a (needing (told m b) c) e
+  pub not-needed : (b : Bool) (c : ℕ) → (eqb m 0 && not b) ≡ false → halted (a .blurs) v o m a ≡ then now (needing (told m b) c)
+  not-needed b c h =
+      new-refusal (a .blurs) v o n a e 0 m ∙ go (eqb m 0) b h ∙ told-then m b (λ y. halted 0 0 0 (cond y 0 c) a)
+      ∙ goes (a .blurs) v o n a (needing (told m b) c) e
     where
-      go : (x y : Bool) → (x && not y) ≡ false → cond x (done a) (refused m) ≡ cond x (halted 0 0 (cond y 0 c) a) (refused m)
+      go : (x y : Bool) → (x && not y) ≡ false → cond x (done a) (refused m) ≡ cond x (halted 0 0 0 (cond y 0 c) a) (refused m)
       go true true h = refl
       go true false h = absurd (true≢false h)
       go false y h = refl
@@ -204,21 +223,24 @@ module _ {A B C : Type 0} (g : Graph) (n : ℕ) where
       go false q e = refl
 
 -- one of the three answers of a look-up
-pub asked : (g : Graph) (n : ℕ) (at : Option ℕ) (m : ℕ) (b : Borrows) (f : Borrows → Bool) → told m b ≡ borrowedBy g n at
-    → told m (f b) ≡ L.ofName g n (f (record { full = fullyBorrowed g n; consistent = borrowed g n at; mutable = mutablyBorrowed g n at }))
+pub asked : (g : Graph) (n : ℕ) (at : Option ℕ) (m : ℕ) (b : Borrows) (f : Borrows → Option ℕ) → told m b ≡ borrowedBy g n at
+    → told m (f b) ≡ L.ofName g n (f (record { full = lowestOf (borrowsFully n) (g .edges); consistent = lowestOf (borrows n at) (g .edges); mutable = lowestOf (borrowsMutably g n at) (g .edges) }))
 unfolding borrowedBy
-asked g n at m b f e = told-map {A = Borrows} g n m b (record { full = fullyBorrowed g n; consistent = borrowed g n at; mutable = mutablyBorrowed g n at }) f e
+asked g n at m b f e =
+    told-map {A = Borrows} g n m b
+    (record { full = lowestOf (borrowsFully n) (g .edges); consistent = lowestOf (borrows n at) (g .edges); mutable = lowestOf (borrowsMutably g n at) (g .edges) })
+    f e
 
 -- ---- calls on the graph
 
-pub answered : {A G : Type 0} (j k v n : ℕ) (a : A) (m : ℕ) (g : G) (f : A → G → A) → (eqb v 0 && eqb n 0) ≡ true
-    → halted j v m (f a g) ≡ then (halted k v n a) (λ s. then (lift (told m g)) (λ h. done (f s h)))
-answered {A} {G} j k v n a m g f e =
-    new-refusal j v n (f a g) e 0 m ∙ told-then m g (λ h. done (f a h)) ∙ goes k v n a (λ s. then (lift (told m g)) (λ h. done (f s h))) e
+pub answered : {A G : Type 0} (j k v o n : ℕ) (a : A) (m : ℕ) (g : G) (f : A → G → A) → (eqb v 0 && eqb n 0) ≡ true
+    → halted j v o m (f a g) ≡ then (halted k v o n a) (λ s. then (lift (told m g)) (λ h. done (f s h)))
+answered {A} {G} j k v o n a m g f e =
+    new-refusal j v o n (f a g) e 0 m ∙ told-then m g (λ h. done (f a h)) ∙ goes k v o n a (λ s. then (lift (told m g)) (λ h. done (f s h))) e
 
 -- the state after a call that left the graph h and blurred b sets
 abbrev pub counted : ℕ → Running → Graph → Running
-counted b r h = record { locals = r .locals; graph = h; next = r .next; root = r .root; blurs = countOn (r .blurs) b }
+counted b r h = record { locals = r .locals; graph = h; next = r .next; root = r .root; blurs = countOn (r .blurs) b; offset = r .offset }
 
 pub passed-up : (r : Running) (m b : ℕ) (g : Graph) (x : Ans Graph) → told m g ≡ x → b ≡ blursBy (r .graph) x → then (lift (told m g)) (λ h. done (counted b r h)) ≡ onGraph r x
 passed-up r m b g x e q = go (eqb m 0) e
@@ -229,14 +251,14 @@ passed-up r m b g x e q = go (eqb m 0) e
 
 -- the state with a fresh name
 abbrev pub named : Running → Graph → Running
-named r g = record { locals = r .locals; graph = g; next = r .next + 1; root = r .root; blurs = r .blurs }
+named r g = record { locals = r .locals; graph = g; next = r .next + 1; root = r .root; blurs = r .blurs; offset = r .offset }
 
 pub next-named : (m : Bool) (r : Running) (a : Ans Graph) → ltb (r .next) 65536 ≡ true → a ≡ newName (r .graph) (r .next) m → then (lift a) (λ g. done (named r g)) ≡ newRef m r
 unfolding newRef
 next-named m r a e h = rw (e, sym h) (go a)
   where
-    go : (b : Ans Graph) → then (lift b) (λ g. done (named r g)) ≡ then {B = Running} (lift b) (λ g. done (record { locals = r .locals; graph = g; next = suc (r .next); root = r .root; blurs = r .blurs }))
-    go (ok g) = ap (λ (k : ℕ). done (record { locals = r .locals; graph = g; next = k; root = r .root; blurs = r .blurs })) (add-one (r .next))
+    go : (b : Ans Graph) → then (lift b) (λ g. done (named r g)) ≡ then {B = Running} (lift b) (λ g. done (record { locals = r .locals; graph = g; next = suc (r .next); root = r .root; blurs = r .blurs; offset = r .offset }))
+    go (ok g) = ap (λ (k : ℕ). done (record { locals = r .locals; graph = g; next = k; root = r .root; blurs = r .blurs; offset = r .offset })) (add-one (r .next))
     go (refuse k) = refl
 
 -- ---- the word of a local
@@ -296,8 +318,8 @@ local-unset (u ∷ ws) (suc n) zero x h = absurd (not-suc-le-zero h)
 local-unset (u ∷ ws) (suc n) (suc i) x h = ap (λ (l : List S.Local). localIn u ∷ l) (local-unset ws n i x (le-of-suc-le-suc h))
 
 -- the state with other locals
-pub relocated : (k v n : ℕ) (r : Running) (i : ℕ) (x : S.Local) (l : List S.Local) → l ≡ set (r .locals) i x
-    → halted k v n (record { locals = l; graph = r .graph; next = r .next; root = r .root; blurs = r .blurs }) ≡ then (halted k v n r) (λ s. done (R.withLocal s i x))
-relocated k v n r i x l e =
-    ap {B = Outcome Running} (λ (y : List S.Local). halted k v n (record { locals = y; graph = r .graph; next = r .next; root = r .root; blurs = r .blurs })) e
-    ∙ halted-then {B = Running} k v n r (λ s. R.withLocal s i x)
+pub relocated : (k v o n : ℕ) (r : Running) (i : ℕ) (x : S.Local) (l : List S.Local) → l ≡ set (r .locals) i x
+    → halted k v o n (record { locals = l; graph = r .graph; next = r .next; root = r .root; blurs = r .blurs; offset = r .offset }) ≡ then (halted k v o n r) (λ s. done (R.withLocal s i x))
+relocated k v o n r i x l e =
+    ap {B = Outcome Running} (λ (y : List S.Local). halted k v o n (record { locals = y; graph = r .graph; next = r .next; root = r .root; blurs = r .blurs; offset = r .offset })) e
+    ∙ halted-then {B = Running} k v o n r (λ s. R.withLocal s i x)

@@ -3,11 +3,12 @@ use Prim.Native.Nat.{ℕ, _/_, _%_}
 use mathlib.Core.Path.{_≡_}
 use mathlib.Core.Bool.{Bool, cond}
 use mathlib.Core.List.{List, map}
+use mathlib.Core.Option.{Option}
 use lib.Dec.{eqb, ltb}
 use lib.ListN.{length, take}
 use Rattle.meaning.specs.Limits.{maxLocals, u16End}
 use Rattle.meaning.specs.Area.{localIn}
-use Rattle.meaning.specs.Answers.{Ans, Outcome, done, violated, refused, then, lift}
+use Rattle.meaning.specs.Answers.{Ans, Outcome, done, violated, refused, then, lift, failsAt}
 use Rattle.meaning.specs.AbstractState as S
 use Rattle.meaning.specs.AbstractState.{State, Operand, nonRef, reference}
 use Rattle.meaning.specs.EntryPoints as R
@@ -62,30 +63,37 @@ runningOf a = record {
   next = a .state .«next_id»;
   root = a .state .«num_locals»;
   blurs = a .state .blurred;
+  offset = a .state .offset .0;
 }
 
 abbrev pub stateOf : Words → State
 stateOf a = record { locals = runningOf a .locals; graph = runningOf a .graph }
 
--- done, or where it stopped: the violation's code, with the number of sets blurred, or the refusal's number
-abbrev pub halted : {A : Type 0} → ℕ → ℕ → ℕ → A → Outcome A
-halted k v n a = cond (eqb v 0) (cond (eqb n 0) (done a) (refused n)) (violated k v)
+-- done, or where it stopped: the violation's code, with the number of sets blurred and the offset of the borrow, or the refusal's number
+abbrev pub halted : {A : Type 0} → ℕ → ℕ → ℕ → ℕ → A → Outcome A
+halted k v o n a = cond (eqb v 0) (cond (eqb n 0) (done a) (refused n)) (violated k v o)
+
+-- what a state's numbers say of it
+abbrev pub stopped : {A : Type 0} → AbstractState → A → Outcome A
+stopped s a = halted (s .blurred) (s .violation) (s .«borrowed_at» .0) (s .refusal) a
 
 abbrev pub outcomeOf : Words → Outcome Running
-outcomeOf a = halted (a .state .blurred) (a .state .violation) (a .state .refusal) (runningOf a)
+outcomeOf a = stopped (a .state) (runningOf a)
 
 abbrev pub answerOf : Words → Outcome Answer
-answerOf a = halted (a .state .blurred) (a .state .violation) (a .state .refusal) (record { state = runningOf a; operand = operandOf (a .state .value) })
+answerOf a = stopped (a .state) (record { state = runningOf a; operand = operandOf (a .state .value) })
 
--- what a question's answer does to a state: refused where the question was; then, nothing, or the violation of a yes, or the refusal of a no
+-- what a question's answer does to a state: refused where the question was; then, nothing, or the violation where an edge was found, or the
+-- refusal of a no
 abbrev pub heeding : Ans Bool → Running → Outcome Running
 heeding t s = then (lift t) (λ b. done s)
 
-abbrev pub failing : Ans Bool → ℕ → Running → Outcome Running
-failing t c s = then (lift t) (λ b. halted (s .blurs) (cond b c 0) 0 s)
+-- (a code 0 is no violation)
+abbrev pub failing : Ans (Option ℕ) → ℕ → Running → Outcome Running
+failing t c s = then (lift t) (λ o. cond (eqb c 0) (done s) (failsAt (s .blurs) o c (done s)))
 
 abbrev pub needing : Ans Bool → ℕ → Running → Outcome Running
-needing t n s = then (lift t) (λ b. halted 0 0 (cond b 0 n) s)
+needing t n s = then (lift t) (λ b. halted 0 0 0 (cond b 0 n) s)
 
 -- From a to b the state does f. Of words that fit no state nothing is said.
 pub record Does (f : Running → Outcome Running) (a b : Words) : Type 0 where

@@ -11,7 +11,7 @@
 //   add_resource_borrow    164 `add_resource_borrow`
 //   release                170 `release`
 //   local, set_local       `self.locals.get`, `insert` and `remove`
-//   violate_if             119 `error`, where a test holds
+//   violate_if             119 `error`, where a test fails on an edge; the Rust does not tell on which
 //   give, refuse, pass_refusal, require_yes    what the Rust's answers and panics become
 use crate::state::AbstractState;
 use crate::state::AbstractValue;
@@ -19,8 +19,11 @@ use crate::state::LOCALS;
 use crate::state::Local;
 use crate::words::local_of;
 use crate::words::local_word;
+use borrow_graph::graph::Lowest;
+use borrow_graph::graph::NO_OFFSET;
 use borrow_graph::graph::YesOrNo;
 use borrow_graph_edit::blurs::Blurring;
+use file_format::CodeOffset;
 use file_format::LocalIndex;
 use meaning::EDGE_WORDS;
 use meaning::MAX_EDGES;
@@ -66,9 +69,13 @@ pub fn give(state: AbstractState, value: AbstractValue) -> AbstractState
     ensures { λ r. ⌜ ((ls ns : List ℕ) (es : List (List ℕ)) → Gives (λ s. answer s (operandOf value)) (words ls ns es state) (words ls ns es r)) ⌝ }
 {
     let g = state.borrow_graph;
+    let borrowed_at = state.borrowed_at;
+    let offset = state.offset;
     AbstractState {
         violation: state.violation,
+        borrowed_at,
         refusal: state.refusal,
+        offset,
         value: value,
         num_locals: state.num_locals,
         next_id: state.next_id,
@@ -78,7 +85,7 @@ pub fn give(state: AbstractState, value: AbstractValue) -> AbstractState
 }
 
 pub fn refuse(state: AbstractState, number: u8) -> AbstractState
-    ensures { λ r. ⌜ ((ls ns : List ℕ) (es : List (List ℕ)) → Does (λ s. halted 0 0 number s) (words ls ns es state) (words ls ns es r)) ⌝ }
+    ensures { λ r. ⌜ ((ls ns : List ℕ) (es : List (List ℕ)) → Does (λ s. halted 0 0 0 number s) (words ls ns es state) (words ls ns es r)) ⌝ }
 {
     let mut s = state;
     if (state.violation == 0) & (state.refusal == 0) {
@@ -113,14 +120,16 @@ pub fn require_yes(state: AbstractState, t: YesOrNo, number: u8) -> AbstractStat
     s
 }
 
-// Refused where the question was; violated where its answer is yes.
-pub fn violate_if(state: AbstractState, t: YesOrNo, code: u8) -> AbstractState
-    ensures { λ r. ⌜ ((ls ns : List ℕ) (es : List (List ℕ)) → Does (failing (G.toldOf t) code) (words ls ns es state) (words ls ns es r)) ⌝ }
+// Refused where the question was; violated where there is an edge of the kind that it asked for.
+pub fn violate_if(state: AbstractState, t: Lowest, code: u8) -> AbstractState
+    ensures { λ r. ⌜ ((ls ns : List ℕ) (es : List (List ℕ)) → Does (failing (G.lowOf t) code) (words ls ns es state) (words ls ns es r)) ⌝ }
 {
     let mut s = state;
     if (state.violation == 0) & (state.refusal == 0) {
-        if (t.refusal == 0) & t.yes {
+        if (t.refusal == 0) & (t.offset < NO_OFFSET) {
             s.violation = code;
+            let borrowed_at = CodeOffset(t.offset as u16);
+            s.borrowed_at = borrowed_at;
         } else {
             s.refusal = t.refusal;
         }
@@ -205,10 +214,12 @@ pub fn add_copy(
     ensures { λ r. ⌜ ((ls : List ℕ) → Does (addCopy (parent .0) (child .0)) (words ls (now (names .entry)) (now (edges .entry)) state) (words ls (now (names .entry)) (now (edges .exit)) r)) ⌝ }
 {
     let g = state.borrow_graph;
+    let loc = state.offset;
     let a = borrow_graph_edit::borrow::add_strong_borrow(
         names,
         edges,
         g,
+        loc,
         parent,
         LabelFilter::Any,
         child,
@@ -226,10 +237,12 @@ pub fn add_borrow(
     ensures { λ r. ⌜ ((ls : List ℕ) → Does (addBorrow (parent .0) (child .0)) (words ls (now (names .entry)) (now (edges .entry)) state) (words ls (now (names .entry)) (now (edges .exit)) r)) ⌝ }
 {
     let g = state.borrow_graph;
+    let loc = state.offset;
     let a = borrow_graph_edit::borrow::add_weak_borrow(
         names,
         edges,
         g,
+        loc,
         parent,
         LabelFilter::Any,
         child,
@@ -248,8 +261,9 @@ pub fn add_field_borrow(
     ensures { λ r. ⌜ ((ls : List ℕ) → Does (addFieldBorrow (parent .0) field (child .0)) (words ls (now (names .entry)) (now (edges .entry)) state) (words ls (now (names .entry)) (now (edges .exit)) r)) ⌝ }
 {
     let g = state.borrow_graph;
+    let loc = state.offset;
     let path = LabelFilter::At(Label::Field(field));
-    let a = borrow_graph_edit::borrow::add_strong_borrow(names, edges, g, parent, path, child);
+    let a = borrow_graph_edit::borrow::add_strong_borrow(names, edges, g, loc, parent, path, child);
     on_graph(state, a)
 }
 
@@ -263,9 +277,10 @@ pub fn add_local_borrow(
     ensures { λ r. ⌜ ((ls : List ℕ) → Does (addLocalBorrow (local .0) (child .0)) (words ls (now (names .entry)) (now (edges .entry)) state) (words ls (now (names .entry)) (now (edges .exit)) r)) ⌝ }
 {
     let g = state.borrow_graph;
+    let loc = state.offset;
     let root = RefID(state.num_locals as u16);
     let path = LabelFilter::At(Label::Local(local.0 as u16));
-    let a = borrow_graph_edit::borrow::add_strong_borrow(names, edges, g, root, path, child);
+    let a = borrow_graph_edit::borrow::add_strong_borrow(names, edges, g, loc, root, path, child);
     on_graph(state, a)
 }
 
@@ -279,9 +294,10 @@ pub fn add_resource_borrow(
     ensures { λ r. ⌜ ((ls : List ℕ) → Does (addResourceBorrow resource (child .0)) (words ls (now (names .entry)) (now (edges .entry)) state) (words ls (now (names .entry)) (now (edges .exit)) r)) ⌝ }
 {
     let g = state.borrow_graph;
+    let loc = state.offset;
     let root = RefID(state.num_locals as u16);
     let path = LabelFilter::At(Label::Global(resource));
-    let a = borrow_graph_edit::borrow::add_weak_borrow(names, edges, g, root, path, child);
+    let a = borrow_graph_edit::borrow::add_weak_borrow(names, edges, g, loc, root, path, child);
     on_graph(state, a)
 }
 

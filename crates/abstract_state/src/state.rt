@@ -6,6 +6,7 @@
 //   Operands         a `Vec<AbstractValue>`: a call's arguments and what it returns
 //   AbstractState    72 `AbstractState`, without the function and the locals; the graph's arrays stand beside it
 use borrow_graph::graph::BorrowGraph;
+use file_format::CodeOffset;
 use meaning::MAX_LOCALS;
 use meaning::MAX_OPERANDS;
 use references::RefID;
@@ -31,12 +32,15 @@ pub struct Operands {
 }
 
 // A state stops at its first violation or refusal: one of the two is its number (the violation, where both are given), and both are 0
-// while it goes on. A stopped state's number is handed on, with `blurred` beside a violation; what else it holds is free. `value` is what
-// the last step answered, if it answers a value, else free. The frame root has the name `num_locals`, and `next_id` is the next fresh name.
-// `blurred` counts the sets that the graph calls have blurred; it stays at the most that it can hold.
+// while it goes on. A stopped state's number is handed on, with `borrowed_at` and `blurred` beside a violation; what else it holds is free.
+// `value` is what the last step answered, if it answers a value, else free. `offset` is that of the instruction that runs, and new edges get it.
+// The frame root has the name `num_locals`, and `next_id` is the next fresh name. `blurred` counts the sets that the graph calls have blurred; it
+// stays at the most that it can hold.
 pub struct AbstractState {
     pub violation: u8,
+    pub borrowed_at: CodeOffset,
     pub refusal: u8,
+    pub offset: CodeOffset,
     pub value: AbstractValue,
     pub num_locals: u8,
     pub next_id: u32,

@@ -2,7 +2,7 @@
 //
 //   here                                      the Rust
 //   call                                      493 `call`
-//   fail_acquired, fail_global                500 "Check acquires"
+//   fail_acquired and what it calls           500 "Check acquires"
 //   ask_root                                  (the Rust's graph always answers for the root)
 //   hand_over, hand_value                     507 and 570 "Check mutable references can be transfered"
 //   all, mutable                              508 `all_references_to_borrow_from`, 509 `mutable_references_to_borrow_from`
@@ -24,23 +24,25 @@ use abstract_state::core::give;
 use abstract_state::core::new_ref;
 use abstract_state::core::pass_refusal;
 use abstract_state::core::violate_if;
-use abstract_state::predicates::is_frame_safe_to_destroy;
+use abstract_state::predicates::has_consistent_borrows;
+use abstract_state::predicates::is_frame_borrowed;
 use abstract_state::predicates::is_global_borrowed;
 use abstract_state::predicates::is_mutable;
-use abstract_state::predicates::is_writable;
+use abstract_state::predicates::only_if;
 use abstract_state::state::AbstractState;
 use abstract_state::state::AbstractValue;
 use abstract_state::state::LOCALS;
 use abstract_state::state::Operands;
 use abstract_state::words::value_of;
 use abstract_state::words::value_word;
-use borrow_graph::graph::YesOrNo;
+use borrow_graph::graph::NO_OFFSET;
 use meaning::EDGE_WORDS;
 use meaning::MAX_EDGES;
 use meaning::MAX_NAMES;
 use meaning::MAX_OPERANDS;
 use meaning::ROOM;
 use meaning::lesser;
+use references::rows::LabelFilter;
 ghost use mathlib.Core.Path.{_≡_};
 ghost use mathlib.Core.List.{List, [], _∷_, map};
 ghost use Prim.Native.Nat.{ℕ};
@@ -50,8 +52,13 @@ ghost use Rattle.meaning.specs.EntryPoints as R;
 ghost use Rattle.meaning.specs.Answers.{then};
 ghost use Rattle.meaning.specs.AbstractState.{ofRef};
 ghost use Rattle.meaning.specs.EntryPoints.{returnValues};
-ghost use Rattle.abstract_state.specs.Models.{operandOf, operandsOf, words, Fits, Does, outcomeOf};
-ghost use Rattle.abstract_state_calls.specs.Models.{idsOf, answersOf, Calls, acquiring, handing, framed};
+ghost use Rattle.borrow_graph.specs.Models.{lowIn};
+ghost use Rattle.borrow_graph.specs.Folds.{lowerIf};
+ghost use Rattle.abstract_state.specs.Models.{operandOf, operandsOf, words, Fits, Does, runningOf, outcomeOf};
+ghost use Rattle.abstract_state_calls.specs.Models.{idsOf, answersOf, Calls, acquiring, handing, framed, isBorrowed, lowestBorrowed};
+
+// No number of a resource is as high.
+const NO_RESOURCE: u32 = 65536;
 
 // What a call leaves, and the values that it returns. Where the state has stopped, the values are free.
 pub struct Called {
@@ -106,18 +113,11 @@ fn fail_frame(
 ) -> AbstractState
     ensures { λ r. ⌜ ((ls : List ℕ) → Does framed (words ls (now (names .entry)) (now (edges .entry)) state) (words ls (now (names .entry)) (now (edges .entry)) r)) ⌝ }
 {
-    let b = is_frame_safe_to_destroy(names, edges, state);
-    violate_if(
-        state,
-        YesOrNo {
-            refusal: b.refusal,
-            yes: !b.yes,
-        },
-        UNSAFE_RET,
-    )
+    let b = is_frame_borrowed(names, edges, state);
+    violate_if(state, b, UNSAFE_RET)
 }
 
-// A call fails on a borrow of any number that it acquires.
+// A call fails on the lowest number that it acquires and that is borrowed. (The Rust has them in a BTreeSet.)
 fn fail_acquired(
     names: &[u32; MAX_NAMES],
     edges: &[[u32; EDGE_WORDS]; MAX_EDGES],
@@ -127,14 +127,49 @@ fn fail_acquired(
 ) -> AbstractState
     ensures { λ r. ⌜ ((ls : List ℕ) → Does (acquiring (take count acquired)) (words ls (now (names .entry)) (now (edges .entry)) state) (words ls (now (names .entry)) (now (edges .entry)) r)) ⌝ }
 {
-    let n = lesser(count, ROOM);
-    let mut s = state;
-    let mut i: usize = 0;
-    while i < n {
-        s = fail_global(names, edges, s, acquired[i]);
-        i += 1;
+    let low = lowest_borrowed(names, edges, state, acquired, count);
+    if low < NO_RESOURCE {
+        return fail_global(names, edges, state, low as u16);
     }
-    ask_root(names, s)
+    ask_root(names, state)
+}
+
+// The lowest of these numbers that is borrowed; NO_RESOURCE or more, where none is.
+fn lowest_borrowed(
+    names: &[u32; MAX_NAMES],
+    edges: &[[u32; EDGE_WORDS]; MAX_EDGES],
+    state: AbstractState,
+    resources: [u16; ROOM],
+    count: usize,
+) -> u32
+    ensures { λ r. ⌜ ((ls : List ℕ) → Fits (words ls (now (names .entry)) (now (edges .entry)) state) → lowIn r ≡ lowestBorrowed (runningOf (words ls (now (names .entry)) (now (edges .entry)) state)) (take count resources)) ⌝ }
+{
+    let mut low = NO_RESOURCE;
+    let mut i = lesser(count, ROOM);
+    while 0 < i {
+        i -= 1;
+        low = lower_borrowed(names, edges, state, resources[i], low);
+    }
+    low
+}
+
+// One number more. Where it is not lower it is not looked up.
+fn lower_borrowed(
+    names: &[u32; MAX_NAMES],
+    edges: &[[u32; EDGE_WORDS]; MAX_EDGES],
+    state: AbstractState,
+    resource: u16,
+    low: u32,
+) -> u32
+    ensures { λ r. ⌜ ((ls : List ℕ) → Fits (words ls (now (names .entry)) (now (edges .entry)) state) → lowIn r ≡ lowerIf (isBorrowed (runningOf (words ls (now (names .entry)) (now (edges .entry)) state)) resource) resource (lowIn low)) ⌝ }
+{
+    if (resource as u32) < low {
+        let b = is_global_borrowed(names, edges, state, resource);
+        if (b.refusal == 0) & (b.offset < NO_OFFSET) {
+            return resource as u32;
+        }
+    }
+    low
 }
 
 fn fail_global(
@@ -193,15 +228,9 @@ fn hand_value(
     match v {
         AbstractValue::Reference(id) => {
             let m = is_mutable(names, state, id);
-            let w = is_writable(names, edges, state, id);
-            violate_if(
-                state,
-                YesOrNo {
-                    refusal: w.refusal,
-                    yes: m.yes & !w.yes,
-                },
-                code,
-            )
+            let b = has_consistent_borrows(names, edges, state, id, LabelFilter::Any);
+            let c = only_if(m.yes, b);
+            violate_if(state, c, code)
         }
         AbstractValue::NonReference => state,
     }

@@ -6,7 +6,7 @@ use mathlib.Core.Path.{_≡_, refl, sym, ap, _∙_}
 use mathlib.Core.Bool.{Bool, true, false, _&&_, _||_, cond}
 use mathlib.Core.List.{List, [], _∷_}
 use lib.Dec.{eqb, ltb}
-use Rattle.meaning.specs.Answers.{ok, refuse, Outcome, done, violated, refused, then}
+use Rattle.meaning.specs.Answers.{ok, refuse, then}
 use Rattle.meaning.specs.Lists.{any}
 use Rattle.meaning.specs.Laws.Base.{decide, and-l, and-r, eqb-eq, eqb-self, eqb-no, eqb-ne}
 use Rattle.meaning.specs.BorrowGraph.{Graph, renamed, nameAfter}
@@ -116,21 +116,12 @@ module _ (l : ℕ) (s : State) where
       let r : renamed (newNameOf l (s .locals)) (s .graph) ≡ g = sym (q ∙ (λ i. renamed (λ n. new-name l (s .locals) n i) (s .graph))) in
       rw e (λ i. ok (record { locals = sym p i; graph = r i }))
 
--- a stopped state stays as it is
-pub stays : (k v n : ℕ) (r : Running) (f : Running → Outcome Running) → eqb v 0 && eqb n 0 ≡ false → halted k v n r ≡ then (halted k v n r) f
-stays k v n r f e = go (eqb v 0) (eqb n 0) e
-  where
-    go : (x y : Bool) → x && y ≡ false → cond x (cond y (done r) (refused n)) (violated k v) ≡ then (cond x (cond y (done r) (refused n)) (violated k v)) f
-    go true true e = let w : _≡_ {A = ℕ} 0 1 = cc in absurd (omega arith)
-    go true false e = refl
-    go false y e = refl
-
 -- a state that goes on: refused with 16, or renamed
-pub end-16 : (b v n : ℕ) (r q : Running) → eqb v 0 && eqb n 0 ≡ true → canonical (r .root) (record { locals = r .locals; graph = r .graph }) ≡ refuse 16 → halted b v 16 q ≡ then (halted b v n r) canonicalEnd
+pub end-16 : (b v o n : ℕ) (r q : Running) → eqb v 0 && eqb n 0 ≡ true → canonical (r .root) (record { locals = r .locals; graph = r .graph }) ≡ refuse 16 → halted b v o 16 q ≡ then (halted b v o n r) canonicalEnd
 unfolding canonicalEnd
-end-16 b v n r q e k = rw (and-l (eqb v 0) (eqb n 0) e, and-r (eqb v 0) (eqb n 0) e, k)
+end-16 b v o n r q e k = rw (and-l (eqb v 0) (eqb n 0) e, and-r (eqb v 0) (eqb n 0) e, k)
 
-pub end-ok : (b v n : ℕ) (r : Running) (xs : List S.Local) (g : Graph) → eqb v 0 && eqb n 0 ≡ true → canonical (r .root) (record { locals = r .locals; graph = r .graph }) ≡ ok (record { locals = xs; graph = g })
-    → halted b v n (record { locals = xs; graph = g; next = r .root + 1; root = r .root; blurs = r .blurs }) ≡ then (halted b v n r) canonicalEnd
+pub end-ok : (b v o n : ℕ) (r : Running) (xs : List S.Local) (g : Graph) → eqb v 0 && eqb n 0 ≡ true → canonical (r .root) (record { locals = r .locals; graph = r .graph }) ≡ ok (record { locals = xs; graph = g })
+    → halted b v o n (record { locals = xs; graph = g; next = r .root + 1; root = r .root; blurs = r .blurs; offset = r .offset }) ≡ then (halted b v o n r) canonicalEnd
 unfolding canonicalEnd
-end-ok b v n r xs g e k = rw (and-l (eqb v 0) (eqb n 0) e, and-r (eqb v 0) (eqb n 0) e, k, add-one (r .root))
+end-ok b v o n r xs g e k = rw (and-l (eqb v 0) (eqb n 0) e, and-r (eqb v 0) (eqb n 0) e, k, add-one (r .root))

@@ -115,7 +115,7 @@ first-formed n ts h = first-strong n ts h .form .formed
 -- ---- the state
 
 pub first-made : (n l : ℕ) (ts : List Token) (xs : List S.Local) (g : Graph) → n ≡ l → xs ≡ firstLocals 0 n ts → g ≡ bare (firstNames 0 n ts)
-    → _≡_ {A = Running} (record { locals = xs; graph = g; next = n + 1; root = n; blurs = 0 }) (firstRunning l ts)
+    → _≡_ {A = Running} (record { locals = xs; graph = g; next = n + 1; root = n; blurs = 0; offset = 0 }) (firstRunning l ts)
 unfolding firstRunning firstState
 first-made n l ts xs g e p q =
-    (λ i. record { locals = p i; graph = q i; next = add-one n i; root = n; blurs = 0 }) ∙ ap (λ (k : ℕ). firstRunning k ts) e
+    (λ i. record { locals = p i; graph = q i; next = add-one n i; root = n; blurs = 0; offset = 0 }) ∙ ap (λ (k : ℕ). firstRunning k ts) e

@@ -39,9 +39,9 @@ firstAt i (ofRef m ∷ ts) = ref i
 
 -- ---- the end of a block
 
--- where names are changed, fresh names start at L + 1 again; the sets blurred so far still count
+-- where names are changed, fresh names start at L + 1 again; the sets blurred so far still count, and the offset stays
 unfoldable pub canonicalEnd : Running → Outcome Running
-canonicalEnd r = then (lift (canonical (r .root) (record { locals = r .locals; graph = r .graph }))) (λ s. done (startWith (r .blurs) (r .root) s))
+canonicalEnd r = then (lift (canonical (r .root) (record { locals = r .locals; graph = r .graph }))) (λ s. done (startWith (r .blurs) (r .offset) (r .root) s))
 
 abbrev pub ownName : ℕ → S.Local → S.Local
 ownName i absent = absent
@@ -83,14 +83,14 @@ pub record LocalsJoin (a b : Words) (ls′ ns′ : List ℕ) (es′ : List (List
   pub theirs : Tells ns₂′ es₂′ (r .theirs)
 
 abbrev pub withState : Running → State → Running
-withState r s = record { locals = s .locals; graph = s .graph; next = r .next; root = r .root; blurs = r .blurs }
+withState r s = record { locals = s .locals; graph = s .graph; next = r .next; root = r .root; blurs = r .blurs; offset = r .offset }
 
 -- A join of b into a with the refusal n (0: none) came to t. Of both, stopped or not, only locals and graph count; all else of the first is kept.
 pub record Merges (a b : Words) (n : ℕ) (t : Words) : Type 0 where
   pub answer : told n (stateOf t) ≡ join (stateOf a) (stateOf b)
   pub fits : n ≡ 0 → Fits t
   pub rest : runningOf t ≡ withState (runningOf a) (stateOf t)
-  pub stop : (t .state .violation ≡ a .state .violation) × (t .state .refusal ≡ a .state .refusal)
+  pub stop : (t .state .violation ≡ a .state .violation) × (t .state .«borrowed_at» ≡ a .state .«borrowed_at») × (t .state .refusal ≡ a .state .refusal)
 
 -- The same, and refused, the first state is left.
 pub record Joins (a b : Words) (n : ℕ) (t : Words) : Type 0 where
@@ -98,7 +98,7 @@ pub record Joins (a b : Words) (n : ℕ) (t : Words) : Type 0 where
   pub left : stateOf t ≡ leaves (stateOf a) (join (stateOf a) (stateOf b))
   pub fits : Fits t
   pub rest : runningOf t ≡ withState (runningOf a) (stateOf t)
-  pub stop : (t .state .violation ≡ a .state .violation) × (t .state .refusal ≡ a .state .refusal)
+  pub stop : (t .state .violation ≡ a .state .violation) × (t .state .«borrowed_at» ≡ a .state .«borrowed_at») × (t .state .refusal ≡ a .state .refusal)
 
 -- a refused join changes nothing
 abbrev pub changedBy : State → Ans State → Bool

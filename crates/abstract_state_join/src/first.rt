@@ -7,6 +7,7 @@ use abstract_state::state::LOCALS;
 use abstract_state::state::Local;
 use abstract_state::words::local_word;
 use borrow_graph::graph::BorrowGraph;
+use file_format::CodeOffset;
 use meaning::MAX_NAMES;
 use meaning::ROOM;
 use meaning::lesser;
@@ -98,7 +99,9 @@ pub fn new(
     let refs = first_names(names, n, params, count);
     AbstractState {
         violation: 0,
+        borrowed_at: CodeOffset(0),
         refusal: 0,
+        offset: CodeOffset(0),
         value: AbstractValue::NonReference,
         num_locals: n as u8,
         next_id: (n + 1) as u32,

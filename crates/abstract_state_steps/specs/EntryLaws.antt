@@ -1,17 +1,17 @@
 -- The entry points as the code makes them: one call after the other, each on the state that the last one left.
 use Prim.Native.Nat.{ℕ, suc}
 use mathlib.Core.Path.{_≡_, refl, sym, ap, _∙_}
-use mathlib.Core.Bool.{Bool, true, false, not, _&&_, _||_, cond}
+use mathlib.Core.Bool.{Bool, true, false, _&&_, cond}
 use mathlib.Core.Option.{Option, none, some}
 use lib.Dec.{eqb, ltb}
 use lib.ListN.{getD}
-use Rattle.meaning.specs.Answers.{Ans, ok, refuse, guard, Outcome, done, refused, then, lift, fails, needs}
+use Rattle.meaning.specs.Answers.{Ans, ok, refuse, guard, Outcome, done, refused, then, lift, failsAt, needs}
 use Rattle.meaning.specs.Laws.Base.{ok-inj, refuse≢ok}
-use Rattle.meaning.specs.Labels.{localLabel, globalLabel, fieldLabel}
-use Rattle.meaning.specs.BorrowGraph.{Graph, wellFormed, held, isMutable, fullyBorrowed, borrowed, mutablyBorrowed, newName}
+use Rattle.meaning.specs.Labels.{localLabel, globalLabel}
+use Rattle.meaning.specs.BorrowGraph.{Graph, GEdge, wellFormed, held, isMutable, borrows, borrowsMutably, lowestOf, newName}
 use Rattle.meaning.specs.BorrowGraph as L
 use Rattle.meaning.specs.AbstractState.{Local, absent, value, ref, Operand, nonRef, reference, ofRef}
-use Rattle.meaning.specs.EntryPoints.{needsName, Running, Answer, answer, withLocal, writable, readable, newRef, addCopy, addBorrow, addFieldBorrow}
+use Rattle.meaning.specs.EntryPoints.{needsName, Running, Answer, answer, withLocal, fails, barsReading, barsLocalBorrow, barsFieldBorrow, barsResourceBorrow, newRef, addCopy, addBorrow, addFieldBorrow}
 use Rattle.meaning.specs.EntryPoints.{addLocalBorrow, addResourceBorrow, releaseName, valueFor, copyOf, copyLoc, moveOf, moveLoc, localOf, overwrite}
 use Rattle.meaning.specs.EntryPoints.{stLoc, freezeRef, comparison, readRef, writeRef, borrowLoc, borrowField, borrowGlobal, moveFrom, vectorTest}
 use Rattle.meaning.specs.EntryPoints.{vectorOp, vectorElementBorrow}
@@ -32,14 +32,6 @@ module _ {A : Type 0} (g : Graph) (n : ℕ) (b : Bool) (r : Running) (k : Runnin
       go true = refl
       go false = refl
 
-  pub fail-at : (c : ℕ) → eqb c 0 ≡ false → then (failing (L.ofName g n b) c r) k ≡ needsName g n (fails (r .blurs) b c (k r))
-  fail-at c z = go (wellFormed g && held g n) b
-    where
-      go : (x y : Bool) → then (failing (guard x 9 (ok y)) c r) k ≡ needs x 9 (fails (r .blurs) y c (k r))
-      go true true = rw z refl
-      go true false = refl
-      go false y = refl
-
   pub need-at : (c : ℕ) → eqb c 0 ≡ false → then (needing (L.ofName g n b) c r) k ≡ needsName g n (needs b c (k r))
   need-at c z = go (wellFormed g && held g n) b
     where
@@ -47,6 +39,16 @@ module _ {A : Type 0} (g : Graph) (n : ℕ) (b : Bool) (r : Running) (k : Runnin
       go true true = refl
       go true false = rw z refl
       go false y = refl
+
+-- a test on edges, whose lowest is l
+pub fail-at : {A : Type 0} (g : Graph) (n : ℕ) (l : Option ℕ) (r : Running) (k : Running → Outcome A) (c : ℕ) → eqb c 0 ≡ false
+    → then (failing (L.ofName g n l) c r) k ≡ needsName g n (failsAt (r .blurs) l c (k r))
+fail-at {A} g n l r k c z = go (wellFormed g && held g n) l
+  where
+    go : (x : Bool) (m : Option ℕ) → then (failing (guard x 9 (ok m)) c r) k ≡ needs x 9 (failsAt (r .blurs) m c (k r))
+    go true none = rw z refl
+    go true (some o) = rw z refl
+    go false m = refl
 
 abbrev number : {A : Type 0} → Ans A → ℕ
 number (ok a) = 0
@@ -81,21 +83,20 @@ module _ {A : Type 0} (g : Graph) (n : ℕ) where
       go true = refl
       go false = refl
 
-pub fails-then : {A B : Type 0} (j : ℕ) (b : Bool) (c : ℕ) (k : Outcome A) (f : A → Outcome B) → then (fails j b c k) f ≡ fails j b c (then k f)
-fails-then j true c k f = refl
-fails-then j false c k f = refl
+pub fails-then : {A B : Type 0} (j : ℕ) (l : Option ℕ) (c : ℕ) (k : Outcome A) (f : A → Outcome B) → then (failsAt j l c k) f ≡ failsAt j l c (then k f)
+fails-then j none c k f = refl
+fails-then j (some o) c k f = refl
 
 pub vector-then : {A B : Type 0} (m : Bool) (r : Running) (n c : ℕ) (k : Outcome A) (f : A → Outcome B) → then (vectorTest m r n c k) f ≡ vectorTest m r n c (then k f)
-vector-then {A} {B} true r n c k f = go (isMutable (r .graph) n) (not (writable (r .graph) n))
+vector-then {A} {B} true r n c k f = go (isMutable (r .graph) n) (lowestOf (borrows n none) (r .graph .edges))
   where
-    go : (x y : Bool) → then (needs x 13 (fails (r .blurs) y c k)) f ≡ needs x 13 (fails (r .blurs) y c (then k f))
-    go true true = refl
-    go true false = refl
-    go false y = refl
+    go : (x : Bool) (l : Option ℕ) → then (needs x 13 (failsAt (r .blurs) l c k)) f ≡ needs x 13 (failsAt (r .blurs) l c (then k f))
+    go true l = fails-then (r .blurs) l c k f
+    go false l = refl
 vector-then false r n c k f = refl
 
-pub fails-under : {A : Type 0} (j : ℕ) (b : Bool) (c : ℕ) (k l : Outcome A) → k ≡ l → fails j b c k ≡ fails j b c l
-fails-under {A} j b c k l e = ap (λ (o : Outcome A). fails j b c o) e
+pub fails-under : {A : Type 0} (r : Running) (p : GEdge → Bool) (c : ℕ) (k l : Outcome A) → k ≡ l → fails r p c k ≡ fails r p c l
+fails-under {A} r p c k l e = ap (λ (o : Outcome A). fails r p c o) e
 
 pub needs-under : {A : Type 0} (b : Bool) (c : ℕ) (k l : Outcome A) → k ≡ l → needs b c k ≡ needs b c l
 needs-under {A} b c k l e = ap (λ (o : Outcome A). needs b c o) e
@@ -107,8 +108,8 @@ pub made : {A : Type 0} (m : Bool) (r : Running) (x : ℕ) (k : ℕ → Running 
 unfolding newRef
 made {A} m r x k e = ap (λ (y : ℕ). then (newRef m r) (k y)) e ∙ go (ltb (r .next) 65536)
   where
-    go : (b : Bool) → then (needs b 9 (then (lift (newName (r .graph) (r .next) m)) (λ g. done (record { locals = r .locals; graph = g; next = suc (r .next); root = r .root; blurs = r .blurs })))) (k (cond b (r .next) 0))
-        ≡ then (needs b 9 (then (lift (newName (r .graph) (r .next) m)) (λ g. done (record { locals = r .locals; graph = g; next = suc (r .next); root = r .root; blurs = r .blurs })))) (k (r .next))
+    go : (b : Bool) → then (needs b 9 (then (lift (newName (r .graph) (r .next) m)) (λ g. done (record { locals = r .locals; graph = g; next = suc (r .next); root = r .root; blurs = r .blurs; offset = r .offset })))) (k (cond b (r .next) 0))
+        ≡ then (needs b 9 (then (lift (newName (r .graph) (r .next) m)) (λ g. done (record { locals = r .locals; graph = g; next = suc (r .next); root = r .root; blurs = r .blurs; offset = r .offset })))) (k (r .next))
     go true = refl
     go false = refl
 
@@ -141,51 +142,48 @@ module _ (r : Running) (x : ℕ) (z : x ≡ cond (ltb (r .next) 65536) (r .next)
       heed-told (r .graph) k m b (isMutable (r .graph) k) r (λ c t. then (newRef c t) (lend (addCopy k) x)) e
       ∙ known-under (r .graph) k _ _ (made (isMutable (r .graph) k) r x (lend (addCopy k)) z)
 
-  pub freeze-at : (k : ℕ) (t u : Ans Bool) → t ≡ L.ofName (r .graph) k (isMutable (r .graph) k) → u ≡ L.ofName (r .graph) k (mutablyBorrowed (r .graph) k none)
+  pub freeze-at : (k : ℕ) (t : Ans Bool) (u : Ans (Option ℕ)) → t ≡ L.ofName (r .graph) k (isMutable (r .graph) k)
+      → u ≡ L.ofName (r .graph) k (lowestOf (borrowsMutably (r .graph) k none) (r .graph .edges))
       → then (needing t 13 r) (λ s. then (failing u 104 s) (λ s. then (newRef false s) (pass (addCopy k) k x))) ≡ freezeRef k r
   unfolding freezeRef
   freeze-at k t u e h =
       let g : Graph = r .graph in
       let b : Bool = isMutable g k in
-      let d : Bool = mutablyBorrowed g k none in
+      let p : (GEdge → Bool) = borrowsMutably g k none in
+      let l : Option ℕ = lowestOf p (g .edges) in
       rw (e, h)
-      (need-at g k b r (λ s. then (failing (L.ofName g k d) 104 s) (λ s. then (newRef false s) (pass (addCopy k) k x))) 13 refl
-      ∙ known-under g k _ _ (needs-under b 13 _ _ (fail-at g k d r (λ s. then (newRef false s) (pass (addCopy k) k x)) 104 refl))
-      ∙ known-needs g k b 13 (fails (r .blurs) d 104 (then (newRef false r) (pass (addCopy k) k x)))
-      ∙ known-under g k _ _ (needs-under b 13 _ _ (again d (made false r x (pass (addCopy k) k) z))))
-    where
-      again : (d : Bool) → then (newRef false r) (pass (addCopy k) k x) ≡ then (newRef false r) (pass (addCopy k) k (r .next))
-          → fails (r .blurs) d 104 (then (newRef false r) (pass (addCopy k) k x)) ≡ fails (r .blurs) (not (not d)) 104 (then (newRef false r) (pass (addCopy k) k (r .next)))
-      again true e = refl
-      again false e = e
+      (need-at g k b r (λ s. then (failing (L.ofName g k l) 104 s) (λ s. then (newRef false s) (pass (addCopy k) k x))) 13 refl
+      ∙ known-under g k _ _ (needs-under b 13 _ _ (fail-at g k l r (λ s. then (newRef false s) (pass (addCopy k) k x)) 104 refl))
+      ∙ known-needs g k b 13 (fails r p 104 (then (newRef false r) (pass (addCopy k) k x)))
+      ∙ known-under g k _ _ (needs-under b 13 _ _ (fails-under r p 104 _ _ (made false r x (pass (addCopy k) k) z))))
 
-  pub borrow-loc-at : (m : Bool) (i : ℕ) (t : Ans Bool) → t ≡ L.ofName (r .graph) (r .root) (not m && mutablyBorrowed (r .graph) (r .root) (some (localLabel i)))
+  pub borrow-loc-at : (m : Bool) (i : ℕ) (t : Ans (Option ℕ)) → t ≡ L.ofName (r .graph) (r .root) (lowestOf (barsLocalBorrow m (r .graph) (r .root) i) (r .graph .edges))
       → then (failing t 107 r) (λ s. then (newRef m s) (lend (addLocalBorrow i) x)) ≡ borrowLoc m i r
   unfolding borrowLoc
   borrow-loc-at m i t e =
-      let b : Bool = not m && mutablyBorrowed (r .graph) (r .root) (some (localLabel i)) in
+      let p : (GEdge → Bool) = barsLocalBorrow m (r .graph) (r .root) i in
       rw e
-      (fail-at (r .graph) (r .root) b r (λ s. then (newRef m s) (lend (addLocalBorrow i) x)) 107 refl
-      ∙ known-under (r .graph) (r .root) _ _ (fails-under (r .blurs) b 107 _ _ (made m r x (lend (addLocalBorrow i)) z)))
+      (fail-at (r .graph) (r .root) (lowestOf p (r .graph .edges)) r (λ s. then (newRef m s) (lend (addLocalBorrow i) x)) 107 refl
+      ∙ known-under (r .graph) (r .root) _ _ (fails-under r p 107 _ _ (made m r x (lend (addLocalBorrow i)) z)))
 
-  pub borrow-global-at : (m : Bool) (i : ℕ) (t : Ans Bool)
-      → t ≡ L.ofName (r .graph) (r .root) ((m && borrowed (r .graph) (r .root) (some (globalLabel i))) || mutablyBorrowed (r .graph) (r .root) (some (globalLabel i)))
-      → then (failing t 109 r) (λ s. then (newRef m s) (lend (addResourceBorrow i) x)) ≡ borrowGlobal m i r
+  -- a test of the name k, then a new reference and what `f` does with it
+  tested-then : (k : ℕ) (p : GEdge → Bool) (c : ℕ) (m : Bool) (f : ℕ → Running → Outcome Answer)
+      → then (needsName (r .graph) k (fails r p c (done r))) (λ s. then (newRef m s) (f x)) ≡ needsName (r .graph) k (fails r p c (then (newRef m r) (f (r .next))))
+  tested-then k p c m f =
+      known-then (r .graph) k (fails r p c (done r)) (λ s. then (newRef m s) (f x))
+      ∙ known-under (r .graph) k _ _
+      (fails-then (r .blurs) (lowestOf p (r .graph .edges)) c (done r) (λ s. then (newRef m s) (f x)) ∙ fails-under r p c _ _ (made m r x f z))
+
+  pub borrow-global-at : (m : Bool) (i : ℕ)
+      → then (needsName (r .graph) (r .root) (fails r (barsResourceBorrow m (r .graph) (r .root) i) 109 (done r))) (λ s. then (newRef m s) (lend (addResourceBorrow i) x))
+      ≡ borrowGlobal m i r
   unfolding borrowGlobal
-  borrow-global-at m i t e =
-      let b : Bool = (m && borrowed (r .graph) (r .root) (some (globalLabel i))) || mutablyBorrowed (r .graph) (r .root) (some (globalLabel i)) in
-      rw e
-      (fail-at (r .graph) (r .root) b r (λ s. then (newRef m s) (lend (addResourceBorrow i) x)) 109 refl
-      ∙ known-under (r .graph) (r .root) _ _ (fails-under (r .blurs) b 109 _ _ (made m r x (lend (addResourceBorrow i)) z)))
+  borrow-global-at m i = tested-then (r .root) (barsResourceBorrow m (r .graph) (r .root) i) 109 m (lend (addResourceBorrow i))
 
   pub borrow-field-at : (m : Bool) (k i : ℕ)
-      → then (needsName (r .graph) k (fails (r .blurs) (cond m (fullyBorrowed (r .graph) k) (not (readable (r .graph) k (some (fieldLabel i))))) 108 (done r))) (λ s. then (newRef m s) (pass (addFieldBorrow k i) k x))
-      ≡ borrowField m k i r
+      → then (needsName (r .graph) k (fails r (barsFieldBorrow m (r .graph) k i) 108 (done r))) (λ s. then (newRef m s) (pass (addFieldBorrow k i) k x)) ≡ borrowField m k i r
   unfolding borrowField
-  borrow-field-at m k i =
-      let b : Bool = cond m (fullyBorrowed (r .graph) k) (not (readable (r .graph) k (some (fieldLabel i)))) in
-      known-then (r .graph) k (fails (r .blurs) b 108 (done r)) (λ s. then (newRef m s) (pass (addFieldBorrow k i) k x))
-      ∙ known-under (r .graph) k _ _ (fails-then (r .blurs) b 108 (done r) (λ s. then (newRef m s) (pass (addFieldBorrow k i) k x)) ∙ fails-under (r .blurs) b 108 _ _ (made m r x (pass (addFieldBorrow k i) k) z))
+  borrow-field-at m k i = tested-then k (barsFieldBorrow m (r .graph) k i) 108 m (pass (addFieldBorrow k i) k)
 
   pub element-at : (m : Bool) (k : ℕ) → then (needsName (r .graph) k (vectorTest m r k 111 (done r))) (λ s. then (newRef m s) (pass (addBorrow k) k x)) ≡ vectorElementBorrow (reference k) m r
   unfolding vectorElementBorrow
@@ -198,85 +196,89 @@ module _ (r : Running) where
   unfolding copyLoc
   copy-over i l e = ap (copyOf r i) (sym e)
 
-  pub copy-value : (i : ℕ) (t : Ans Bool) → getD (r .locals) i absent ≡ value → t ≡ L.ofName (r .graph) (r .root) (mutablyBorrowed (r .graph) (r .root) (some (localLabel i)))
+  pub copy-value : (i : ℕ) (t : Ans (Option ℕ)) → getD (r .locals) i absent ≡ value
+      → t ≡ L.ofName (r .graph) (r .root) (lowestOf (borrowsMutably (r .graph) (r .root) (some (localLabel i))) (r .graph .edges))
       → then (failing t 101 r) (λ s. answer s nonRef) ≡ copyLoc i r
-  copy-value i t l e = rw e (fail-at (r .graph) (r .root) (mutablyBorrowed (r .graph) (r .root) (some (localLabel i))) r (λ s. answer s nonRef) 101 refl ∙ copy-over i value l)
+  copy-value i t l e = rw e (fail-at (r .graph) (r .root) (lowestOf (borrowsMutably (r .graph) (r .root) (some (localLabel i))) (r .graph .edges)) r (λ s. answer s nonRef) 101 refl ∙ copy-over i value l)
 
   pub move-over : (i : ℕ) (l : Local) → getD (r .locals) i absent ≡ l → moveOf r i l ≡ moveLoc i r
   unfolding moveLoc
   move-over i l e = ap (moveOf r i) (sym e)
 
-  pub move-value : (i : ℕ) (t : Ans Bool) → getD (r .locals) i absent ≡ value → t ≡ L.ofName (r .graph) (r .root) (borrowed (r .graph) (r .root) (some (localLabel i)))
+  pub move-value : (i : ℕ) (t : Ans (Option ℕ)) → getD (r .locals) i absent ≡ value
+      → t ≡ L.ofName (r .graph) (r .root) (lowestOf (borrows (r .root) (some (localLabel i))) (r .graph .edges))
       → then (failing t 102 r) (λ s. answer (withLocal s i absent) nonRef) ≡ moveLoc i r
   move-value i t l e =
       rw e
-      (fail-at (r .graph) (r .root) (borrowed (r .graph) (r .root) (some (localLabel i))) r (λ s. answer (withLocal s i absent) nonRef) 102 refl
+      (fail-at (r .graph) (r .root) (lowestOf (borrows (r .root) (some (localLabel i))) (r .graph .edges)) r (λ s. answer (withLocal s i absent) nonRef) 102 refl
       ∙ move-over i value l)
 
   pub store-over : (i : ℕ) (w : Operand) (l : Local) → getD (r .locals) i absent ≡ l → overwrite i (withLocal r i (localOf w)) l ≡ stLoc i w r
   unfolding stLoc
   store-over i w l e = ap (overwrite i (withLocal r i (localOf w))) (sym e)
 
-  pub store-value : (i : ℕ) (w : Operand) (t : Ans Bool) → getD (r .locals) i absent ≡ value → t ≡ L.ofName (r .graph) (r .root) (borrowed (r .graph) (r .root) (some (localLabel i)))
+  pub store-value : (i : ℕ) (w : Operand) (t : Ans (Option ℕ)) → getD (r .locals) i absent ≡ value
+      → t ≡ L.ofName (r .graph) (r .root) (lowestOf (borrows (r .root) (some (localLabel i))) (r .graph .edges))
       → failing t 103 (withLocal r i (localOf w)) ≡ stLoc i w r
   store-value i w t l e =
-      let b : Bool = borrowed (r .graph) (r .root) (some (localLabel i)) in
+      let b : Option ℕ = lowestOf (borrows (r .root) (some (localLabel i))) (r .graph .edges) in
       rw e
       (then-done (failing (L.ofName (r .graph) (r .root) b) 103 (withLocal r i (localOf w)))
       ∙ fail-at (r .graph) (r .root) b (withLocal r i (localOf w)) done 103 refl
       ∙ store-over i w value l)
 
   -- a test alone
-  pub test-at : (k c : ℕ) (b : Bool) (t : Ans Bool) → eqb c 0 ≡ false → t ≡ L.ofName (r .graph) k b → failing t c r ≡ needsName (r .graph) k (fails (r .blurs) b c (done r))
-  test-at k c b t z e = rw e (then-done (failing (L.ofName (r .graph) k b) c r) ∙ fail-at (r .graph) k b r done c z)
+  pub test-at : (k c : ℕ) (p : GEdge → Bool) (t : Ans (Option ℕ)) → eqb c 0 ≡ false → t ≡ L.ofName (r .graph) k (lowestOf p (r .graph .edges))
+      → failing t c r ≡ needsName (r .graph) k (fails r p c (done r))
+  test-at k c p t z e =
+      rw e (then-done (failing (L.ofName (r .graph) k (lowestOf p (r .graph .edges))) c r) ∙ fail-at (r .graph) k (lowestOf p (r .graph .edges)) r done c z)
 
   pub unreadable-then : {A : Type 0} (k : ℕ) (at : Option ℕ) (c : ℕ) (f : Running → Outcome A)
-      → then (needsName (r .graph) k (fails (r .blurs) (not (readable (r .graph) k at)) c (done r))) f ≡ needsName (r .graph) k (fails (r .blurs) (not (readable (r .graph) k at)) c (f r))
+      → then (needsName (r .graph) k (fails r (barsReading (r .graph) k at) c (done r))) f ≡ needsName (r .graph) k (fails r (barsReading (r .graph) k at) c (f r))
   unreadable-then k at c f =
-      known-then (r .graph) k (fails (r .blurs) (not (readable (r .graph) k at)) c (done r)) f
-      ∙ known-under (r .graph) k _ _ (fails-then (r .blurs) (not (readable (r .graph) k at)) c (done r) f)
+      known-then (r .graph) k (fails r (barsReading (r .graph) k at) c (done r)) f
+      ∙ known-under (r .graph) k _ _ (fails-then (r .blurs) (lowestOf (barsReading (r .graph) k at) (r .graph .edges)) c (done r) f)
 
-  pub read-at : (k : ℕ) → then (needsName (r .graph) k (fails (r .blurs) (not (readable (r .graph) k none)) 105 (done r))) (λ s. then (releaseName k s) (λ t. answer t nonRef)) ≡ readRef k r
+  pub read-at : (k : ℕ) → then (needsName (r .graph) k (fails r (barsReading (r .graph) k none) 105 (done r))) (λ s. then (releaseName k s) (λ t. answer t nonRef)) ≡ readRef k r
   unfolding readRef
   read-at k = unreadable-then k none 105 (λ s. then (releaseName k s) (λ t. answer t nonRef))
 
   -- a mutable reference with no borrow, then f
-  pub writable-then : {A : Type 0} (k c : ℕ) (t u : Ans Bool) (f : Running → Outcome A) → eqb c 0 ≡ false → t ≡ L.ofName (r .graph) k (isMutable (r .graph) k) → u ≡ L.ofName (r .graph) k (borrowed (r .graph) k none)
+  pub writable-then : {A : Type 0} (k c : ℕ) (t : Ans Bool) (u : Ans (Option ℕ)) (f : Running → Outcome A) → eqb c 0 ≡ false
+      → t ≡ L.ofName (r .graph) k (isMutable (r .graph) k) → u ≡ L.ofName (r .graph) k (lowestOf (borrows k none) (r .graph .edges))
       → then (needing t 13 r) (λ s. then (failing u c s) f) ≡ needsName (r .graph) k (vectorTest true r k c (f r))
   writable-then {A} k c t u f z e h =
       let g : Graph = r .graph in
       let b : Bool = isMutable g k in
-      let d : Bool = borrowed g k none in
+      let l : Option ℕ = lowestOf (borrows k none) (g .edges) in
       rw (e, h)
-      (need-at g k b r (λ s. then (failing (L.ofName g k d) c s) f) 13 refl
-      ∙ known-under g k _ _ (needs-under b 13 _ _ (fail-at g k d r f c z))
-      ∙ known-needs g k b 13 (fails (r .blurs) d c (f r))
-      ∙ known-under g k _ _ (needs-under b 13 _ _ (twice d)))
-    where
-      twice : (d : Bool) → fails (r .blurs) d c (f r) ≡ fails (r .blurs) (not (not d)) c (f r)
-      twice true = refl
-      twice false = refl
+      (need-at g k b r (λ s. then (failing (L.ofName g k l) c s) f) 13 refl
+      ∙ known-under g k _ _ (needs-under b 13 _ _ (fail-at g k l r f c z))
+      ∙ known-needs g k b 13 (failsAt (r .blurs) l c (f r)))
 
-  pub write-at : (k : ℕ) (t u : Ans Bool) → t ≡ L.ofName (r .graph) k (isMutable (r .graph) k) → u ≡ L.ofName (r .graph) k (borrowed (r .graph) k none)
+  pub write-at : (k : ℕ) (t : Ans Bool) (u : Ans (Option ℕ)) → t ≡ L.ofName (r .graph) k (isMutable (r .graph) k)
+      → u ≡ L.ofName (r .graph) k (lowestOf (borrows k none) (r .graph .edges))
       → then (needing t 13 r) (λ s. then (failing u 106 s) (releaseName k)) ≡ writeRef k r
   unfolding writeRef
   write-at k t u e h = writable-then k 106 t u (releaseName k) refl e h
 
-  pub vector-mutable : (k c : ℕ) (t u : Ans Bool) → eqb c 0 ≡ false → t ≡ L.ofName (r .graph) k (isMutable (r .graph) k) → u ≡ L.ofName (r .graph) k (borrowed (r .graph) k none)
+  pub vector-mutable : (k c : ℕ) (t : Ans Bool) (u : Ans (Option ℕ)) → eqb c 0 ≡ false → t ≡ L.ofName (r .graph) k (isMutable (r .graph) k)
+      → u ≡ L.ofName (r .graph) k (lowestOf (borrows k none) (r .graph .edges))
       → then (needing t 13 r) (failing u c) ≡ needsName (r .graph) k (vectorTest true r k c (done r))
   vector-mutable k c t u z e h = under (needing t 13 r) ∙ writable-then k c t u done z e h
     where
       under : (o : Outcome Running) → then o (failing u c) ≡ then o (λ s. then (failing u c s) done)
       under (done s) = then-done (failing u c s)
-      under (Outcome.violated j n) = refl
+      under (Outcome.violated j n o) = refl
       under (refused n) = refl
 
   pub heed-alone : (k : ℕ) (b : Bool) (t : Ans Bool) → t ≡ L.ofName (r .graph) k b → heeding t r ≡ needsName (r .graph) k (done r)
   heed-alone k b t e = rw e (then-done (heeding (L.ofName (r .graph) k b) r) ∙ heed-at (r .graph) k b r done)
 
-  pub move-from-at : (i : ℕ) (t : Ans Bool) → t ≡ L.ofName (r .graph) (r .root) (borrowed (r .graph) (r .root) (some (globalLabel i))) → then (failing t 109 r) (λ s. answer s nonRef) ≡ moveFrom i r
+  pub move-from-at : (i : ℕ) (t : Ans (Option ℕ)) → t ≡ L.ofName (r .graph) (r .root) (lowestOf (borrows (r .root) (some (globalLabel i))) (r .graph .edges))
+      → then (failing t 109 r) (λ s. answer s nonRef) ≡ moveFrom i r
   unfolding moveFrom
-  move-from-at i t e = rw e (fail-at (r .graph) (r .root) (borrowed (r .graph) (r .root) (some (globalLabel i))) r (λ s. answer s nonRef) 109 refl)
+  move-from-at i t e = rw e (fail-at (r .graph) (r .root) (lowestOf (borrows (r .root) (some (globalLabel i))) (r .graph .edges)) r (λ s. answer s nonRef) 109 refl)
 
   pub vector-op-at : (m : Bool) (k : ℕ) → then (needsName (r .graph) k (vectorTest m r k 110 (done r))) (releaseName k) ≡ vectorOp (reference k) m r
   unfolding vectorOp
@@ -286,7 +288,7 @@ module _ (r : Running) where
 
 -- the state goes on where the reference is readable
 abbrev pub unreadable : ℕ → Option ℕ → ℕ → Running → Outcome Running
-unreadable k at c s = needsName (s .graph) k (fails (s .blurs) (not (readable (s .graph) k at)) c (done s))
+unreadable k at c s = needsName (s .graph) k (fails s (barsReading (s .graph) k at) c (done s))
 
 pub compare-at : (r : Running) (j k : ℕ)
     → then (unreadable j none 105 r) (λ s. then (unreadable k none 105 s) (λ t. then (releaseName j t) (λ u. then (releaseName k u) (λ v. answer v nonRef)))) ≡ comparison (reference j) (reference k) r
@@ -294,4 +296,4 @@ unfolding comparison
 compare-at r j k =
     let end : Running → Outcome Answer = λ s. then (releaseName j s) (λ t. then (releaseName k t) (λ u. answer u nonRef)) in
     unreadable-then r j none 105 (λ s. then (unreadable k none 105 s) end)
-    ∙ known-under (r .graph) j _ _ (fails-under (r .blurs) (not (readable (r .graph) j none)) 105 _ _ (unreadable-then r k none 105 end))
+    ∙ known-under (r .graph) j _ _ (fails-under r (barsReading (r .graph) j none) 105 _ _ (unreadable-then r k none 105 end))

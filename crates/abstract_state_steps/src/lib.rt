@@ -42,6 +42,7 @@ use abstract_state::core::release;
 use abstract_state::core::require_yes;
 use abstract_state::core::set_local;
 use abstract_state::core::violate_if;
+use abstract_state::predicates::bars_reading;
 use abstract_state::predicates::has_consistent_borrows;
 use abstract_state::predicates::has_consistent_mutable_borrows;
 use abstract_state::predicates::has_full_borrows;
@@ -50,12 +51,11 @@ use abstract_state::predicates::is_global_mutably_borrowed;
 use abstract_state::predicates::is_local_borrowed;
 use abstract_state::predicates::is_local_mutably_borrowed;
 use abstract_state::predicates::is_mutable;
-use abstract_state::predicates::is_readable;
+use abstract_state::predicates::only_if;
 use abstract_state::state::AbstractState;
 use abstract_state::state::AbstractValue;
 use abstract_state::state::LOCALS;
 use abstract_state::state::Local;
-use borrow_graph::graph::YesOrNo;
 use file_format::LocalIndex;
 use file_format::SignatureToken;
 use meaning::EDGE_WORDS;
@@ -65,14 +65,10 @@ use paths::Label;
 use references::RefID;
 use references::rows::LabelFilter;
 ghost use mathlib.Core.Path.{_≡_};
-ghost use mathlib.Core.Bool.{not, cond};
 ghost use mathlib.Core.List.{List};
-ghost use mathlib.Core.Option.{some};
 ghost use Prim.Native.Nat.{ℕ};
-ghost use Rattle.meaning.specs.Limits.{BORROWFIELD-EXISTS-MUTABLE-BORROW};
+ghost use Rattle.meaning.specs.Limits.{BORROWFIELD-EXISTS-MUTABLE-BORROW, GLOBAL-REFERENCE};
 ghost use Rattle.meaning.specs.Answers as Out;
-ghost use Rattle.meaning.specs.Labels.{fieldLabel};
-ghost use Rattle.meaning.specs.BorrowGraph as L;
 ghost use Rattle.meaning.specs.AbstractState as S;
 ghost use Rattle.meaning.specs.EntryPoints as R;
 ghost use Rattle.references.specs.Models.{filterOf};
@@ -296,17 +292,10 @@ fn violate_if_unreadable(
     code: u8,
 ) -> AbstractState
     requires { ⌜ (code ≡ 0 → ⊥) ⌝ }
-    ensures { λ r. ⌜ ((ls : List ℕ) → Does (λ s. R.needsName (s .graph) (id .0) (Out.fails (s .blurs) (not (R.readable (s .graph) (id .0) (filterOf at))) code (Out.Outcome.done s))) (words ls (now (names .entry)) (now (edges .entry)) state) (words ls (now (names .entry)) (now (edges .entry)) r)) ⌝ }
+    ensures { λ r. ⌜ ((ls : List ℕ) → Does (λ s. R.needsName (s .graph) (id .0) (R.fails s (R.barsReading (s .graph) (id .0) (filterOf at)) code (Out.Outcome.done s))) (words ls (now (names .entry)) (now (edges .entry)) state) (words ls (now (names .entry)) (now (edges .entry)) r)) ⌝ }
 {
-    let b = is_readable(names, edges, state, id, at);
-    violate_if(
-        state,
-        YesOrNo {
-            refusal: b.refusal,
-            yes: !b.yes,
-        },
-        code,
-    )
+    let b = bars_reading(names, edges, state, id, at);
+    violate_if(state, b, code)
 }
 
 pub fn read_ref(
@@ -349,14 +338,8 @@ pub fn borrow_loc(
 {
     let b = is_local_mutably_borrowed(names, edges, state, i);
     let new = fresh(state);
-    let s = violate_if(
-        state,
-        YesOrNo {
-            refusal: b.refusal,
-            yes: !mutable & b.yes,
-        },
-        BORROWLOC_EXISTS_BORROW,
-    );
+    let c = only_if(!mutable, b);
+    let s = violate_if(state, c, BORROWLOC_EXISTS_BORROW);
     let t = new_ref(names, s, mutable);
     let u = add_local_borrow(names, edges, t, i, new);
     give(u, AbstractValue::Reference(new))
@@ -389,7 +372,7 @@ fn violate_if_field_borrowed(
     id: RefID,
     field: u16,
 ) -> AbstractState
-    ensures { λ r. ⌜ ((ls : List ℕ) → Does (λ s. R.needsName (s .graph) (id .0) (Out.fails (s .blurs) (cond mutable (L.fullyBorrowed (s .graph) (id .0)) (not (R.readable (s .graph) (id .0) (some (fieldLabel field))))) BORROWFIELD-EXISTS-MUTABLE-BORROW (Out.Outcome.done s))) (words ls (now (names .entry)) (now (edges .entry)) state) (words ls (now (names .entry)) (now (edges .entry)) r)) ⌝ }
+    ensures { λ r. ⌜ ((ls : List ℕ) → Does (λ s. R.needsName (s .graph) (id .0) (R.fails s (R.barsFieldBorrow mutable (s .graph) (id .0) field) BORROWFIELD-EXISTS-MUTABLE-BORROW (Out.Outcome.done s))) (words ls (now (names .entry)) (now (edges .entry)) state) (words ls (now (names .entry)) (now (edges .entry)) r)) ⌝ }
 {
     let code = BORROWFIELD_EXISTS_MUTABLE_BORROW;
     if mutable {
@@ -409,20 +392,29 @@ pub fn borrow_global(
 ) -> AbstractState
     ensures { λ r. ⌜ ((ls : List ℕ) → Gives (R.borrowGlobal mutable resource) (words ls (now (names .entry)) (now (edges .entry)) state) (words ls (now (names .exit)) (now (edges .exit)) r)) ⌝ }
 {
-    let b = is_global_borrowed(names, edges, state, resource);
-    let m = is_global_mutably_borrowed(names, edges, state, resource);
     let new = fresh(state);
-    let s = violate_if(
-        state,
-        YesOrNo {
-            refusal: b.refusal,
-            yes: (mutable & b.yes) | m.yes,
-        },
-        GLOBAL_REFERENCE,
-    );
+    let s = violate_if_resource_borrowed(names, edges, state, mutable, resource);
     let t = new_ref(names, s, mutable);
     let u = add_resource_borrow(names, edges, t, resource, new);
     give(u, AbstractValue::Reference(new))
+}
+
+// A mutable borrow fails on any borrow; another one, on a mutable borrow.
+fn violate_if_resource_borrowed(
+    names: &[u32; MAX_NAMES],
+    edges: &[[u32; EDGE_WORDS]; MAX_EDGES],
+    state: AbstractState,
+    mutable: bool,
+    resource: u16,
+) -> AbstractState
+    ensures { λ r. ⌜ ((ls : List ℕ) → Does (λ s. R.needsName (s .graph) (s .root) (R.fails s (R.barsResourceBorrow mutable (s .graph) (s .root) resource) GLOBAL-REFERENCE (Out.Outcome.done s))) (words ls (now (names .entry)) (now (edges .entry)) state) (words ls (now (names .entry)) (now (edges .entry)) r)) ⌝ }
+{
+    if mutable {
+        let b = is_global_borrowed(names, edges, state, resource);
+        return violate_if(state, b, GLOBAL_REFERENCE);
+    }
+    let b = is_global_mutably_borrowed(names, edges, state, resource);
+    violate_if(state, b, GLOBAL_REFERENCE)
 }
 
 pub fn move_from(

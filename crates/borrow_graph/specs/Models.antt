@@ -1,17 +1,19 @@
 -- What the arrays and structs of the code stand for in the definitions.
 use Prim.Native.Nat.{ℕ, _≤_}
 use mathlib.Core.Path.{_≡_}
-use mathlib.Core.Bool.{Bool}
+use mathlib.Core.Bool.{Bool, cond}
 use mathlib.Core.List.{List, map}
-use lib.Dec.{eqb}
+use mathlib.Core.Option.{Option, none, some}
+use lib.Dec.{eqb, ltb}
 use lib.ListN.{length, take}
-use Rattle.meaning.specs.Limits.{maxNames, maxEdges}
+use Rattle.meaning.specs.Limits.{maxNames, maxEdges, u16End}
 use Rattle.meaning.specs.Answers.{Ans, leaves}
 use Rattle.meaning.specs.BorrowGraph.{Graph, Borrows, Change, eqPair, wellFormed}
 use Rattle.references.specs.Models.{edgesIn, namesIn, told}
 use Rattle.borrow_graph.specs.declared.graph.BorrowGraph.{BorrowGraph}
 use Rattle.borrow_graph.specs.declared.graph.Answer.{Answer}
 use Rattle.borrow_graph.specs.declared.graph.YesOrNo.{YesOrNo}
+use Rattle.borrow_graph.specs.declared.graph.Lowest.{Lowest}
 use Rattle.borrow_graph.specs.declared.graph.BorrowedBy.{BorrowedBy}
 use Rattle.borrow_graph.specs.declared.lookups.Ends.{Ends}
 use Rattle.borrow_graph.specs.declared.lookups.Ends.the-variants.{From, To, Between}
@@ -33,8 +35,15 @@ pub record Tells (ns : List ℕ) (es : List (List ℕ)) (g : BorrowGraph) : Type
 abbrev pub toldOf : YesOrNo → Ans Bool
 toldOf a = told (a .refusal) (a .yes)
 
+-- a lowest offset, or none
+abbrev pub lowIn : ℕ → Option ℕ
+lowIn w = cond (ltb w u16End) (some w) none
+
+abbrev pub lowOf : Lowest → Ans (Option ℕ)
+lowOf a = told (a .refusal) (lowIn (a .offset))
+
 abbrev pub borrowsOf : BorrowedBy → Borrows
-borrowsOf a = record { full = a .full; consistent = a .consistent; mutable = a .mutable }
+borrowsOf a = record { full = lowIn (a .full); consistent = lowIn (a .consistent); mutable = lowIn (a .mutable) }
 
 abbrev pub borrowedOf : BorrowedBy → Ans Borrows
 borrowedOf a = told (a .refusal) (borrowsOf a)

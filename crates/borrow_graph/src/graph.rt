@@ -63,13 +63,22 @@ pub struct YesOrNo {
     pub yes: bool,
 }
 
-// A refusal's number, or 0 and whether there is an empty-path borrow, one that counts, and one that counts with a mutable
-// borrower. Beside a refusal the three are free.
+// Where the lowest of some edges' offsets is given: there is no such edge. (Any number from here on says so.)
+pub const NO_OFFSET: u32 = 65536;
+
+// A refusal's number, or 0 and the lowest offset among the edges that were asked for. Beside a refusal it is free.
+pub struct Lowest {
+    pub refusal: u8,
+    pub offset: u32,
+}
+
+// A refusal's number, or 0 and the lowest offsets among the empty-path borrows, among those that count, and among those that count with a
+// mutable borrower. Beside a refusal the three are free.
 pub struct BorrowedBy {
     pub refusal: u8,
-    pub full: bool,
-    pub consistent: bool,
-    pub mutable: bool,
+    pub full: u32,
+    pub consistent: u32,
+    pub mutable: u32,
 }
 
 // A refusal's number, or 0 and how many names or edges were found. Beside a refusal `len` is free.

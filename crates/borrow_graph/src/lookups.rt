@@ -1,15 +1,17 @@
 // The look-ups of borrows and of edges. Where each stands in the Rust (graph.rs):
 //
 //   here            the Rust
-//   borrowed_by     48 `borrowed_by`, with what its callers ask of the two maps
+//   borrowed_by     48 `borrowed_by`, with what its callers ask of the two maps; of the locations in them, the lowest
 //   between_edges   71 `between_edges`
 //   out_edges       80 `out_edges`
 //   in_edges        93 `in_edges`
 use crate::graph::BorrowGraph;
 use crate::graph::BorrowedBy;
 use crate::graph::Found;
+use crate::graph::NO_OFFSET;
 use crate::refs::holds;
 use crate::refs::is_mutable_in;
+use file_format::CodeOffset;
 use meaning::EDGE_WORDS;
 use meaning::MAX_EDGES;
 use meaning::MAX_NAMES;
@@ -19,6 +21,7 @@ use references::rows::LabelFilter;
 use references::rows::child;
 use references::rows::labels;
 use references::rows::meets;
+use references::rows::offset;
 use references::rows::parent;
 ghost use mathlib.Core.Path.{_≡_};
 ghost use mathlib.Core.List.{List};
@@ -28,15 +31,23 @@ ghost use Rattle.meaning.specs.Limits.{maxNames, maxEdges};
 ghost use Rattle.meaning.specs.Lists.{keep};
 ghost use Rattle.meaning.specs.BorrowGraph.{ofName, borrowedBy, outEdges, inEdges, betweenEdges};
 ghost use Rattle.references.specs.Models.{rowOf, namesIn, edgesIn, filterOf, told};
-ghost use Rattle.borrow_graph.specs.Models.{graphIn, Tells, borrowsOf, borrowedOf};
+ghost use Rattle.borrow_graph.specs.Models.{graphIn, Tells, lowIn, borrowsOf, borrowedOf};
 ghost use Rattle.borrow_graph.specs.Models as M;
-ghost use Rattle.borrow_graph.specs.Folds.{noBorrows, addBorrow, borrowsIn};
+ghost use Rattle.borrow_graph.specs.Folds.{noBorrows, lowerIf, addBorrow, borrowsIn};
 
 // The edges that are looked up: those from a name, to a name, or between two.
 pub(crate) enum Ends {
     From(RefID),
     To(RefID),
     Between(RefID, RefID),
+}
+
+// The lower of two offsets, if the second counts.
+fn lower(lowest: u32, counts: bool, loc: CodeOffset) -> u32
+    ensures { λ r. ⌜ lowIn r ≡ lowerIf counts (loc .0) (lowIn lowest) ⌝ }
+{
+    let l = loc.0 as u32;
+    if counts & (l < lowest) { l } else { lowest }
 }
 
 // One borrow more.
@@ -53,11 +64,12 @@ pub(crate) fn add(
     let counts = meets(x, at);
     let c = child(x);
     let writes = is_mutable_in(names, n, c);
+    let loc = offset(x);
     BorrowedBy {
         refusal: found.refusal,
-        full: found.full | bare,
-        consistent: found.consistent | counts,
-        mutable: found.mutable | (counts & writes),
+        full: lower(found.full, bare, loc),
+        consistent: lower(found.consistent, counts, loc),
+        mutable: lower(found.mutable, counts & writes, loc),
     }
 }
 
@@ -74,9 +86,9 @@ pub(crate) fn borrows(
     let k = lesser(m, MAX_EDGES);
     let mut found = BorrowedBy {
         refusal: 0,
-        full: false,
-        consistent: false,
-        mutable: false,
+        full: NO_OFFSET,
+        consistent: NO_OFFSET,
+        mutable: NO_OFFSET,
     };
     let mut i: usize = 0;
     while i < k {
@@ -106,9 +118,9 @@ pub fn borrowed_by(
     }
     BorrowedBy {
         refusal: 9,
-        full: false,
-        consistent: false,
-        mutable: false,
+        full: NO_OFFSET,
+        consistent: NO_OFFSET,
+        mutable: NO_OFFSET,
     }
 }
 

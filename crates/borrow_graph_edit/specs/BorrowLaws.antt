@@ -62,8 +62,8 @@ keep-both q (x ∷ xs) = go (q x) (keep-both q xs)
     go true h = omega arith
     go false h = omega arith
 
--- the strong borrow of p by c: what it moves, and what stays
-module _ (ns : List Name) (es : List GEdge) (p : ℕ) (path : List ℕ) (c : ℕ) where
+-- the strong borrow of p by c, at offset o: what it moves, and what stays
+module _ (ns : List Name) (es : List GEdge) (p : ℕ) (path : List ℕ) (c o : ℕ) where
   abbrev moving : List GEdge
   moving = keep (moves p path) es
 
@@ -74,7 +74,7 @@ module _ (ns : List Name) (es : List GEdge) (p : ℕ) (path : List ℕ) (c : ℕ
   aside = all (λ x. not (eqb c (x .child))) moving
 
   abbrev pub strong : GEdge
-  strong = between p (record { strong = true; path = path }) c
+  strong = between p (record { strong = true; path = path; offset = o }) c
 
   no-third : (a b d : Bool) → a && b ≡ false → a && (b && d) ≡ false
   no-third true true d h = absurd (false≢true (sym h))
@@ -86,20 +86,20 @@ module _ (ns : List Name) (es : List GEdge) (p : ℕ) (path : List ℕ) (c : ℕ
   last-no true false = refl
   last-no false b = refl
 
-  pub strong-names : wellFormed (graphWith ns es) && pairOk ns p c ≡ false → borrowStrong (graphWith ns es) p path c ≡ refuse 9
-  strong-names h = strong-9 (graphWith ns es) p path c (no-third (wellFormed (graphWith ns es)) (pairOk ns p c) aside h)
+  pub strong-names : wellFormed (graphWith ns es) && pairOk ns p c ≡ false → borrowStrong (graphWith ns es) p path c o ≡ refuse 9
+  strong-names h = strong-9 (graphWith ns es) p path c o (no-third (wellFormed (graphWith ns es)) (pairOk ns p c) aside h)
 
-  pub strong-ends : aside ≡ false → borrowStrong (graphWith ns es) p path c ≡ refuse 9
+  pub strong-ends : aside ≡ false → borrowStrong (graphWith ns es) p path c o ≡ refuse 9
   strong-ends h =
-      strong-9 (graphWith ns es) p path c
+      strong-9 (graphWith ns es) p path c o
       (ap (λ (b : Bool). wellFormed (graphWith ns es) && (pairOk ns p c && b)) h ∙ last-no (wellFormed (graphWith ns es)) (pairOk ns p c))
 
   module _ (t : wellFormed (graphWith ns es) && pairOk ns p c ≡ true) where
     whole : wellFormed (graphWith ns es) ≡ true
     whole = and-l (wellFormed (graphWith ns es)) (pairOk ns p c) t
 
-    pub strong-idle : any (moves p path) es ≡ false → borrowStrong (graphWith ns es) p path c ≡ andThen (addEdge (graphWith ns es) strong) limit
-    strong-idle h = strong-still (graphWith ns es) p path c whole (and-r (wellFormed (graphWith ns es)) (pairOk ns p c) t) h
+    pub strong-idle : any (moves p path) es ≡ false → borrowStrong (graphWith ns es) p path c o ≡ andThen (addEdge (graphWith ns es) strong) limit
+    strong-idle h = strong-still (graphWith ns es) p path c o whole (and-r (wellFormed (graphWith ns es)) (pairOk ns p c) t) h
 
     module _ (a : aside ≡ true) (few : length es ≤ 96) where
       test : wellFormed (graphWith ns es) && (pairOk ns p c && aside) ≡ true
@@ -108,7 +108,7 @@ module _ (ns : List Name) (es : List GEdge) (p : ℕ) (path : List ℕ) (c : ℕ
       pub staying-formed : (fs : List GEdge) → fs ≡ staying → wellFormed (graphWith ns fs) ≡ true
       staying-formed fs e =
           let k : length staying ≤ 96 = omega (arith, few, keep-few (λ x. not (moves p path x)) es) in
-          ap (λ (l : List GEdge). wellFormed (graphWith ns l)) e ∙ stay-formed (graphWith ns es) p path c test k
+          ap (λ (l : List GEdge). wellFormed (graphWith ns l)) e ∙ stay-formed (graphWith ns es) p path c o test k
 
       pub moving-fits : (k : ℕ) (fs : List GEdge) → length fs ≡ k → fs ≡ staying → k + length moving ≤ 96
       moving-fits k fs n e =
@@ -116,12 +116,12 @@ module _ (ns : List Name) (es : List GEdge) (p : ℕ) (path : List ℕ) (c : ℕ
           omega (arith, few, n, z, keep-both (moves p path) es)
 
       pub moving-pairs : all (λ y. pairOk ns c (y .child)) moving ≡ true
-      moving-pairs = moved-pairs (graphWith ns es) p path c test
+      moving-pairs = moved-pairs (graphWith ns es) p path c o test
 
       pub strong-moved : (fs hs : List GEdge) → fs ≡ staying → Moved (graphWith ns fs) c path moving (graphWith ns hs)
-          → borrowStrong (graphWith ns es) p path c ≡ andThen (addEdge (graphWith ns hs) strong) limit
+          → borrowStrong (graphWith ns es) p path c o ≡ andThen (addEdge (graphWith ns hs) strong) limit
       strong-moved fs hs e m =
-          strong-last (graphWith ns es) p path c test (graphWith ns hs)
+          strong-last (graphWith ns es) p path c o test (graphWith ns hs)
           (subst (λ (l : List GEdge). Moved (graphWith ns l) c path moving (graphWith ns hs)) e m)
 
 -- ---- the test of a call: the flag, the names, and that the number of rows is one

@@ -8,7 +8,7 @@ use lib.Dec.{eqb, leb}
 use lib.ListN.{length, take, drop}
 use Rattle.meaning.specs.Answers.{Ans, ok, refuse, andThen}
 use Rattle.meaning.specs.Lists.{keep}
-use Rattle.meaning.specs.References.{Edge, EdgeSet, insert, offer, Report, report, offerReport}
+use Rattle.meaning.specs.References.{Edge, EdgeSet, insert, offer, Report, report, offerReport, fits}
 use Rattle.meaning.specs.BorrowGraph.{GEdge, isBefore, tagged, setAt, setTo, newlyBlurred}
 use Rattle.meaning.specs.Refinement.Pairs.{edgesAt, replaceOne, fewEdges}
 use Rattle.meaning.specs.Laws.Pair.{Neat, length-setTo}
@@ -71,7 +71,7 @@ pub row-short : (r : List ℕ) → length (rowOf r .edge .path) ≤ 8
 row-short r = rw upTo-length (omega arith)
 
 -- a short edge is never refused
-pub taken-in : (s v : EdgeSet) (e : Edge) (n : ℕ) → length (e .path) ≤ 8 → told n v ≡ offer s (ok e) → insert s e ≡ ok v
+pub taken-in : (s v : EdgeSet) (e : Edge) (n : ℕ) → length (e .path) ≤ 8 → told n v ≡ offer s (fits e) → insert s e ≡ ok v
 taken-in s v e n h q = go (eqb n 0) (q ∙ offer-ok s e) (insert-short s e h)
   where
     go : (z : Bool) → cond z (ok v) (refuse n) ≡ insert s e → (t : EdgeSet) × (insert s e ≡ ok t) → insert s e ≡ ok v
@@ -79,7 +79,7 @@ taken-in s v e n h q = go (eqb n 0) (q ∙ offer-ok s e) (insert-short s e h)
     go false p i = absurd (refuse≢ok (p ∙ i .1))
 
 -- and its report is that of the insert
-pub reported : (s v : EdgeSet) (e : Edge) (n : ℕ) (r : Report) → length (e .path) ≤ 8 → told n v ≡ offer s (ok e) → told n r ≡ offerReport s (ok e) → report s e ≡ ok r
+pub reported : (s v : EdgeSet) (e : Edge) (n : ℕ) (r : Report) → length (e .path) ≤ 8 → told n v ≡ offer s (fits e) → told n r ≡ offerReport s (fits e) → report s e ≡ ok r
 unfolding offerReport
 reported s v e n r h q z = go (eqb n 0) (q ∙ offer-ok s e) z (insert-short s e h)
   where

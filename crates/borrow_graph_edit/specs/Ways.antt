@@ -8,8 +8,8 @@ use lib.ListN.{length, getD}
 use lib.Dec.{leb, eqb}
 use Rattle.meaning.specs.Answers.{Ans, ok, refuse, andThen, guard}
 use Rattle.meaning.specs.Lists.{keep, each, all}
-use Rattle.meaning.specs.Laws.Base.{ok-inj, guard-ok, and-i, and-l, and-r, not-true, leb-le, all-imp, keep-passes}
-use Rattle.meaning.specs.References.{Edge, fitting}
+use Rattle.meaning.specs.Laws.Base.{and-i, and-l, and-r, not-true, leb-le, all-imp, keep-passes}
+use Rattle.meaning.specs.References.{Edge, Offered, fits, tooLong, fitting}
 use Rattle.meaning.specs.BorrowGraph.{Name, GEdge, Graph, holds, held, pairOk, other, setAt, setTo, between, splice, spliced, without, wellFormed, addEdge, addAll, limit, release}
 use Rattle.meaning.specs.Laws.Call.{holds-all}
 use Rattle.meaning.specs.Laws.Graph.{wf→inv, room}
@@ -70,9 +70,21 @@ module _ (q : GEdge → Bool) (empty single : Bool) (a : GEdge) (all : List GEdg
 
 -- ---- at most one way, as the code makes it
 
-fitted : (e d : Edge) → fitting e ≡ ok d → e ≡ d
+fitted : (e d : Edge) → fitting e ≡ fits d → e ≡ d
 unfolding fitting
-fitted e d f = ok-inj (guard-ok (leb (length (e .path)) 8) 22 (ok e) d f .1)
+fitted e d f = go (leb (length (e .path)) 8) f
+  where
+    edgeOr : Offered → Edge
+    edgeOr (fits a) = a
+    edgeOr (tooLong o) = d
+
+    isFit : Offered → Bool
+    isFit (fits a) = true
+    isFit (tooLong o) = false
+
+    go : (b : Bool) → cond b (fits e) (tooLong (e .offset)) ≡ fits d → e ≡ d
+    go true q = ap edgeOr q
+    go false q = absurd (false≢true (ap isFit q))
 
 no-ways : (xs : List GEdge) → ways xs [] ≡ []
 no-ways [] = refl
@@ -85,22 +97,22 @@ no-way false false xs ys l r v = absurd (false≢true v)
 
 -- x and y are the rows in mind, z the row that is made of them, p and q its ends
 module _ (ss st : Bool) (x y z : GEdge) (xs ys : List GEdge) (h : ss ≡ true → xs ≡ x ∷ []) (k : st ≡ true → ys ≡ y ∷ [])
-    (fits : Bool) (e : cond fits (ok (z .edge)) (refuse 22) ≡ fitting (splice (x .edge) (y .edge))) (zp : z .parent ≡ x .parent) (zc : z .child ≡ y .child)
+    (fit : Bool) (e : cond fit (fits (z .edge)) (tooLong (z .edge .offset)) ≡ fitting (splice (x .edge) (y .edge))) (zp : z .parent ≡ x .parent) (zc : z .child ≡ y .child)
     (p q : ℕ) (px : p ≡ x .parent) (qy : q ≡ y .child) where
   abbrev put : List GEdge
   put = between (z .parent) (z .edge) (z .child) ∷ []
 
-  pub only-way : (ss && st) && (eqb p q || fits) ≡ true → ways xs ys ≡ cond (not (eqb p q)) put []
+  pub only-way : (ss && st) && (eqb p q || fit) ≡ true → ways xs ys ≡ cond (not (eqb p q)) put []
   only-way v =
-      let o = and-l (ss && st) (eqb p q || fits) v in
+      let o = and-l (ss && st) (eqb p q || fit) v in
       (λ i. ways (h (and-l ss st o) i) (k (and-r ss st o) i))
       ∙ (λ i. (cond (not (eqb (sym px i) (sym qy i))) (w ∷ []) [] ++ []) ++ [])
-      ∙ way (eqb p q) fits e (and-r (ss && st) (eqb p q || fits) v)
+      ∙ way (eqb p q) fit e (and-r (ss && st) (eqb p q || fit) v)
     where
       w : GEdge
       w = between (x .parent) (splice (x .edge) (y .edge)) (y .child)
 
-      way : (b f : Bool) → cond f (ok (z .edge)) (refuse 22) ≡ fitting (splice (x .edge) (y .edge)) → b || f ≡ true → (cond (not b) (w ∷ []) [] ++ []) ++ [] ≡ cond (not b) put []
+      way : (b f : Bool) → cond f (fits (z .edge)) (tooLong (z .edge .offset)) ≡ fitting (splice (x .edge) (y .edge)) → b || f ≡ true → (cond (not b) (w ∷ []) [] ++ []) ++ [] ≡ cond (not b) put []
       way true f g u = refl
       way false true g u = let d = fitted (splice (x .edge) (y .edge)) (z .edge) (sym g) in λ i. between (sym zp i) (d i) (sym zc i) ∷ []
       way false false g u = absurd (false≢true u)

@@ -12,6 +12,7 @@ use crate::blurs::newly_blurred;
 use crate::edges::add_edge;
 use borrow_graph::graph::BorrowGraph;
 use borrow_graph::refs;
+use file_format::CodeOffset;
 use meaning::EDGE_WORDS;
 use meaning::MAX_EDGES;
 use meaning::MAX_NAMES;
@@ -142,18 +143,19 @@ fn add_moved(
 fn factor_below(
     edges: &mut [[u32; EDGE_WORDS]; MAX_EDGES],
     m: usize,
+    loc: CodeOffset,
     parent: RefID,
     path: LabelFilter,
     child: RefID,
 ) -> Changed
     requires { ⌜ m ≤ maxEdges ⌝ }
-    ensures { λ r. ⌜ (r .edges ≤ maxEdges) × (length (now (edges .entry)) ≡ maxEdges → (ns : List Name) → wellFormed (graphWith ns (edgesIn (now (edges .entry)) m)) && pairOk ns (parent .0) (child .0) ≡ true → Edits (borrowStrong (graphWith ns (edgesIn (now (edges .entry)) m)) (parent .0) (pathAt path) (child .0)) ns (now (edges .entry)) m (now (edges .exit)) r) ⌝ }
+    ensures { λ r. ⌜ (r .edges ≤ maxEdges) × (length (now (edges .entry)) ≡ maxEdges → (ns : List Name) → wellFormed (graphWith ns (edgesIn (now (edges .entry)) m)) && pairOk ns (parent .0) (child .0) ≡ true → Edits (borrowStrong (graphWith ns (edgesIn (now (edges .entry)) m)) (parent .0) (pathAt path) (child .0) (loc .0)) ns (now (edges .entry)) m (now (edges .exit)) r) ⌝ }
 {
     if none_ends_at(edges, m, parent, path, child) {
         let old = *edges;
         let k = take_out(edges, m, parent, path);
         let n = add_moved(edges, k, &old, m, parent, path, child);
-        let x = rows::edge(parent, true, path, child);
+        let x = rows::edge(loc, parent, true, path, child);
         let a = add_edge(edges, n, x);
         if a.refusal == 0 {
             return Changed {
@@ -180,17 +182,18 @@ fn factor_below(
 fn factor(
     edges: &mut [[u32; EDGE_WORDS]; MAX_EDGES],
     m: usize,
+    loc: CodeOffset,
     parent: RefID,
     path: LabelFilter,
     child: RefID,
 ) -> Changed
     requires { ⌜ m ≤ maxEdges ⌝ }
-    ensures { λ r. ⌜ (r .edges ≤ maxEdges) × (length (now (edges .entry)) ≡ maxEdges → (ns : List Name) → wellFormed (graphWith ns (edgesIn (now (edges .entry)) m)) && pairOk ns (parent .0) (child .0) ≡ true → Edits (borrowStrong (graphWith ns (edgesIn (now (edges .entry)) m)) (parent .0) (pathAt path) (child .0)) ns (now (edges .entry)) m (now (edges .exit)) r) ⌝ }
+    ensures { λ r. ⌜ (r .edges ≤ maxEdges) × (length (now (edges .entry)) ≡ maxEdges → (ns : List Name) → wellFormed (graphWith ns (edgesIn (now (edges .entry)) m)) && pairOk ns (parent .0) (child .0) ≡ true → Edits (borrowStrong (graphWith ns (edgesIn (now (edges .entry)) m)) (parent .0) (pathAt path) (child .0) (loc .0)) ns (now (edges .entry)) m (now (edges .exit)) r) ⌝ }
 {
     if any_moves(edges, m, parent, path) {
-        return factor_below(edges, m, parent, path, child);
+        return factor_below(edges, m, loc, parent, path, child);
     }
-    let x = rows::edge(parent, true, path, child);
+    let x = rows::edge(loc, parent, true, path, child);
     add_edge(edges, m, x)
 }
 
@@ -200,16 +203,17 @@ pub fn add_strong_borrow(
     names: &[u32; MAX_NAMES],
     edges: &mut [[u32; EDGE_WORDS]; MAX_EDGES],
     g: BorrowGraph,
+    loc: CodeOffset,
     parent: RefID,
     path: LabelFilter,
     child: RefID,
 ) -> Blurring
-    ensures { λ r. ⌜ (Tells (now (names .entry)) (now (edges .entry)) g → Blurs (borrowStrong (graphIn (now (names .entry)) (now (edges .entry)) g) (parent .0) (pathAt path) (child .0)) (now (names .entry)) (now (edges .entry)) g (now (names .entry)) (now (edges .exit)) r) ⌝ }
+    ensures { λ r. ⌜ (Tells (now (names .entry)) (now (edges .entry)) g → Blurs (borrowStrong (graphIn (now (names .entry)) (now (edges .entry)) g) (parent .0) (pathAt path) (child .0) (loc .0)) (now (names .entry)) (now (edges .entry)) g (now (names .entry)) (now (edges .exit)) r) ⌝ }
 {
     let m = g.edges;
     let h = refs::pair_ok(names, g.refs, parent, child);
     if g.formed & h & (m <= MAX_EDGES) {
-        let r = factor(edges, m, parent, path, child);
+        let r = factor(edges, m, loc, parent, path, child);
         return Blurring {
             refusal: r.refusal,
             graph: BorrowGraph {
@@ -231,16 +235,17 @@ pub fn add_weak_borrow(
     names: &[u32; MAX_NAMES],
     edges: &mut [[u32; EDGE_WORDS]; MAX_EDGES],
     g: BorrowGraph,
+    loc: CodeOffset,
     parent: RefID,
     path: LabelFilter,
     child: RefID,
 ) -> Blurring
-    ensures { λ r. ⌜ (Tells (now (names .entry)) (now (edges .entry)) g → Blurs (borrowWeak (graphIn (now (names .entry)) (now (edges .entry)) g) (parent .0) (pathAt path) (child .0)) (now (names .entry)) (now (edges .entry)) g (now (names .entry)) (now (edges .exit)) r) ⌝ }
+    ensures { λ r. ⌜ (Tells (now (names .entry)) (now (edges .entry)) g → Blurs (borrowWeak (graphIn (now (names .entry)) (now (edges .entry)) g) (parent .0) (pathAt path) (child .0) (loc .0)) (now (names .entry)) (now (edges .entry)) g (now (names .entry)) (now (edges .exit)) r) ⌝ }
 {
     let m = g.edges;
     let h = refs::pair_ok(names, g.refs, parent, child);
     if g.formed & h & (m <= MAX_EDGES) {
-        let x = rows::edge(parent, false, path, child);
+        let x = rows::edge(loc, parent, false, path, child);
         let r = add_edge(edges, m, x);
         return Blurring {
             refusal: r.refusal,

@@ -1,5 +1,6 @@
 // Replays the stored list of the oracle's answers, from standard input: oracle/README.md says how it was made, oracle/src/stored.rs its
-// format. Prints how many answers are stored and how many of ours agree, visits and blurred sets too, after a line for each entry that does not.
+// format. Prints how many answers are stored and how many of ours agree, with their visits, blurred sets and borrows, after a line for each entry
+// that does not.
 use libc::STDIN_FILENO;
 use libc::STDOUT_FILENO;
 use meaning::AREA_WORDS;
@@ -35,9 +36,9 @@ fn same(tail: &[u8], at: usize, w: u32) -> bool
     word(tail, at) == w as usize
 }
 
-fn agrees(listing: &[u8], tail: &[u8; 28]) -> bool {
+fn agrees(listing: &[u8], tail: &[u8; 32]) -> bool {
     let mut area = work_area();
-    let mut answer = [0u32; 6];
+    let mut answer = [0u32; 7];
     let is_answered = reference_safety_verify(listing, &mut area, &mut answer);
     let kind = same(tail, 4, answer[0]);
     let number = same(tail, 8, answer[1]);
@@ -45,7 +46,8 @@ fn agrees(listing: &[u8], tail: &[u8; 28]) -> bool {
     let visits = same(tail, 16, answer[3]);
     let blurred_low = same(tail, 20, answer[4]);
     let blurred_high = same(tail, 24, answer[5]);
-    is_answered & kind & number & place & visits & blurred_low & blurred_high
+    let borrowed_at = same(tail, 28, answer[6]);
+    is_answered & kind & number & place & visits & blurred_low & blurred_high & borrowed_at
 }
 
 // Prints the number of an entry that differs.
@@ -63,7 +65,7 @@ fn read_word(fd: i32) -> usize
     word(&bytes, 0)
 }
 
-// Reads the next entry: its listing after its length, then whose answer it is and the answer's six words.
+// Reads the next entry: its listing after its length, then whose answer it is and the answer's seven words.
 fn next_agrees(fd: i32) -> bool {
     let n = read_word(fd);
     let mut listing = io::large_buffer();
@@ -71,7 +73,7 @@ fn next_agrees(fd: i32) -> bool {
         return false;
     }
     io::read_full(fd, &mut listing[..n]);
-    let mut tail = [0u8; 28];
+    let mut tail = [0u8; 32];
     io::read_full(fd, &mut tail);
     agrees(&listing[..n], &tail)
 }

@@ -1,4 +1,5 @@
--- What the loader prints, in ASCII: `ACCEPT` and a line `BLURRED n`, `VIOLATION code offset` or `REFUSED number place`, decimal.
+-- What the loader prints, in ASCII: `ACCEPT` and a line `BLURRED n`, `VIOLATION code offset` and a line `BORROWED AT n`, or `REFUSED number place`,
+-- decimal.
 use Prim.Native.Nat.{ℕ, zero, suc, _+_, _/_, _%_}
 use mathlib.Core.Bool.{cond}
 use mathlib.Core.List.{List, [], _∷_, _++_}
@@ -39,10 +40,15 @@ refused = 82 ∷ 69 ∷ 70 ∷ 85 ∷ 83 ∷ 69 ∷ 68 ∷ 32 ∷ []
 abbrev pub blurredIs : List ℕ
 blurredIs = 66 ∷ 76 ∷ 85 ∷ 82 ∷ 82 ∷ 69 ∷ 68 ∷ 32 ∷ []
 
--- A1: "The program prints a further line, `BLURRED n`, after an acceptance"; k is the number of sets blurred
+-- `BORROWED AT `
+abbrev pub borrowedAt : List ℕ
+borrowedAt = 66 ∷ 79 ∷ 82 ∷ 82 ∷ 79 ∷ 87 ∷ 69 ∷ 68 ∷ 32 ∷ 65 ∷ 84 ∷ 32 ∷ []
+
+-- A1: "The program prints a further line, `BLURRED n`, after an acceptance"; k is the number of sets blurred. A9: "After a violation the program
+-- prints `BORROWED AT n`".
 abbrev pub verdictLine : ℕ → Verdict → List ℕ
 verdictLine k accept = accepted ++ newline ++ blurredIs ++ decimalOf k ++ newline
-verdictLine k (violation code offset) = violated ++ numbersOf code offset
+verdictLine k (violation code offset at) = violated ++ numbersOf code offset ++ borrowedAt ++ decimalOf at ++ newline
 verdictLine k (refusal number place) = refused ++ numbersOf number place
 
 abbrev pub lineOf : Answered → List ℕ

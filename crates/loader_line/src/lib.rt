@@ -9,12 +9,12 @@ ghost use lib.ListN.{length};
 ghost use Rattle.meaning.specs.Area.{cleared};
 ghost use Rattle.meaning.specs.Verify as Whole;
 ghost use Rattle.absint.specs.Models.{verdictOf};
-ghost use Rattle.loader_line.specs.Text.{accepted, newline, blurredIs, decimalOf, numbersOf, lineOf};
+ghost use Rattle.loader_line.specs.Text.{accepted, violated, newline, blurredIs, borrowedAt, decimalOf, numbersOf, lineOf};
 ghost use Rattle.loader_line.specs.Models.{textOf, Within};
 
 // Lines in the making, with room for the longest and more. Bytes from `len` on are free.
 pub struct Line {
-    pub bytes: [u8; 64],
+    pub bytes: [u8; 96],
     pub len: usize,
 }
 
@@ -31,11 +31,9 @@ pub fn verdict_line(v: Verdict) -> Line
     let ruling = v.ruling;
     match ruling {
         Ruling::Accept => accept_lines(v.blurred),
-        Ruling::Violation(code, offset) => put_numbers(
-            put(no_text(), b"VIOLATION "),
-            code,
-            offset.0 as usize,
-        ),
+        Ruling::Violation(code, offset, borrowed_at) => {
+            violation_lines(code, offset.0 as usize, borrowed_at.0 as u64)
+        }
         Ruling::Refused(number, place) => put_numbers(put(no_text(), b"REFUSED "), number, place),
     }
 }
@@ -48,11 +46,20 @@ fn accept_lines(blurred: u64) -> Line
     put(put_decimal(l, blurred), b"\n")
 }
 
+// So has a violation.
+fn violation_lines(code: u8, offset: usize, borrowed_at: u64) -> Line
+    ensures { λ r. ⌜ (textOf r ≡ violated ++ numbersOf code offset ++ borrowedAt ++ decimalOf «borrowed_at» ++ newline) × Within r ⌝ }
+{
+    let l = put_numbers(put(no_text(), b"VIOLATION "), code, offset);
+    let m = put(l, b"BORROWED AT ");
+    put(put_decimal(m, borrowed_at), b"\n")
+}
+
 fn no_text() -> Line
     ensures { λ r. ⌜ (textOf r ≡ []) × (r .len ≡ 0) × Within r ⌝ }
 {
     Line {
-        bytes: [0; 64],
+        bytes: [0; 96],
         len: 0,
     }
 }
@@ -60,14 +67,14 @@ fn no_text() -> Line
 // Two numbers, a space between them, and the end of the line.
 fn put_numbers(l: Line, a: u8, b: usize) -> Line
     requires { ⌜ l .len ≤ 20 ⌝ }
-    ensures { λ r. ⌜ (textOf r ≡ textOf l ++ numbersOf a b) × Within r ⌝ }
+    ensures { λ r. ⌜ (textOf r ≡ textOf l ++ numbersOf a b) × (r .len ≤ l .len + 42) × Within r ⌝ }
 {
     let first = put(put_decimal(l, a as u64), b" ");
     put(put_decimal(first, b as u64), b"\n")
 }
 
 fn put_decimal(l: Line, n: u64) -> Line
-    requires { ⌜ l .len ≤ 42 ⌝ }
+    requires { ⌜ l .len ≤ 74 ⌝ }
     ensures { λ r. ⌜ (textOf r ≡ textOf l ++ decimalOf n) × (r .len ≤ l .len + 20) × Within r ⌝ }
 {
     let mut digits = [0u8; 20];
@@ -76,7 +83,7 @@ fn put_decimal(l: Line, n: u64) -> Line
 }
 
 fn put(l: Line, text: &[u8]) -> Line
-    requires { ⌜ l .len + length (now text) ≤ 64 ⌝ }
+    requires { ⌜ l .len + length (now text) ≤ 96 ⌝ }
     ensures { λ r. ⌜ (textOf r ≡ textOf l ++ now (text .entry)) × (r .len ≡ l .len + length (now (text .entry))) × Within r ⌝ }
 {
     let at = l.len;

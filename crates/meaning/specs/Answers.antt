@@ -2,6 +2,7 @@
 -- added where a block or the reader knows it.
 use Prim.Native.Nat.{ℕ}
 use mathlib.Core.Bool.{Bool, true, false, not, _&&_}
+use mathlib.Core.Option.{Option, none, some}
 use lib.Dec.{eqb}
 
 -- ---- an answer: a value, or the number of a refusal
@@ -28,10 +29,11 @@ leaves a (refuse n) = a
 
 -- ---- outcomes
 
--- What an instruction answers: done; a violation: how many sets were blurred on the way, and its code; or a refusal's number.
+-- What an instruction answers: done; a violation: how many sets were blurred on the way, its code, and where what it fails on was borrowed; or
+-- a refusal's number.
 pub data Outcome (A : Type 0) : Type 0 where
   done : A → Outcome A
-  violated : ℕ → ℕ → Outcome A
+  violated : ℕ → ℕ → ℕ → Outcome A
   refused : ℕ → Outcome A
 
 -- a refusal that a run may give: not one of the caller's, 8, 9 and 23
@@ -41,7 +43,7 @@ ordinary n = not (eqb n 8) && (not (eqb n 9) && not (eqb n 23))
 -- "Later ones follow the Rust's step order, first one ends the run"
 abbrev pub then : {A B : Type 0} → Outcome A → (A → Outcome B) → Outcome B
 then (done a) f = f a
-then (violated k c) f = violated k c
+then (violated k c o) f = violated k c o
 then (refused n) f = refused n
 
 -- a graph call's answer within an instruction
@@ -49,10 +51,10 @@ abbrev pub lift : {A : Type 0} → Ans A → Outcome A
 lift (ok a) = done a
 lift (refuse n) = refused n
 
--- the violation c, if the test holds, where b sets were blurred before
-abbrev pub fails : {A : Type 0} → ℕ → Bool → ℕ → Outcome A → Outcome A
-fails b true c k = violated b c
-fails b false c k = k
+-- the violation c, if an edge fails the test, the lowest one's offset being given; b sets were blurred before
+abbrev pub failsAt : {A : Type 0} → ℕ → Option ℕ → ℕ → Outcome A → Outcome A
+failsAt b none c k = k
+failsAt b (some o) c k = violated b c o
 
 -- the refusal n, unless the test holds
 abbrev pub needs : {A : Type 0} → Bool → ℕ → Outcome A → Outcome A

@@ -1,7 +1,7 @@
 -- The lent area: 16 blocks of 1,024 words. What any words of a block say of its kept state:
 --   word i below 16       local i; and in units of 262,144: in word 0 whether a state is kept, in words 1 and 2 how many names and edges
 --   word 16 + i           name i
---   words 64 + 10 × i on  edge i: its ends; its marks and how many labels; up to eight labels
+--   words 64 + 10 × i on  edge i: its ends; its offset, its marks and how many labels; up to eight labels
 -- A count beyond a limit of document 01 reads as the limit, and words of what is not held are free.
 use Prim.Native.Nat.{ℕ, zero, suc, _/_, _%_, min, _+_, _*_}
 use mathlib.Core.Bool.{cond, Bool, false, _&&_}
@@ -46,13 +46,13 @@ nameIn w = record { id = w % u16End; mutable = eqb (w / u16End) 1 }
 abbrev pub labelIn : ℕ → ℕ
 labelIn w = w % labelEnd
 
--- marks: in units of 32 blurred, of 16 strong, and below that the number of labels
+-- marks: in units of 65,536 the offset, of 32 blurred, of 16 strong, and below that the number of labels
 abbrev pub edgeOf : ℕ → ℕ → (ℕ → ℕ) → GEdge
 edgeOf ends marks label = record {
   parent = ends / u16End;
   child = ends % u16End;
-  blurred = eqb (marks / 32) 1;
-  edge = record { strong = eqb (marks / 16 % 2) 1; path = upTo (min (marks % 16) maxLabels) label };
+  blurred = eqb (marks / 32 % 2) 1;
+  edge = record { strong = eqb (marks / 16 % 2) 1; path = upTo (min (marks % 16) maxLabels) label; offset = marks / u16End };
 }
 
 -- the edge whose words stand from `at` on

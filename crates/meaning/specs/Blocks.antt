@@ -21,13 +21,13 @@ pub record Routine : Type 0 where
 unfoldable pub instrsOf : Block → List Instr → List Instr
 instrsOf b is = take (suc (b .exit - b .entry)) (drop (b .entry) is)
 
--- "Frame root is name L; fresh names start at L + 1 in each block"; k sets were blurred before
-abbrev pub startWith : ℕ → ℕ → State → Running
-startWith k l s = record { locals = s .locals; graph = s .graph; next = suc l; root = l; blurs = k }
+-- "Frame root is name L; fresh names start at L + 1 in each block"; k sets were blurred before, and o is the offset of what runs
+abbrev pub startWith : ℕ → ℕ → ℕ → State → Running
+startWith k o l s = record { locals = s .locals; graph = s .graph; next = suc l; root = l; blurs = k; offset = o }
 
 -- "here each block starts with an empty stack"
 abbrev pub startMachine : ℕ → State → Machine
-startMachine l s = record { state = startWith 0 l s; stack = [] }
+startMachine l s = record { state = startWith 0 0 l s; stack = [] }
 
 -- 16 has the "exit of the block just run" for its place; k sets were blurred in the visit
 abbrev pub renamedEnd : ℕ → ℕ → Ans State → Result State
@@ -47,14 +47,21 @@ finish b r (v ∷ vs) = Result.refused 14 (b .exit)
 -- the outcome of the instruction at this offset, which is the place of what it refuses: done, the block goes on
 abbrev pub settle : ℕ → Outcome Machine → (Machine → Result State) → Result State
 settle o (done m) k = k m
-settle o (violated n c) k = Result.violated n c o
+settle o (violated n c a) k = Result.violated n c o a
 settle o (refused n) k = Result.refused n o
+
+-- the instruction at this offset runs
+abbrev pub machineAt : ℕ → Machine → Machine
+machineAt o m = record {
+  state = record { locals = m .state .locals; graph = m .state .graph; next = m .state .next; root = m .state .root; blurs = m .state .blurs; offset = o };
+  stack = m .stack;
+}
 
 -- the instructions in order, the first one at this offset (the Rust's execute_block)
 unfoldable pub runFrom : ℕ → Block → ℕ → List Instr → Machine → Result State
 unfolding step
 runFrom returns b o [] m = finish b (m .state) (m .stack)
-runFrom returns b o (i ∷ is) m = settle o (step returns i m) (λ n. runFrom returns b (suc o) is n)
+runFrom returns b o (i ∷ is) m = settle o (step returns i (machineAt o m)) (λ n. runFrom returns b (suc o) is n)
 
 -- "it runs from its kept state"
 unfoldable pub runBlock : Routine → Block → State → Result State

@@ -1,5 +1,5 @@
 -- Borrow graphs (graph.rs): the names held, and one list of the edges of all pairs.
-use Prim.Native.Nat.{ℕ, suc}
+use Prim.Native.Nat.{ℕ, suc, min}
 use mathlib.Core.Bool.{Bool, _&&_, _||_, cond, not, true, false}
 use mathlib.Core.List.{List, [], _++_, _∷_, map}
 use mathlib.Core.Option.{Option, none, some}
@@ -129,9 +129,10 @@ addAll (x ∷ xs) g = andThen (addEdge g x) (λ h. addAll xs h)
 unfoldable pub limit : Graph → Ans Graph
 limit g = guard (leb (length (g .edges)) maxEdges) 21 (ok g)
 
--- "Strong [F1] then strong [F2]: strong [F1,F2]. Strong [F1] then weak [F2]: weak [F1,F2]. Weak [F1] then strong [F2]: weak [F1]."
+-- "Strong [F1] then strong [F2]: strong [F1,F2]. Strong [F1] then weak [F2]: weak [F1,F2]. Weak [F1] then strong [F2]: weak [F1]." A9: "a
+-- spliced edge takes the child edge's" offset.
 unfoldable pub splice : Edge → Edge → Edge
-splice e f = record { strong = e .strong && f .strong; path = cond (e .strong) (e .path ++ f .path) (e .path) }
+splice e f = record { strong = e .strong && f .strong; path = cond (e .strong) (e .path ++ f .path) (e .path); offset = f .offset }
 
 -- an edge from p to c
 abbrev pub between : ℕ → Edge → ℕ → GEdge
@@ -209,28 +210,28 @@ newName g n m =
     (guard (leb (suc (length (g .names))) maxNames) 23
     (ok (record { names = putName (record { id = n; mutable = m }) (g .names); edges = g .edges }))))
 
--- a weak borrow of p at a path, by c: 9 where a name is missing or "parent equals child"
-unfoldable pub borrowWeak : Graph → ℕ → List ℕ → ℕ → Ans Graph
+-- a weak borrow of p at a path, by c, in the instruction at offset o: 9 where a name is missing or "parent equals child"
+unfoldable pub borrowWeak : Graph → ℕ → List ℕ → ℕ → ℕ → Ans Graph
 unfolding wellFormed holds addEdge limit
-borrowWeak g p path c =
-    guard (wellFormed g && pairOk (g .names) p c) 9 (andThen (addAll (between p (record { strong = false; path = path }) c ∷ []) g) limit)
+borrowWeak g p path c o =
+    guard (wellFormed g && pairOk (g .names) p c) 9 (andThen (addAll (between p (record { strong = false; path = path; offset = o }) c ∷ []) g) limit)
 
 -- the edges of p that a strong borrow at this path moves under the child
 abbrev pub moves : ℕ → List ℕ → GEdge → Bool
 moves p path x = eqb p (x .parent) && prefix path (x .edge .path)
 
--- such an edge under the child: its path loses the front that the borrow has
+-- such an edge under the child: its path loses the front that the borrow has. A9: "Factored edges retain theirs".
 abbrev pub shift : ℕ → List ℕ → GEdge → GEdge
-shift c path x = between c (record { strong = x .edge .strong; path = drop (length path) (x .edge .path) }) (x .child)
+shift c path x = between c (record { strong = x .edge .strong; path = drop (length path) (x .edge .path); offset = x .edge .offset }) (x .child)
 
--- a strong borrow of p at a path, by c (the Rust's `factor`). "Parent P holds C by strong [F1,F2]; strong borrow of F1 to N: P–N strong [F1],
--- N–C strong [F2], no P–C edge." "9: .. a strong borrow would move an edge that ends at the child."
-unfoldable pub borrowStrong : Graph → ℕ → List ℕ → ℕ → Ans Graph
+-- a strong borrow of p at a path, by c, in the instruction at offset o (the Rust's `factor`). "Parent P holds C by strong [F1,F2]; strong
+-- borrow of F1 to N: P–N strong [F1], N–C strong [F2], no P–C edge." "9: .. a strong borrow would move an edge that ends at the child."
+unfoldable pub borrowStrong : Graph → ℕ → List ℕ → ℕ → ℕ → Ans Graph
 unfolding wellFormed holds addAll limit prefix
-borrowStrong g p path c =
+borrowStrong g p path c o =
     guard (wellFormed g && (pairOk (g .names) p c && all (λ x. not (eqb c (x .child))) (keep (moves p path) (g .edges)))) 9
     (andThen
-    (addAll (map (shift c path) (keep (moves p path) (g .edges)) ++ (between p (record { strong = true; path = path }) c ∷ []))
+    (addAll (map (shift c path) (keep (moves p path) (g .edges)) ++ (between p (record { strong = true; path = path; offset = o }) c ∷ []))
     (record { names = g .names; edges = keep (λ x. not (moves p path x)) (g .edges) }))
     limit)
 
@@ -322,18 +323,26 @@ abbrev pub emptyPath : List ℕ → Bool
 emptyPath [] = true
 emptyPath (a ∷ p) = false
 
--- has_full_borrows: an empty-path borrow
-unfoldable pub fullyBorrowed : Graph → ℕ → Bool
-fullyBorrowed g n = any (λ x. eqb n (x .parent) && emptyPath (x .edge .path)) (g .edges)
+-- What one edge does to the name n: it borrows the whole (an empty-path borrow, has_full_borrows); it borrows a part that meets the label
+-- (has_consistent_borrows); it does so for a mutable borrower (has_consistent_mutable_borrows).
+abbrev pub borrowsFully : ℕ → GEdge → Bool
+borrowsFully n x = eqb n (x .parent) && emptyPath (x .edge .path)
 
--- has_consistent_borrows
-unfoldable pub borrowed : Graph → ℕ → Option ℕ → Bool
-borrowed g n at = any (λ x. eqb n (x .parent) && meetsLabel at (x .edge .path)) (g .edges)
+abbrev pub borrows : ℕ → Option ℕ → GEdge → Bool
+borrows n at x = eqb n (x .parent) && meetsLabel at (x .edge .path)
 
--- has_consistent_mutable_borrows
-unfoldable pub mutablyBorrowed : Graph → ℕ → Option ℕ → Bool
-unfolding isMutable
-mutablyBorrowed g n at = any (λ x. (eqb n (x .parent) && meetsLabel at (x .edge .path)) && isMutable g (x .child)) (g .edges)
+abbrev pub borrowsMutably : Graph → ℕ → Option ℕ → GEdge → Bool
+borrowsMutably g n at x = borrows n at x && isMutable g (x .child)
+
+-- the lower of an offset and another, if there is another
+abbrev pub lowerOf : ℕ → Option ℕ → ℕ
+lowerOf o none = o
+lowerOf o (some a) = min o a
+
+-- A9: "the lowest offset among the edges" that pass a test; none, where no edge does
+unfoldable pub lowestOf : (GEdge → Bool) → List GEdge → Option ℕ
+lowestOf p [] = none
+lowestOf p (x ∷ xs) = cond (p x) (some (lowerOf (x .edge .offset) (lowestOf p xs))) (lowestOf p xs)
 
 -- a look-up: 9 where the graph is not well formed or lacks the name
 abbrev pub ofName : {A : Type 0} → Graph → ℕ → A → Ans A
@@ -349,15 +358,21 @@ allRefs g = guard (wellFormed g) 9 (ok (g .names))
 unfoldable pub mutableOf : Graph → ℕ → Ans Bool
 mutableOf g n = ofName g n (isMutable g n)
 
--- The borrows of a name: is there an empty-path borrow; one that meets the label, if one is given, else any; and such a one
--- with a mutable borrower.
+-- The borrows of a name, each by the lowest offset, or none: the empty-path borrows; those that meet the label, if one is given, else all; and
+-- such ones with a mutable borrower.
 pub record Borrows : Type 0 where
-  pub full : Bool
-  pub consistent : Bool
-  pub mutable : Bool
+  pub full : Option ℕ
+  pub consistent : Option ℕ
+  pub mutable : Option ℕ
 
 unfoldable pub borrowedBy : Graph → ℕ → Option ℕ → Ans Borrows
-borrowedBy g n at = ofName g n (record { full = fullyBorrowed g n; consistent = borrowed g n at; mutable = mutablyBorrowed g n at })
+unfolding lowestOf isMutable
+borrowedBy g n at =
+    ofName g n (record {
+      full = lowestOf (borrowsFully n) (g .edges);
+      consistent = lowestOf (borrows n at) (g .edges);
+      mutable = lowestOf (borrowsMutably g n at) (g .edges);
+    })
 
 unfoldable pub outEdges : Graph → ℕ → Ans (List GEdge)
 outEdges g n = ofName g n (keep (λ x. eqb n (x .parent)) (g .edges))

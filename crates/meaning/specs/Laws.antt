@@ -25,6 +25,8 @@ pub mod Join
 pub mod Label
 pub mod Listing
 pub mod Loop
+pub mod Lowest
+pub mod Offsets
 pub mod Own
 pub mod Pair
 pub mod PairCall
@@ -32,6 +34,9 @@ pub mod Pass
 pub mod Place
 pub mod Promised
 pub mod Put
+pub mod Redate
+pub mod RedateRun
+pub mod RedateStep
 pub mod Remap
 pub mod Rename
 pub mod RenameStep
@@ -43,3 +48,4 @@ pub mod Set
 pub mod Spliced
 pub mod State
 pub mod Step
+pub mod Tests

@@ -20,19 +20,19 @@ mostVisits b l = b * (1 + b * mostChanges l)
 -- ---- what the loop works on
 
 -- What running a block answers. `ended`: "its end state, renamed", for its successors; `returned`: the block ended and has no successors,
--- so its state goes to nobody; a violation, code and offset; a refusal, number and place. The first three have in front how many sets the
--- visit blurred.
+-- so its state goes to nobody; a violation, code, offset and where what it fails on was borrowed; a refusal, number and place. The first three
+-- have in front how many sets the visit blurred.
 pub data Result (St : Type 0) : Type 0 where
   ended : ℕ → St → Result St
   returned : ℕ → Result St
-  violated : ℕ → ℕ → ℕ → Result St
+  violated : ℕ → ℕ → ℕ → ℕ → Result St
   refused : ℕ → ℕ → Result St
 
 -- what a visit passes up: where a refusal ends it, none
 abbrev pub passedUp : {St : Type 0} → Result St → ℕ
 passedUp (ended k t) = k
 passedUp (returned k) = k
-passedUp (violated k c o) = k
+passedUp (violated k c o a) = k
 passedUp (refused n p) = 0
 
 -- "entry u16, exit u16, n u8 (0–2), n successors u16": successors by their entries
@@ -41,11 +41,11 @@ pub record Block : Type 0 where
   pub exit : ℕ
   pub successors : List ℕ
 
--- how a block's last run ended: "in error", with a violation's code and offset, or not (the Rust's BlockPostcondition). "An error may
+-- how a block's last run ended: "in error", with a violation's code, offset and borrow, or not (the Rust's BlockPostcondition). "An error may
 -- vanish on a later visit", and does where a join changes the kept state.
 pub data Status : Type 0 where
   fine : Status
-  failed : ℕ → ℕ → Status
+  failed : ℕ → ℕ → ℕ → Status
 
 -- "Each block has a kept state or none." (The Rust's BlockInvariant; `changes` counts the joins that changed the kept state.)
 pub record Slot (St : Type 0) : Type 0 where
@@ -146,7 +146,7 @@ module _ (St : Type 0) (join : St → St → Ans St) (joinBlurs : St → St → 
       let a : Propagation St = propagate b t (b .successors) first in
       record { slots = a .slots; next = a .next; trail = i ∷ r .trail; blurs = r .blurs + k + propagateBlurs b t (b .successors) first }
   afterBlock r i (returned k) = record { slots = mark (r .slots) i fine; next = at (suc i); trail = i ∷ r .trail; blurs = r .blurs + k }
-  afterBlock r i (violated k c o) = record { slots = mark (r .slots) i (failed c o); next = at (suc i); trail = i ∷ r .trail; blurs = r .blurs + k }
+  afterBlock r i (violated k c o a) = record { slots = mark (r .slots) i (failed c o a); next = at (suc i); trail = i ∷ r .trail; blurs = r .blurs + k }
   afterBlock r i (refused n p) = record { slots = r .slots; next = stopped n p; trail = i ∷ r .trail; blurs = r .blurs }
 
   -- "A next block without a kept state is passed over; that is no visit, and the block listed after it is next. Otherwise it runs from its
@@ -189,22 +189,24 @@ module _ (St : Type 0) (join : St → St → Ans St) (joinBlurs : St → St → 
 
 -- ---- the verdict of a run
 
+-- a violation by its code, its offset and, by A9, the offset behind `BORROWED AT`; a refusal by its number and place
 pub data Verdict : Type 0 where
   accept : Verdict
-  violation : ℕ → ℕ → Verdict
+  violation : ℕ → ℕ → ℕ → Verdict
   refusal : ℕ → ℕ → Verdict
 
--- a block that ended in error: its entry, and the violation's code and offset
+-- a block that ended in error: its entry, and the violation's code, offset and borrow
 pub record Failure : Type 0 where
   pub entry : ℕ
   pub code : ℕ
   pub offset : ℕ
+  pub borrowedAt : ℕ
 
 -- the failure of the lower entry: of the lowest so far and of a block with entry e
 abbrev pub lower : ℕ → Status → Option Failure → Option Failure
 lower e fine f = f
-lower e (failed c o) none = some (record { entry = e; code = c; offset = o })
-lower e (failed c o) (some f) = some (cond (ltb e (f .entry)) (record { entry = e; code = c; offset = o }) f)
+lower e (failed c o a) none = some (record { entry = e; code = c; offset = o; borrowedAt = a })
+lower e (failed c o a) (some f) = some (cond (ltb e (f .entry)) (record { entry = e; code = c; offset = o; borrowedAt = a }) f)
 
 -- "the lowest entry that ends in error, if any", given the lowest so far
 unfoldable pub lowest : {St : Type 0} → List Block → List (Slot St) → Option Failure → Option Failure
@@ -214,7 +216,7 @@ lowest (x ∷ xs) (s ∷ ss) f = lowest xs ss (lower (x .entry) (s .status) f)
 
 abbrev pub verdictFor : Option Failure → Verdict
 verdictFor none = accept
-verdictFor (some f) = violation (f .code) (f .offset)
+verdictFor (some f) = violation (f .code) (f .offset) (f .borrowedAt)
 
 -- "The verdict is the violation of the lowest entry that ends in error, if any."; a refusal that ended the run comes before
 abbrev pub verdictAt : {St : Type 0} → List Block → List (Slot St) → Next → Verdict

@@ -5,29 +5,31 @@ use mathlib.Core.List.{List, [], _∷_}
 use lib.Dec.{eqb, ltb, leb}
 use lib.ListN.{length}
 use Rattle.meaning.specs.Limits.{maxSetSize, maxLabels}
-use Rattle.meaning.specs.Answers.{Ans, ok, refuse, guard}
+use Rattle.meaning.specs.Answers.{Ans, ok, refuse}
 use Rattle.meaning.specs.Lists.{any, all}
 
--- "An edge is strong or weak and has a path (a list of labels)."
+-- "An edge is strong or weak and has a path (a list of labels)." A9: "Each edge should carry the offset of the instruction that made it.
+-- Equality, order and covering ignore it".
 pub record Edge : Type 0 where
   pub strong : Bool
   pub path : List ℕ
+  pub offset : ℕ
 
 -- the edges of one pair of names; `blurred` is the Rust's `overflown`
 pub record EdgeSet : Type 0 where
   pub edges : List Edge
   pub blurred : Bool
 
--- "one weak edge with empty path"
-abbrev pub weakest : Edge
-weakest = record { strong = false; path = [] }
+-- "one weak edge with empty path", from the instruction at this offset
+abbrev pub weakest : ℕ → Edge
+weakest o = record { strong = false; path = []; offset = o }
 
 abbrev pub emptySet : EdgeSet
 emptySet = record { edges = []; blurred = false }
 
 -- "one weak edge with empty path, blurred"
-abbrev pub blur : EdgeSet
-blur = record { edges = weakest ∷ []; blurred = true }
+abbrev pub blur : ℕ → EdgeSet
+blur o = record { edges = weakest o ∷ []; blurred = true }
 
 -- the first path is the start of the second
 unfoldable pub prefix : List ℕ → List ℕ → Bool
@@ -98,12 +100,13 @@ put e [] = e ∷ []
 put e (x ∷ xs) = cond (ltEdge e x) (e ∷ x ∷ xs) (x ∷ put e xs)
 
 -- "Nine edges and a new one: ten, not blurred. Ten edges and any insert, even a duplicate: one weak edge with empty path, blurred. A blurred
--- set ignores inserts." "22: an edge of over 8 labels is put into an unblurred set of fewer than ten."
+-- set ignores inserts." "22: an edge of over 8 labels is put into an unblurred set of fewer than ten." A9: "an equal edge already in a set
+-- retains its own" offset, "and a blurred edge takes that of the edge whose insert blurred it."
 unfoldable pub insert : EdgeSet → Edge → Ans EdgeSet
 unfolding has put
 insert s e =
     cond (s .blurred) (ok s)
-    (cond (leb maxSetSize (length (s .edges))) (ok blur)
+    (cond (leb maxSetSize (length (s .edges))) (ok (blur (e .offset)))
     (cond (leb (length (e .path)) maxLabels)
     (cond (has e (s .edges)) (ok s) (ok (record { edges = put e (s .edges); blurred = false })))
     (refuse 22)))
@@ -121,21 +124,25 @@ report s e =
     (cond (has e (s .edges)) (ok alreadyThere) (ok added))
     (refuse 22)))
 
--- an edge whose path has at most 8 labels, or the refusal 22
-unfoldable pub fitting : Edge → Ans Edge
-fitting e = guard (leb (length (e .path)) maxLabels) 22 (ok e)
+-- an edge to put in; of one whose path has over 8 labels only the offset is told
+pub data Offered : Type 0 where
+  fits : Edge → Offered
+  tooLong : ℕ → Offered
 
--- an insert of what may be too long: only where the edge would be put in is its refusal given
-unfoldable pub offer : EdgeSet → Ans Edge → Ans EdgeSet
+unfoldable pub fitting : Edge → Offered
+fitting e = cond (leb (length (e .path)) maxLabels) (fits e) (tooLong (e .offset))
+
+-- an insert of what may be too long: only where the edge would be put in is the refusal given
+unfoldable pub offer : EdgeSet → Offered → Ans EdgeSet
 unfolding insert
-offer s (ok e) = insert s e
-offer s (refuse n) = cond (s .blurred) (ok s) (cond (leb maxSetSize (length (s .edges))) (ok blur) (refuse n))
+offer s (fits e) = insert s e
+offer s (tooLong o) = cond (s .blurred) (ok s) (cond (leb maxSetSize (length (s .edges))) (ok (blur o)) (refuse 22))
 
 -- what that reports
-unfoldable pub offerReport : EdgeSet → Ans Edge → Ans Report
+unfoldable pub offerReport : EdgeSet → Offered → Ans Report
 unfolding report
-offerReport s (ok e) = report s e
-offerReport s (refuse n) = cond (s .blurred) (ok blurredBefore) (cond (leb maxSetSize (length (s .edges))) (ok blurredNow) (refuse n))
+offerReport s (fits e) = report s e
+offerReport s (tooLong o) = cond (s .blurred) (ok blurredBefore) (cond (leb maxSetSize (length (s .edges))) (ok blurredNow) (refuse 22))
 
 -- ---- a set as a well-formed graph has it (or the empty one)
 
@@ -149,11 +156,11 @@ ordered (x ∷ xs) = all (ltEdge x) xs && ordered xs
 unfoldable pub short : Edge → Bool
 short e = leb (length (e .path)) maxLabels
 
--- "a blurred set is one weak edge with empty path"
+-- "a blurred set is one weak edge with empty path", of any offset
 unfoldable pub isBlur : List Edge → Bool
 unfolding eqEdge
 isBlur [] = false
-isBlur (x ∷ []) = eqEdge x weakest
+isBlur (x ∷ []) = eqEdge x (weakest 0)
 isBlur (x ∷ y ∷ ys) = false
 
 -- "a set has 1 to 10 different edges with paths of at most 8 labels; a blurred set is one weak edge with empty path" (or it is the empty set

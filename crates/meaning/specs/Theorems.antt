@@ -1,28 +1,34 @@
 -- The headline statements about the definitions, in one file. The proofs are in Laws.
-use Prim.Native.Nat.{ℕ, _≤_, _*_}
+use Prim.Native.Nat.{ℕ, _≤_, _<_, _*_}
 use native.Mathlib.Omega.{arith}
 use mathlib.Core.Bool.{true}
 use mathlib.Core.List.{List}
 use mathlib.Core.Logic.{_≢_}
 use mathlib.Core.Option.{some}
 use mathlib.Core.Path.{_≡_}
+use lib.Dec.{ltb}
 use lib.ListN.{length, getD}
 use Rattle.meaning.specs.Answers.{ok}
 use Rattle.meaning.specs.Lists.{all}
 use Rattle.meaning.specs.References.{covered}
-use Rattle.meaning.specs.BorrowGraph.{setAt}
+use Rattle.meaning.specs.BorrowGraph.{Graph, setAt}
 use Rattle.meaning.specs.AbstractState.{State, Form, Parts, joinLocals, join, changed, changes, joinBlurs}
 use Rattle.meaning.specs.Blocks.{Routine, exec}
-use Rattle.meaning.specs.Loop.{mostChanges, mostVisits, visits, passedUp, blank, hasEnded, refusal}
+use Rattle.meaning.specs.Loop.{mostChanges, mostVisits, visits, passedUp, blank, hasEnded, violation, refusal}
 use Rattle.meaning.specs.Listing.{read, readListing}
 use Rattle.meaning.specs.Verify.{runWith, runOf, verify}
 use Rattle.meaning.specs.Marked as Marked
 use Rattle.meaning.specs.Laws.Few.{exec-few}
 use Rattle.meaning.specs.Laws.Listing.{accepted-promised}
+use Rattle.meaning.specs.Laws.Offsets as Offsets
 use Rattle.meaning.specs.Laws.Promised.{promised}
+use Rattle.meaning.specs.Laws.RedateRun.{redateAnswered, forget, undated, verifyBy}
+use Rattle.meaning.specs.Laws.RedateRun as Redates
 use Rattle.meaning.specs.Laws.State.{Forms}
 use Rattle.meaning.specs.Laws.State as States
 use Rattle.meaning.specs.Laws.Run as Runs
+use Rattle.meaning.specs.Laws.Tests.{Stays}
+use Rattle.meaning.specs.Laws.Tests as Tests
 
 -- ---- the marked cases
 
@@ -73,3 +79,28 @@ demand3 s q e =
       answered = Runs.answer-visits s q e;
       refused = Runs.answer-refusals s q e;
     }
+
+-- ---- A9: where it was borrowed
+
+-- "Join covering and the verdicts are those we have today." For each violation, 101 to 114, the test of before is that some edge fails the test on one
+-- edge. n is the name that is tested.
+pub tests-stay : (g : Graph) (n : ℕ) → Stays g n
+tests-stay = Tests.tests-stay
+
+-- "Equality, order and covering ignore it", and so do well-formedness, the rank of a state and what a join changed.
+pub ignored : Offsets.Ignored
+ignored = Offsets.ignored
+
+-- Forgetting the offsets of a run gives the run of before: one whose instructions put no offset but 0 on their edges. So verdicts, visits, the order
+-- of the visits, blurred sets and, but for their offsets, kept states are those of before; of a violation the code and its own offset stay.
+pub forgotten : ((words : ℕ) (s : List ℕ) → redateAnswered (λ o. 0) (λ o. o) (verify words s) ≡ verifyBy (λ o. 0) words s)
+    × ((q : Routine) → forget (runOf q) ≡ undated q)
+forgotten = (Redates.forgotten, Redates.forgotten-run)
+
+-- "Each edge should carry the offset of the instruction that made it": of a listing that is read, what a violation prints behind `BORROWED AT` is the
+-- offset of an instruction, and so is the offset of each edge of a state that any run keeps.
+pub borrowed-at : (s : List ℕ) (q : Routine) → readListing s ≡ read q
+    → ((words c o a : ℕ) → verify words s .verdict ≡ violation c o a → (o < length (q .code)) × (a < length (q .code)))
+    × ((budget j : ℕ) (k : State) → getD (runWith q budget .slots) j blank .kept ≡ some k
+    → all (λ x. ltb (x .edge .offset) (length (q .code))) (k .graph .edges) ≡ true)
+borrowed-at s q e = (Redates.dated s q e .borrowed-at, Redates.dated s q e .kept-at)

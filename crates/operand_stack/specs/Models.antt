@@ -30,16 +30,16 @@ abbrev pub taken : {A : Type 0} → A → List Operand → Outcome (Taken A)
 taken a vs = done (record { what = a; rest = vs })
 
 abbrev pub poppedIn : List ℕ → Popped → Outcome (Taken Operand)
-poppedIn ws p = halted 0 0 (p .refusal) (record { what = operandOf (p .value); rest = stackIn ws (p .depth) })
+poppedIn ws p = halted 0 0 0 (p .refusal) (record { what = operandOf (p .value); rest = stackIn ws (p .depth) })
 
 abbrev pub poppedRefIn : List ℕ → PoppedRef → Outcome (Taken ℕ)
-poppedRefIn ws p = halted 0 0 (p .refusal) (record { what = p .id .0; rest = stackIn ws (p .depth) })
+poppedRefIn ws p = halted 0 0 0 (p .refusal) (record { what = p .id .0; rest = stackIn ws (p .depth) })
 
 abbrev pub poppedManyIn : List ℕ → PoppedMany → Outcome (Taken (List Operand))
-poppedManyIn ws p = halted 0 0 (p .refusal) (record { what = operandsOf (p .values); rest = stackIn ws (p .depth) })
+poppedManyIn ws p = halted 0 0 0 (p .refusal) (record { what = operandsOf (p .values); rest = stackIn ws (p .depth) })
 
 abbrev pub restIn : List ℕ → Rest → Outcome (List Operand)
-restIn ws p = halted 0 0 (p .refusal) (stackIn ws (p .depth))
+restIn ws p = halted 0 0 0 (p .refusal) (stackIn ws (p .depth))
 
 -- the takings of a step, with what they take as the answer
 abbrev pub popOne : List Operand → Outcome (Taken Operand)

@@ -63,11 +63,11 @@ stack-none xs = refl
 -- ---- an answer with a refusal, and what is done with it
 
 -- beside a refusal nothing counts
-pub stopped : {A : Type 0} (k : ℕ) (x y : A) → (k ≡ 0 → ⊥) → halted 0 0 k y ≡ halted 0 0 k x
+pub stopped : {A : Type 0} (k : ℕ) (x y : A) → (k ≡ 0 → ⊥) → halted 0 0 0 k y ≡ halted 0 0 0 k x
 stopped {A} k x y h = let z : eqb k 0 ≡ false = ne-eqb k 0 h in ap (λ (b : Bool). cond b (done y) (refused k)) z ∙ sym (ap (λ (b : Bool). cond b (done x) (refused k)) z)
 
-module _ {A B : Type 0} (k : ℕ) (x : A) (P : Outcome A) (f : A → Outcome B) (e : halted 0 0 k x ≡ P) where
-  pub stopped-then : (y : B) → (k ≡ 0 → ⊥) → halted 0 0 k y ≡ then P f
+module _ {A B : Type 0} (k : ℕ) (x : A) (P : Outcome A) (f : A → Outcome B) (e : halted 0 0 0 k x ≡ P) where
+  pub stopped-then : (y : B) → (k ≡ 0 → ⊥) → halted 0 0 0 k y ≡ then P f
   stopped-then y h =
       let z : eqb k 0 ≡ false = ne-eqb k 0 h in
       ap (λ (b : Bool). cond b (done y) (refused k)) z ∙ sym (ap (λ (b : Bool). then (cond b (done x) (refused k)) f) z) ∙ ap (λ (o : Outcome A). then o f) e

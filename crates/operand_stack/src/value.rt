@@ -19,7 +19,7 @@ pub struct TakenOff {
 }
 
 pub fn push(stack: Operands, value: AbstractValue) -> Pushed
-    ensures { λ r. ⌜ (halted 0 0 (r .refusal) (stackOf (r .stack)) ≡ pushEach (stackOf stack) (operandOf value ∷ [])) × Keeps (r .refusal) stack (r .stack) ⌝ }
+    ensures { λ r. ⌜ (halted 0 0 0 (r .refusal) (stackOf (r .stack)) ≡ pushEach (stackOf stack) (operandOf value ∷ [])) × Keeps (r .refusal) stack (r .stack) ⌝ }
 {
     let mut list = stack.list;
     let r = crate::push(&mut list, stack.len, value);
@@ -30,7 +30,7 @@ pub fn push(stack: Operands, value: AbstractValue) -> Pushed
 }
 
 pub fn pop(stack: Operands) -> TakenOff
-    ensures { λ r. ⌜ (halted 0 0 (r .refusal) (record { what = operandOf (r .value); rest = stackOf (r .stack) }) ≡ popOne (stackOf stack)) × Keeps (r .refusal) stack (r .stack) ⌝ }
+    ensures { λ r. ⌜ (halted 0 0 0 (r .refusal) (record { what = operandOf (r .value); rest = stackOf (r .stack) }) ≡ popOne (stackOf stack)) × Keeps (r .refusal) stack (r .stack) ⌝ }
 {
     let list = stack.list;
     let p = crate::pop(&list, stack.len);

@@ -9,7 +9,7 @@ use Rattle.operand_stack.specs.Models.{Taken, stackOf}
 use Rattle.operand_stack_lent.specs.declared.Took.{Took}
 
 abbrev pub pushedOf : ℕ → Operands → Outcome (List Operand)
-pushedOf refusal left = halted 0 0 refusal (stackOf left)
+pushedOf refusal left = halted 0 0 0 refusal (stackOf left)
 
 abbrev pub tookOf : Took → Operands → Outcome (Taken Operand)
-tookOf t left = halted 0 0 (t .refusal) (record { what = operandOf (t .value); rest = stackOf left })
+tookOf t left = halted 0 0 0 (t .refusal) (record { what = operandOf (t .value); rest = stackOf left })

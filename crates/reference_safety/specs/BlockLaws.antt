@@ -14,8 +14,9 @@ use Rattle.meaning.specs.Laws.Array.{front-map-step}
 use Rattle.meaning.specs.EntryPoints.{Running}
 use Rattle.meaning.specs.Steps.{Instr, Machine, stepOn, step}
 use Rattle.meaning.specs.Loop.{Result, Block}
-use Rattle.meaning.specs.Blocks.{Routine, instrsOf, startWith, startMachine, renamedEnd, finish, settle, runFrom, runBlock}
+use Rattle.meaning.specs.Blocks.{Routine, instrsOf, startWith, startMachine, renamedEnd, finish, settle, runFrom, runBlock, machineAt}
 use Rattle.borrow_graph.specs.Models.{Tells}
+use Rattle.abstract_state.specs.ModelLaws.{then-then, goes}
 use Rattle.abstract_state.specs.Models.{Words, words, Fits, halted, runningOf, stateOf}
 use Rattle.abstract_state.specs.declared.state.AbstractState.{AbstractState}
 use Rattle.listing.specs.Models.{withParts, decodedOf}
@@ -23,7 +24,7 @@ use Rattle.listing.specs.declared.decode.Instruction.{Instruction}
 use Rattle.listing.specs.declared.decode.Decoded.{Decoded}
 use Rattle.abstract_state_join.specs.Models.{canonicalEnd}
 use Rattle.reference_safety.specs.Models.{with, placed, Board, Ready, Runs, Steps, Ends, stateIn, machineOf}
-use Rattle.reference_safety.specs.MachineLaws.{goes, steps-from}
+use Rattle.reference_safety.specs.MachineLaws.{steps-from}
 use Rattle.operand_stack.specs.Models.{stackIn}
 use Rattle.operand_stack.specs.StackLaws.{stack-none}
 use Rattle.meaning.specs.Listing.{tokenAs}
@@ -44,10 +45,10 @@ pub going : (v n : ℕ) → v ≡ 0 → n ≡ 0 → (eqb v 0 && eqb n 0) ≡ tru
 going v n e f = ap (λ (x : ℕ). eqb x 0 && eqb n 0) e ∙ ap (λ (x : ℕ). eqb 0 0 && eqb x 0) f
 
 -- a state without a number goes on
-pub not-halted : {A : Type 0} (k v n : ℕ) (a : A) → (eqb v 0 && eqb n 0) ≡ true → halted k v n a ≡ done a
-not-halted {A} k v n a e = go (eqb v 0) (eqb n 0) e
+pub not-halted : {A : Type 0} (k v o n : ℕ) (a : A) → (eqb v 0 && eqb n 0) ≡ true → halted k v o n a ≡ done a
+not-halted {A} k v o n a e = go (eqb v 0) (eqb n 0) e
   where
-    go : (x y : Bool) → (x && y) ≡ true → cond x (cond y (done a) (refused n)) (violated k v) ≡ done a
+    go : (x y : Bool) → (x && y) ≡ true → cond x (cond y (done a) (refused n)) (violated k v o) ≡ done a
     go true true z = refl
     go true false z = absurd (true≢false (sym z))
     go false y z = absurd (true≢false (sym z))
@@ -82,28 +83,29 @@ pub code-length : (f : ℕ → Instr) (code : List ℕ) (count : ℕ) → length
 code-length f code count = simp (length-map, length-take)
 
 -- what the block comes to, once the instruction at k has this outcome
-block-next : (returns : ℕ) (b : Block) (k : ℕ) (i j : Instr) (is js : List Instr) (u v n : ℕ) (m : Machine) (o : Result State) → js ≡ i ∷ is → j ≡ i → (eqb v 0 && eqb n 0) ≡ true → runFrom returns b k js m ≡ o
-    → (q : Outcome Machine) → q ≡ then (halted u v n m) (step returns j) → settle k q (λ x. runFrom returns b (k + 1) is x) ≡ o
+block-next : (returns : ℕ) (b : Block) (k : ℕ) (i j : Instr) (is js : List Instr) (u v w n : ℕ) (m : Machine) (o : Result State) → js ≡ i ∷ is → j ≡ i
+    → (eqb v 0 && eqb n 0) ≡ true → runFrom returns b k js m ≡ o
+    → (q : Outcome Machine) → q ≡ then (halted u v w n m) (λ x. step returns j (machineAt k x)) → settle k q (λ x. runFrom returns b (k + 1) is x) ≡ o
 unfolding runFrom
-block-next returns b k i j is js u v n m o l d e h q p =
+block-next returns b k i j is js u v w n m o l d e h q p =
     ap (λ (a : ℕ). settle k q (λ x. runFrom returns b a is x)) (add-one k)
-    ∙ ap (λ (x : Outcome Machine). settle k x (λ y. runFrom returns b (suc k) is y)) (p ∙ sym (goes u v n m (step returns j) e) ∙ ap (λ (x : Instr). step returns x m) d)
+    ∙ ap (λ (x : Outcome Machine). settle k x (λ y. runFrom returns b (suc k) is y)) (p ∙ sym (goes u v w n m (λ x. step returns j (machineAt k x)) e) ∙ ap (λ (x : Instr). step returns x (machineAt k m)) d)
     ∙ ap (λ (xs : List Instr). runFrom returns b k xs m) (sym l)
     ∙ h
 
-module _ (k u v n : ℕ) (r : Running) (vs : List Operand) (f : Machine → Result State) (o : Result State) (h : settle k (halted u v n (with vs r)) f ≡ o) where
+module _ (k u v w n : ℕ) (r : Running) (vs : List Operand) (f : Machine → Result State) (o : Result State) (h : settle k (halted u v w n (with vs r)) f ≡ o) where
   block-turn : (eqb v 0 && eqb n 0) ≡ true → f (with vs r) ≡ o
   block-turn z = go (eqb v 0) (eqb n 0) z ∙ h
     where
-      go : (x y : Bool) → (x && y) ≡ true → f (with vs r) ≡ settle k (cond x (cond y (done (with vs r)) (refused n)) (violated u v)) f
+      go : (x y : Bool) → (x && y) ≡ true → f (with vs r) ≡ settle k (cond x (cond y (done (with vs r)) (refused n)) (violated u v w)) f
       go true true z = refl
       go true false z = absurd (true≢false (sym z))
       go false y z = absurd (true≢false (sym z))
 
-  block-stop : (es : List ℕ) → (eqb v 0 && eqb n 0) ≡ false → placed es k (halted u v n r) ≡ o
+  block-stop : (es : List ℕ) → (eqb v 0 && eqb n 0) ≡ false → placed es k (halted u v w n r) ≡ o
   block-stop es z = go (eqb v 0) (eqb n 0) z ∙ h
     where
-      go : (x y : Bool) → (x && y) ≡ false → placed es k (cond x (cond y (done r) (refused n)) (violated u v)) ≡ settle k (cond x (cond y (done (with vs r)) (refused n)) (violated u v)) f
+      go : (x y : Bool) → (x && y) ≡ false → placed es k (cond x (cond y (done r) (refused n)) (violated u v w)) ≡ settle k (cond x (cond y (done (with vs r)) (refused n)) (violated u v w)) f
       go true true z = absurd (true≢false z)
       go true false z = refl
       go false y z = refl
@@ -145,7 +147,7 @@ module _ (entry exit n a c : ℕ) (r : Running) (vs : List Operand) where
     unfolding canonicalEnd
     finish-some e = go n e ∙ nothing (finish block r)
       where
-        named : (es : List ℕ) (t : Ans State) → placed (a ∷ es) exit (then (lift t) (λ x. done (startWith (r .blurs) (r .root) x))) ≡ renamedEnd (r .blurs) exit t
+        named : (es : List ℕ) (t : Ans State) → placed (a ∷ es) exit (then (lift t) (λ x. done (startWith (r .blurs) (r .offset) (r .root) x))) ≡ renamedEnd (r .blurs) exit t
         named es (ok t) = refl
         named es (refuse k) = refl
 
@@ -173,22 +175,29 @@ begins q b end w s e l d r n = record {
   runs = λ h. block-start q b (stateOf (w .words)) end (runningOf (w .words)) (stackIn (w .stack) (w .depth)) (r ∙ ap {B = Running} (λ (x : State). startMachine (q .locals) x .state) (sym (ap {B = State} stateFrom r))) (ap (stackIn (w .stack)) d ∙ stack-none (w .stack)) n;
 }
 
+-- an instruction's step, once the machine has its offset
+pub at-step : {w u v : Board} (k : ℕ) (f : Machine → Outcome Machine) → Steps (λ x. done (machineAt k x)) w u → Steps f u v → Steps (λ x. f (machineAt k x)) w v
+at-step {w} k f p q = record {
+  ready = λ h. q .ready (p .ready h);
+  steps = λ h. q .steps (p .ready h) ∙ ap (λ (o : Outcome Machine). then o f) (p .steps h) ∙ then-then (machineOf w) (λ x. done (machineAt k x)) f;
+}
+
 module _ {returns k : ℕ} {b : Block} {is js : List Instr} {w : Board} {a : Words} {o : Result State} where
-  module _ {v : Board} (i j : Instr) (l : js ≡ i ∷ is) (d : j ≡ i) (p : Steps (step returns j) w v) (g : Going returns b js k w a o) where
+  module _ {v : Board} (i j : Instr) (l : js ≡ i ∷ is) (d : j ≡ i) (p : Steps (λ x. step returns j (machineAt k x)) w v) (g : Going returns b js k w a o) where
     settled : Fits a → settle k (machineOf v) (λ x. runFrom returns b (k + 1) is x) ≡ o
-    settled h = block-next returns b k i j is js (w .words .state .blurred) (w .words .state .violation) (w .words .state .refusal) (with (stackIn (w .stack) (w .depth)) (runningOf (w .words))) o l d (g .goes) (g .runs h) (machineOf v) (p .steps (g .ready h))
+    settled h = block-next returns b k i j is js (w .words .state .blurred) (w .words .state .violation) (w .words .state .«borrowed_at» .0) (w .words .state .refusal) (with (stackIn (w .stack) (w .depth)) (runningOf (w .words))) o l d (g .goes) (g .runs h) (machineOf v) (p .steps (g .ready h))
 
     pub turns : (eqb (v .words .state .violation) 0 && eqb (v .words .state .refusal) 0) ≡ true → Going returns b is (k + 1) v a o
     turns z = record {
       goes = z;
       ready = λ h. p .ready (g .ready h);
-      runs = λ h. block-turn k (v .words .state .blurred) (v .words .state .violation) (v .words .state .refusal) (runningOf (v .words)) (stackIn (v .stack) (v .depth)) (λ x. runFrom returns b (k + 1) is x) o (settled h) z;
+      runs = λ h. block-turn k (v .words .state .blurred) (v .words .state .violation) (v .words .state .«borrowed_at» .0) (v .words .state .refusal) (runningOf (v .words)) (stackIn (v .stack) (v .depth)) (λ x. runFrom returns b (k + 1) is x) o (settled h) z;
     }
 
     pub stops : (eqb (v .words .state .violation) 0 && eqb (v .words .state .refusal) 0) ≡ false → Ends b a (v .words) k o
     stops z = record {
       fits = λ h. p .ready (g .ready h) .fits;
-      ends = λ h. block-stop k (v .words .state .blurred) (v .words .state .violation) (v .words .state .refusal) (runningOf (v .words)) (stackIn (v .stack) (v .depth)) (λ x. runFrom returns b (k + 1) is x) o (settled h) (b .successors) z;
+      ends = λ h. block-stop k (v .words .state .blurred) (v .words .state .violation) (v .words .state .«borrowed_at» .0) (v .words .state .refusal) (runningOf (v .words)) (stackIn (v .stack) (v .depth)) (λ x. runFrom returns b (k + 1) is x) o (settled h) (b .successors) z;
     }
 
 pub finishes : {returns k : ℕ} {b : Block} {w : Board} {a : Words} {o : Result State} {c : Words} {p : ℕ} (n : ℕ) (is : List Instr)

@@ -10,7 +10,7 @@ use Rattle.meaning.specs.Answers.{Outcome, done, violated, refused, then}
 use Rattle.meaning.specs.EntryPoints.{Running}
 use Rattle.meaning.specs.Steps as T
 use Rattle.meaning.specs.Loop.{Result, Block}
-use Rattle.abstract_state.specs.Models.{Words, words, Fits, localsIn, halted, runningOf, outcomeOf, answerOf}
+use Rattle.abstract_state.specs.Models.{Words, words, Fits, localsIn, stopped, runningOf, outcomeOf, answerOf}
 use Rattle.listing.specs.declared.decode.Instruction.{Instruction}
 use Rattle.listing.specs.declared.decode.Instruction.the-variants.{Pop, CopyLoc, MoveLoc, StLoc, FreezeRef, Compare, ReadRef, WriteRef, BorrowLoc, BorrowField, BorrowGlobal, MoveFrom, Call, Ret, Values, MoveTo, VectorOp, BorrowElement}
 use Rattle.operand_stack.specs.Models.{stackIn}
@@ -29,7 +29,7 @@ abbrev pub board : List ℕ → List ℕ → List (List ℕ) → List ℕ → Ma
 board ls ns es ws m = record { words = words ls ns es (m .state); stack = ws; depth = m .depth }
 
 abbrev pub machineOf : Board → Outcome T.Machine
-machineOf a = halted (a .words .state .blurred) (a .words .state .violation) (a .words .state .refusal) (with (stackIn (a .stack) (a .depth)) (runningOf (a .words)))
+machineOf a = stopped (a .words .state) (with (stackIn (a .stack) (a .depth)) (runningOf (a .words)))
 
 -- that the arrays have their lengths, and the graph's struct tells the truth of them
 pub record Ready (a : Board) : Type 0 where
@@ -86,7 +86,7 @@ endFor (e ∷ es) r = Result.ended (r .blurs) (record { locals = r .locals; grap
 -- an outcome at a place
 abbrev pub placed : List ℕ → ℕ → Outcome Running → Result State
 placed es p (done r) = endFor es r
-placed es p (violated k c) = Result.violated k c p
+placed es p (violated k c a) = Result.violated k c p a
 placed es p (refused n) = Result.refused n p
 
 -- what a run of block b came to, that left these words and this place

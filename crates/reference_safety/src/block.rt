@@ -46,6 +46,7 @@ ghost use Prim.Native.Nat.{ℕ, suc, _+_, _-_, min};
 ghost use lib.Dec.{eqb};
 ghost use lib.ListN.{length};
 ghost use Rattle.meaning.specs.Limits.{maxInstructions, maxOperands};
+ghost use Rattle.meaning.specs.Answers.{done};
 ghost use Rattle.meaning.specs.Steps.{step};
 ghost use Rattle.meaning.specs.Blocks as Q;
 ghost use Rattle.listing.specs.Models.{decodedOf, blockOf, routineOf};
@@ -144,7 +145,21 @@ fn begin(state: AbstractState, locals: u8) -> Machine
     s.num_locals = locals;
     s.next_id = locals as u32 + 1;
     s.blurred = 0;
+    let offset = CodeOffset(0);
+    s.offset = offset;
     Machine { state: s, depth: 0 }
+}
+
+// The instruction at this offset is next.
+fn at_offset(m: Machine, offset: CodeOffset) -> Machine
+    ensures { λ r. ⌜ (r .depth ≡ m .depth) × ((ls ns ws : List ℕ) (es : List (List ℕ)) → Steps (λ q. done (Q.machineAt (offset .0) q)) (board ls ns es ws m) (board ls ns es ws r)) ⌝ }
+{
+    let mut s = m.state;
+    s.offset = offset;
+    Machine {
+        state: s,
+        depth: m.depth,
+    }
 }
 
 // The end of a block whose instructions are done: 14, then, with successors, 16 or the names changed.
@@ -196,6 +211,7 @@ pub fn run_block(
     let mut k = b.entry.0 as usize;
     while k < end {
         let d = decode(listing, code[k]);
+        m = at_offset(m, CodeOffset(k as u16));
         m = execute(locals, names, edges, &mut stack, m, d, routine.returns);
         let state = m.state;
         if (state.violation == 0) & (state.refusal == 0) {

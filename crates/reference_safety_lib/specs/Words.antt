@@ -1,5 +1,5 @@
--- An answer as six words: 0 accepted, 1 violation, 2 refused; the code or number; the offset or place; the visits; the number of sets blurred,
--- its low word and its high word.
+-- An answer as seven words: 0 accepted, 1 violation, 2 refused; the code or number; the offset or place; the visits; the number of sets blurred,
+-- its low word and its high word; the offset of the borrow behind a violation, else 0.
 use Prim.Native.Nat.{ℕ, _/_, _%_}
 use mathlib.Core.Path.{_≡_}
 use mathlib.Core.Bool.{Bool, true, false, cond}
@@ -13,7 +13,7 @@ use Rattle.absint.specs.Models.{Left}
 
 abbrev pub rulingWords : Verdict → ℕ → List ℕ
 rulingWords accept visits = 0 ∷ 0 ∷ 0 ∷ visits ∷ []
-rulingWords (violation code offset) visits = 1 ∷ code ∷ offset ∷ visits ∷ []
+rulingWords (violation code offset at) visits = 1 ∷ code ∷ offset ∷ visits ∷ []
 rulingWords (refusal number place) visits = 2 ∷ number ∷ place ∷ visits ∷ []
 
 -- the numbers below this fit a word
@@ -24,15 +24,20 @@ wordEnd = 4294967296
 abbrev pub blurredWords : ℕ → List ℕ
 blurredWords n = n % wordEnd ∷ n / wordEnd ∷ []
 
-abbrev pub wordsOf : Answered → List ℕ
-wordsOf a = rulingWords (a .verdict) (a .visits) ++ blurredWords (a .blurred)
+abbrev pub borrowedWord : Verdict → List ℕ
+borrowedWord accept = 0 ∷ []
+borrowedWord (violation code offset at) = at ∷ []
+borrowedWord (refusal number place) = 0 ∷ []
 
--- whether there is room for the six words
+abbrev pub wordsOf : Answered → List ℕ
+wordsOf a = rulingWords (a .verdict) (a .visits) ++ blurredWords (a .blurred) ++ borrowedWord (a .verdict)
+
+-- whether there is room for the seven words
 abbrev pub fits : List ℕ → Bool
-fits ws = leb 6 (length ws)
+fits ws = leb 7 (length ws)
 
 abbrev pub putWords : List ℕ → List ℕ → List ℕ
-putWords xs ws = xs ++ drop 6 ws
+putWords xs ws = xs ++ drop 7 ws
 
 -- the answer's words after the call, and the area's: without room nothing is written
 abbrev pub written : Answered → List ℕ → List ℕ

@@ -13,7 +13,7 @@ ghost use Rattle.absint.specs.Models.{rulingOf, verdictOf};
 ghost use Rattle.reference_safety_lib.specs.Words.{fits, written, areaAfter, putWords, wordsOf};
 ghost use Rattle.reference_safety_lib.specs.Models.{wordsIn};
 
-pub(crate) const ANSWER_WORDS: usize = 6;
+pub(crate) const ANSWER_WORDS: usize = 7;
 
 // The numbers that a word holds.
 const WORD_END: u64 = 4294967296;
@@ -25,10 +25,12 @@ struct Words {
     visits: u32,
     low: u32,
     high: u32,
+    borrowed_at: u32,
 }
 
-// The answer's first six words: 0 accepted, 1 violation, 2 refused; the code or number; the offset or place; the visits; the number of sets
-// blurred, its low word and its high word. False, and nothing is done, where the answer has fewer.
+// The answer's first seven words: 0 accepted, 1 violation, 2 refused; the code or number; the offset or place; the visits; the number of sets
+// blurred, its low word and its high word; and, after a violation, where what it fails on was borrowed, else 0. False, and nothing is done, where
+// the answer has fewer.
 #[no_mangle]
 pub extern "C" fn reference_safety_verify(
     listing: &[u8],
@@ -60,14 +62,16 @@ pub(crate) fn verdict_words(v: Verdict) -> Words
             visits: v.visits,
             low,
             high,
+            borrowed_at: 0,
         },
-        Ruling::Violation(code, offset) => Words {
+        Ruling::Violation(code, offset, borrowed_at) => Words {
             kind: 1,
             number: code as u32,
             place: offset.0 as u32,
             visits: v.visits,
             low,
             high,
+            borrowed_at: borrowed_at.0 as u32,
         },
         Ruling::Refused(number, place) => Words {
             kind: 2,
@@ -76,12 +80,13 @@ pub(crate) fn verdict_words(v: Verdict) -> Words
             visits: v.visits,
             low,
             high,
+            borrowed_at: 0,
         },
     }
 }
 
 pub(crate) fn put_words(w: Words, answer: &mut [u32])
-    requires { ⌜ 6 ≤ length (now answer) ⌝ }
+    requires { ⌜ 7 ≤ length (now answer) ⌝ }
     ensures { λ _. ⌜ now (answer .exit) ≡ putWords (wordsIn w) (now (answer .entry)) ⌝ }
 {
     answer[0] = w.kind;
@@ -90,4 +95,5 @@ pub(crate) fn put_words(w: Words, answer: &mut [u32])
     answer[3] = w.visits;
     answer[4] = w.low;
     answer[5] = w.high;
+    answer[6] = w.borrowed_at;
 }

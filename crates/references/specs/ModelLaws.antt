@@ -7,15 +7,16 @@ use native.Mathlib.Nat.{not-suc-le-zero}
 use native.Mathlib.Omega.{arith}
 use borrow.Author.Tests.{eq-eqb, ne-eqb}
 use lib.Dec.{eqb}
-use lib.ListN.{length, take, drop, getD, set, replicate, drop-of-length-le, length-map, length-take}
-use Rattle.meaning.specs.Lists.{upTo}
+use lib.ListN.{length, take, drop, getD, set, drop-of-length-le, length-map, length-take}
 use Rattle.meaning.specs.Answers.{Ans, ok, refuse, andThen, leaves}
-use Rattle.meaning.specs.References.{Edge, blur}
+use Rattle.meaning.specs.References.{Edge, EdgeSet, fits, tooLong, weakest, blur}
 use Rattle.meaning.specs.BorrowGraph.{Name, GEdge}
 use Rattle.meaning.specs.Area.{nameIn}
 use Rattle.meaning.specs.Refinement.Pairs.{or21}
+use Rattle.meaning.specs.Laws.Place.{offsetOf}
 use Rattle.meaning.specs.Laws.Array.{front-map-step, front-take, front-all, push-map, drop-set}
-use Rattle.references.specs.Models.{rowOf, edgesIn, namesIn, setEdges, setIn, told}
+use Rattle.references.specs.Models.{rowOf, edgesIn, namesIn, setEdges, setIn, candidateOf, told}
+use Rattle.references.specs.declared.rows.Candidate.{Candidate}
 
 -- ---- names: the first n words of an array
 
@@ -149,11 +150,20 @@ module _ (rows : List (List ℕ)) (r : List ℕ) where
   unfolding setEdges
   set-past j k n h = drop-set edgeIn rows j k n r h
 
--- a row of zeros is the weakest edge: what too many edges become
-pub set-blurred : (rows : List (List ℕ)) → 0 < length rows → setIn (set rows 0 (replicate 10 0)) (record { len = 1; overflown = true }) ≡ blur
-unfolding setEdges upTo
-set-blurred [] h = absurd (not-suc-le-zero h)
-set-blurred (r ∷ rows) h = refl
+-- the offset of what is offered, too long or not
+pub offered : (x : Candidate) → offsetOf (candidateOf x) ≡ rowOf (x .row) .edge .offset
+offered x = go (x .fits)
+  where
+    go : (b : Bool) → offsetOf (cond b (fits (rowOf (x .row) .edge)) (tooLong (rowOf (x .row) .edge .offset))) ≡ rowOf (x .row) .edge .offset
+    go true = refl
+    go false = refl
+
+-- what too many edges become
+pub set-blurred : (rows : List (List ℕ)) (x : List ℕ) (o : ℕ) → 0 < length rows → rowOf x .edge ≡ weakest o
+    → setIn (set rows 0 x) (record { len = 1; overflown = true }) ≡ blur o
+unfolding setEdges
+set-blurred [] x o h e = absurd (not-suc-le-zero h)
+set-blurred (r ∷ rows) x o h e = ap {B = EdgeSet} (λ (d : Edge). record { edges = d ∷ []; blurred = true }) e
 
 pub set-cut : (rows : List (List ℕ)) (n : ℕ) → length rows ≡ 10 → setEdges rows (min n 10) ≡ setEdges rows n
 unfolding setEdges

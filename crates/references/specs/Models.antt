@@ -7,7 +7,7 @@ use lib.Dec.{eqb}
 use lib.ListN.{take, getD}
 use Rattle.meaning.specs.Answers.{Ans, ok, refuse}
 use Rattle.meaning.specs.Labels.{numberOf}
-use Rattle.meaning.specs.References.{Edge, EdgeSet, Report, added, alreadyThere, blurredNow, blurredBefore}
+use Rattle.meaning.specs.References.{Edge, EdgeSet, Offered, fits, tooLong, Report, added, alreadyThere, blurredNow, blurredBefore}
 use Rattle.meaning.specs.BorrowGraph.{Name, GEdge}
 use Rattle.meaning.specs.Area.{nameIn, labelIn, edgeOf}
 use Rattle.paths.specs.Models.{labelOf}
@@ -44,8 +44,8 @@ filterOf (At l) = some (numberOf (labelOf l))
 abbrev pub told : {A : Type 0} → ℕ → A → Ans A
 told n a = cond (eqb n 0) (ok a) (refuse n)
 
-abbrev pub candidateOf : Candidate → Ans Edge
-candidateOf c = cond (c .fits) (ok (rowOf (c .row) .edge)) (refuse 22)
+abbrev pub candidateOf : Candidate → Offered
+candidateOf c = cond (c .fits) (fits (rowOf (c .row) .edge)) (tooLong (rowOf (c .row) .edge .offset))
 
 -- the edges of a set's rows, without ends and marks
 unfoldable pub setEdges : List (List ℕ) → ℕ → List Edge

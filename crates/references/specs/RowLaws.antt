@@ -1,6 +1,6 @@
 -- A row's words: labels read and written one at a time, and what they say together.
 use mathlib.Core.Path.{_≡_, refl, sym, ap, _∙_}
-use mathlib.Core.Bool.{Bool, true, false, false≢true, not, _||_, _&&_}
+use mathlib.Core.Bool.{Bool, true, false, false≢true, not, cond, _||_, _&&_}
 use mathlib.Core.List.{List, [], _∷_, _++_, append-assoc}
 use Prim.Native.Nat.{ℕ, zero, suc, _+_, _*_, _/_, _%_, _-_, _≤_, _<_, min}
 use native.Mathlib.Omega.{arith}
@@ -10,11 +10,10 @@ use lib.Dec.{eqb, ltb}
 use lib.ListN.{length, drop, getD, set, length-set, drop-of-length-le}
 use lib.Seq.{getD-set-same, getD-set-other, drop-cons}
 use Rattle.meaning.specs.Lists.{upTo}
-use Rattle.meaning.specs.References.{Edge, Cmp, less, equal, greater, prefix, comparePaths, compareEdges, fitting}
+use Rattle.meaning.specs.References.{Edge, Cmp, less, equal, greater, prefix, comparePaths, compareEdges, fits, tooLong, fitting}
 use Rattle.meaning.specs.BorrowGraph.{GEdge, side, meetsLabel}
-use Rattle.meaning.specs.Answers.{ok, refuse, guard}
 use Rattle.meaning.specs.Area.{labelIn}
-use Rattle.meaning.specs.Laws.Area.{upTo-ext, upTo-more, bit}
+use Rattle.meaning.specs.Laws.Area.{upTo-ext, upTo-more, bit, marks-blurred, marks-strong, marks-count, marks-offset}
 use Rattle.meaning.specs.Laws.Base.{decide}
 use Rattle.meaning.specs.Laws.Place.{byStrong, edges-by}
 use Rattle.meaning.specs.Laws.Listing.{upTo-length}
@@ -138,21 +137,15 @@ module _ (p c e : ℕ) (r : List ℕ) (h : e / 65536 ≡ p) (k : e % 65536 ≡ c
 
 -- ---- a row by what its words say
 
-bit-le : (b : Bool) → bit b ≤ 1
-bit-le true = omega arith
-bit-le false = omega arith
-
-bit-back : (n : ℕ) (b : Bool) → n ≡ bit b → eqb n 1 ≡ b
-bit-back n true e = ap (λ (m : ℕ). eqb m 1) e
-bit-back n false e = ap (λ (m : ℕ). eqb m 1) e
-
-pub row-made : (r : List ℕ) (p c n : ℕ) (b s : Bool) (ls : List ℕ) → getD r 0 0 / 65536 ≡ p → getD r 0 0 % 65536 ≡ c → getD r 1 0 ≡ bit b * 32 + bit s * 16 + n → n ≤ 8 → pathIn r n ≡ ls
-    → rowOf r ≡ record { parent = p; child = c; blurred = b; edge = record { strong = s; path = ls } }
-row-made r p c n b s ls pa ch d k q =
-    let bl = bit-back (getD r 1 0 / 32) b (omega (arith, bit-le b, bit-le s)) in
-    let st = bit-back (getD r 1 0 / 16 % 2) s (omega (arith, bit-le b, bit-le s)) in
-    let le : countIn r ≡ n = omega (arith, bit-le b, bit-le s) in
-    λ i. record { parent = pa i; child = ch i; blurred = bl i; edge = record { strong = st i; path = (ap (pathIn r) le ∙ q) i } }
+pub row-made : (r : List ℕ) (p c o n : ℕ) (b s : Bool) (ls : List ℕ) → getD r 0 0 / 65536 ≡ p → getD r 0 0 % 65536 ≡ c
+    → getD r 1 0 ≡ o * 65536 + bit b * 32 + bit s * 16 + n → n ≤ 8 → pathIn r n ≡ ls
+    → rowOf r ≡ record { parent = p; child = c; blurred = b; edge = record { strong = s; path = ls; offset = o } }
+row-made r p c o n b s ls pa ch d k q =
+    let bl = marks-blurred (getD r 1 0) o n b s d k in
+    let st = marks-strong (getD r 1 0) o n b s d k in
+    let le = marks-count (getD r 1 0) o n b s d k in
+    let off = marks-offset (getD r 1 0) o n b s d k in
+    λ i. record { parent = pa i; child = ch i; blurred = bl i; edge = record { strong = st i; path = (ap (pathIn r) le ∙ q) i; offset = off i } }
 
 -- a row with other ends, and with other marks too
 pub row-renamed : (r : List ℕ) (e p c : ℕ) → 0 < length r → e / 65536 ≡ p → e % 65536 ≡ c
@@ -161,14 +154,15 @@ row-renamed r e p c l h k =
     let a : getD (set r 0 e) 0 0 ≡ e = getD-set-same r 0 e 0 l in
     let m : getD (set r 0 e) 1 0 ≡ getD r 1 0 = getD-set-other r 0 1 e 0 (λ z. omega arith) in
     let q : (n : ℕ) → pathIn (set r 0 e) n ≡ pathIn r n = λ n. path-beside r 0 e n (omega arith) in
-    λ i. record { parent = (ap (λ (w : ℕ). w / 65536) a ∙ h) i; child = (ap (λ (w : ℕ). w % 65536) a ∙ k) i; blurred = eqb (m i / 32) 1; edge = record { strong = eqb (m i / 16 % 2) 1; path = q (min (m i % 16) 8) i } }
+    λ i. record { parent = (ap (λ (w : ℕ). w / 65536) a ∙ h) i; child = (ap (λ (w : ℕ). w % 65536) a ∙ k) i; blurred = eqb (m i / 32 % 2) 1; edge = record { strong = eqb (m i / 16 % 2) 1; path = q (min (m i % 16) 8) i; offset = m i / 65536 } }
 
-pub row-tagged : (r : List ℕ) (e v p c n : ℕ) (b s : Bool) (ls : List ℕ) → 1 < length r → e / 65536 ≡ p → e % 65536 ≡ c → v ≡ bit b * 32 + bit s * 16 + n → n ≤ 8 → pathIn r n ≡ ls
-    → rowOf (set (set r 0 e) 1 v) ≡ record { parent = p; child = c; blurred = b; edge = record { strong = s; path = ls } }
-row-tagged r e v p c n b s ls l h k d m q =
+pub row-tagged : (r : List ℕ) (e v p c o n : ℕ) (b s : Bool) (ls : List ℕ) → 1 < length r → e / 65536 ≡ p → e % 65536 ≡ c
+    → v ≡ o * 65536 + bit b * 32 + bit s * 16 + n → n ≤ 8 → pathIn r n ≡ ls
+    → rowOf (set (set r 0 e) 1 v) ≡ record { parent = p; child = c; blurred = b; edge = record { strong = s; path = ls; offset = o } }
+row-tagged r e v p c o n b s ls l h k d m q =
     let a : getD (set (set r 0 e) 1 v) 0 0 ≡ e = getD-set-other (set r 0 e) 1 0 v 0 (λ z. omega arith) ∙ getD-set-same r 0 e 0 (omega arith) in
     let u : getD (set (set r 0 e) 1 v) 1 0 ≡ v = getD-set-same (set r 0 e) 1 v 0 (omega (arith, length-set r 0 e)) in
-    row-made (set (set r 0 e) 1 v) p c n b s ls (ap (λ (w : ℕ). w / 65536) a ∙ h) (ap (λ (w : ℕ). w % 65536) a ∙ k) (u ∙ d) m
+    row-made (set (set r 0 e) 1 v) p c o n b s ls (ap (λ (w : ℕ). w / 65536) a ∙ h) (ap (λ (w : ℕ). w % 65536) a ∙ k) (u ∙ d) m
     (path-beside (set r 0 e) 1 v n (omega arith) ∙ path-beside r 0 e n (omega arith) ∙ q)
 
 -- a path of at most one label, as the first of a row's
@@ -231,19 +225,19 @@ pub path-none : (r : List ℕ) → pathIn r 0 ≡ []
 unfolding upTo
 path-none r = refl
 
-pub row-joined : (w r : List ℕ) (v n m : ℕ) (s : Bool) (g : GEdge) (qs : List ℕ) → rowOf w ≡ g → n ≡ length (g .edge .path) → n + m ≤ 8 → pathIn r (n + (m - 0)) ≡ pathIn w n ++ qs
-    → getD r 0 0 ≡ getD w 0 0 → length r ≡ 10 → v ≡ bit false * 32 + bit s * 16 + (n + m)
-    → rowOf (set r 1 v) ≡ record { parent = g .parent; child = g .child; blurred = false; edge = record { strong = s; path = g .edge .path ++ qs } }
-row-joined w r v n m s g qs e k h p q l d =
+pub row-joined : (w r : List ℕ) (v o n m : ℕ) (s : Bool) (g : GEdge) (qs : List ℕ) → rowOf w ≡ g → n ≡ length (g .edge .path) → n + m ≤ 8
+    → pathIn r (n + (m - 0)) ≡ pathIn w n ++ qs → getD r 0 0 ≡ getD w 0 0 → length r ≡ 10 → v ≡ o * 65536 + bit false * 32 + bit s * 16 + (n + m)
+    → rowOf (set r 1 v) ≡ record { parent = g .parent; child = g .child; blurred = false; edge = record { strong = s; path = g .edge .path ++ qs; offset = o } }
+row-joined w r v o n m s g qs e k h p q l d =
     let a : getD (set r 1 v) 0 0 ≡ getD w 0 0 = getD-set-other r 1 0 v 0 (λ z. omega arith) ∙ q in
     let b : getD (set r 1 v) 1 0 ≡ v = getD-set-same r 1 v 0 (omega arith) in
     let c : countIn w ≡ n = sym (path-length w (countIn w)) ∙ ap (λ (y : GEdge). length (y .edge .path)) e ∙ sym k in
     let f : pathIn w n ≡ g .edge .path = ap (pathIn w) (sym c) ∙ ap (λ (y : GEdge). y .edge .path) e in
     let u : n + m ≡ n + (m - 0) = omega arith in
-    row-made (set r 1 v) (g .parent) (g .child) (n + m) false s (g .edge .path ++ qs)
+    row-made (set r 1 v) (g .parent) (g .child) o (n + m) false s (g .edge .path ++ qs)
     (ap (λ (y : ℕ). y / 65536) a ∙ ap (λ (y : GEdge). y .parent) e) (ap (λ (y : ℕ). y % 65536) a ∙ ap (λ (y : GEdge). y .child) e) (b ∙ d) h
     (path-beside r 1 v (n + m) (omega arith) ∙ ap (pathIn r) u ∙ p ∙ ap (λ (y : List ℕ). y ++ qs) f)
 
-pub fitting-long : (e : Edge) → 8 < length (e .path) → refuse 22 ≡ fitting e
+pub fitting-long : (e : Edge) → 8 < length (e .path) → tooLong (e .offset) ≡ fitting e
 unfolding fitting
-fitting-long e h = ap (λ (b : Bool). guard b 22 (ok e)) (sym (lt-leb (length (e .path)) 8 h))
+fitting-long e h = ap (λ (b : Bool). cond b (fits e) (tooLong (e .offset))) (sym (lt-leb (length (e .path)) 8 h))

@@ -1,7 +1,7 @@
 // An edge with its ends, as a row of ten words. Where each function stands in the Rust (references.rs; P: paths.rs):
 //
 //   here                the Rust
-//   row                 37 `BorrowEdge`, without the location, and its pair
+//   row                 37 `BorrowEdge` and its pair; its `loc` is unit there, the offset here
 //   leq                 82 `leq`
 //   cmp, eq, lt         216 `cmp`, 202 `eq`
 //   cmp_paths           186, the derived order of `Vec`
@@ -9,10 +9,13 @@
 //   factor              P 11 `factor`, without the first half of its answer, which nothing uses
 //   splice              P 17 `append`, within graph.rs 256 `splice_out_intermediate`
 use crate::RefID;
+use crate::words::OFFSET;
 use crate::words::bit_of;
 use crate::words::ends;
 use crate::words::id_in;
+use crate::words::offset_in;
 use crate::words::parent_in;
+use file_format::CodeOffset;
 use meaning::EDGE_WORDS;
 use meaning::MAX_LABELS;
 use meaning::lesser;
@@ -46,7 +49,8 @@ pub enum LabelFilter {
     At(Label),
 }
 
-// An edge to put into a set, or (`fits` false) word that its path is longer than eight labels; then the row's labels are free.
+// An edge to put into a set, or (`fits` false) word that its path is longer than eight labels; then all of the row but its ends and its offset is
+// free.
 pub struct Candidate {
     pub fits: bool,
     pub row: [u32; EDGE_WORDS],
@@ -69,13 +73,20 @@ pub fn child(x: &[u32; EDGE_WORDS]) -> RefID
 pub fn is_blurred(x: &[u32; EDGE_WORDS]) -> bool
     ensures { λ r. ⌜ r ≡ rowOf (now (x .entry)) .blurred ⌝ }
 {
-    x[1] / (2 * STRONG) == 1
+    x[1] / (2 * STRONG) % 2 == 1
 }
 
 pub fn is_strong(x: &[u32; EDGE_WORDS]) -> bool
     ensures { λ r. ⌜ r ≡ rowOf (now (x .entry)) .edge .strong ⌝ }
 {
     x[1] / STRONG % 2 == 1
+}
+
+// Of the instruction that made the edge.
+pub fn offset(x: &[u32; EDGE_WORDS]) -> CodeOffset
+    ensures { λ r. ⌜ r .0 ≡ rowOf (now (x .entry)) .edge .offset ⌝ }
+{
+    offset_in(x[1])
 }
 
 // How many labels the path has.
@@ -258,20 +269,26 @@ pub fn starts_with(x: &[u32; EDGE_WORDS], path: LabelFilter) -> bool
 
 // ---- a row, made
 
-fn marks(blurred: bool, strong: bool, labels: usize) -> u32
+fn marks(loc: CodeOffset, blurred: bool, strong: bool, labels: usize) -> u32
     requires { ⌜ labels ≤ maxLabels ⌝ }
-    ensures { λ r. ⌜ r ≡ bit blurred * 32 + bit strong * 16 + labels ⌝ }
+    ensures { λ r. ⌜ r ≡ loc .0 * 65536 + bit blurred * 32 + bit strong * 16 + labels ⌝ }
 {
-    bit_of(blurred) * (2 * STRONG) + bit_of(strong) * STRONG + labels as u32
+    loc.0 as u32 * OFFSET + bit_of(blurred) * (2 * STRONG) + bit_of(strong) * STRONG + labels as u32
 }
 
-// An edge that is not blurred.
-pub fn edge(parent: RefID, strong: bool, path: LabelFilter, child: RefID) -> [u32; EDGE_WORDS]
-    ensures { λ r. ⌜ rowOf r ≡ between (parent .0) (record { strong = strong; path = pathAt path }) (child .0) ⌝ }
+// An edge that is not blurred, from the instruction at `loc`.
+pub fn edge(
+    loc: CodeOffset,
+    parent: RefID,
+    strong: bool,
+    path: LabelFilter,
+    child: RefID,
+) -> [u32; EDGE_WORDS]
+    ensures { λ r. ⌜ rowOf r ≡ between (parent .0) (record { strong = strong; path = pathAt path; offset = loc .0 }) (child .0) ⌝ }
 {
     let mut out = [0u32; EDGE_WORDS];
     out[0] = ends(parent, child);
-    out[1] = marks(false, strong, len_of(path));
+    out[1] = marks(loc, false, strong, len_of(path));
     out[LABELS] = number_of(path);
     out
 }
@@ -299,22 +316,23 @@ fn copy_labels(
     out
 }
 
-// An edge without the first k labels of its path, between these names.
+// An edge without the first k labels of its path, between these names and with this offset.
 fn remade(
     x: &[u32; EDGE_WORDS],
     k: usize,
+    loc: CodeOffset,
     parent: RefID,
     child: RefID,
     blurred: bool,
 ) -> [u32; EDGE_WORDS]
     requires { ⌜ k ≤ countIn (now x) ⌝ }
-    ensures { λ r. ⌜ (rowOf r ≡ record { parent = parent .0; child = child .0; blurred = blurred; edge = record { strong = rowOf (now (x .entry)) .edge .strong; path = drop k (rowOf (now (x .entry)) .edge .path) } }) × (length r ≡ edgeWords) ⌝ }
+    ensures { λ r. ⌜ (rowOf r ≡ record { parent = parent .0; child = child .0; blurred = blurred; edge = record { strong = rowOf (now (x .entry)) .edge .strong; path = drop k (rowOf (now (x .entry)) .edge .path); offset = loc .0 } }) × (length r ≡ edgeWords) ⌝ }
 {
     let n = labels(x);
     let none = [0u32; EDGE_WORDS];
     let mut out = copy_labels(none, 0, x, k, n);
     out[0] = ends(parent, child);
-    out[1] = marks(blurred, is_strong(x), n - k);
+    out[1] = marks(loc, blurred, is_strong(x), n - k);
     out
 }
 
@@ -327,7 +345,8 @@ pub fn tagged(
 ) -> [u32; EDGE_WORDS]
     ensures { λ r. ⌜ rowOf r ≡ record { parent = parent .0; child = child .0; blurred = blurred; edge = rowOf (now (x .entry)) .edge } ⌝ }
 {
-    remade(x, 0, parent, child, blurred)
+    let loc = offset(x);
+    remade(x, 0, loc, parent, child, blurred)
 }
 
 // The same edge between other names.
@@ -335,7 +354,8 @@ pub fn renamed(x: &[u32; EDGE_WORDS], parent: RefID, child: RefID) -> [u32; EDGE
     ensures { λ r. ⌜ rowOf r ≡ record { parent = parent .0; child = child .0; blurred = rowOf (now (x .entry)) .blurred; edge = rowOf (now (x .entry)) .edge } ⌝ }
 {
     let b = is_blurred(x);
-    remade(x, 0, parent, child, b)
+    let loc = offset(x);
+    remade(x, 0, loc, parent, child, b)
 }
 
 // What a strong borrow at this path moves under the child: the path loses its front, and the row its mark of blurring.
@@ -344,17 +364,19 @@ pub fn factor(y: &[u32; EDGE_WORDS], path: LabelFilter, child: RefID) -> [u32; E
 {
     let k = lesser(len_of(path), labels(y));
     let end = self::child(y);
-    remade(y, k, child, end, false)
+    let loc = offset(y);
+    remade(y, k, loc, child, end, false)
 }
 
-// The way from x's parent to y's child. Behind a weak edge nothing more is known.
+// The way from x's parent to y's child, with y's offset. Behind a weak edge nothing more is known.
 pub fn splice(x: &[u32; EDGE_WORDS], y: &[u32; EDGE_WORDS]) -> Candidate
     ensures { λ r. ⌜ (candidateOf r ≡ fitting (G.splice (rowOf (now (x .entry)) .edge) (rowOf (now (y .entry)) .edge))) × (rowOf (r .row) .parent ≡ rowOf (now (x .entry)) .parent) × (rowOf (r .row) .child ≡ rowOf (now (y .entry)) .child) ⌝ }
 {
     let p = parent(x);
     let c = child(y);
     let strong = is_strong(x);
-    let whole = remade(x, 0, p, c, false);
+    let behind = offset(y);
+    let whole = remade(x, 0, behind, p, c, false);
     if !strong {
         return Candidate {
             fits: true,
@@ -370,7 +392,7 @@ pub fn splice(x: &[u32; EDGE_WORDS], y: &[u32; EDGE_WORDS]) -> Candidate
         };
     }
     let mut out = copy_labels(whole, n, y, 0, m);
-    out[1] = marks(false, is_strong(y), n + m);
+    out[1] = marks(behind, false, is_strong(y), n + m);
     Candidate {
         fits: true,
         row: out,

@@ -1,12 +1,15 @@
-// The words of names and of an edge's ends: each is made and read here.
+// The words of names, of an edge's ends and of its offset: each is made and read here, the last one made with the marks (rows).
 use crate::RefID;
+use file_format::CodeOffset;
 ghost use mathlib.Core.Path.{_≡_};
 ghost use Prim.Native.Nat.{_/_, _%_, _+_, _*_, _≤_};
 ghost use Rattle.meaning.specs.Area.{nameIn};
 ghost use Rattle.meaning.specs.Laws.Area.{bit};
 
-// What a name is counted in, in a word that holds more than the name.
+// What a name is counted in, in a word that holds more than the name; and the unit of an edge's offset.
 const NAME_END: u32 = 65536;
+
+pub(crate) const OFFSET: u32 = 65536;
 
 pub fn id_in(w: u32) -> RefID
     ensures { λ r. ⌜ r .0 ≡ w % 65536 ⌝ }
@@ -38,6 +41,13 @@ pub(crate) fn parent_in(w: u32) -> RefID
     ensures { λ r. ⌜ r .0 ≡ w / 65536 ⌝ }
 {
     RefID((w / NAME_END) as u16)
+}
+
+// The offset, above an edge's marks.
+pub(crate) fn offset_in(w: u32) -> CodeOffset
+    ensures { λ r. ⌜ r .0 ≡ w / 65536 ⌝ }
+{
+    CodeOffset((w / OFFSET) as u16)
 }
 
 pub(crate) fn bit_of(b: bool) -> u32

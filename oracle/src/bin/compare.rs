@@ -103,7 +103,7 @@ mod ours {
     /// The Rust shows its kept states slowly.
     const KEPT_EVERY: u64 = 4;
 
-    const SHORT: Answer = Answer { kind: 2, number: 7, place: 0, visits: 0, blurred: 0 };
+    const SHORT: Answer = Answer { kind: 2, number: 7, place: 0, visits: 0, blurred: 0, borrowed_at: 0 };
 
     fn differs(listing: &[u8], judged: &Judged) -> bool {
         ours::verify(listing) != Ok(judged.answer)

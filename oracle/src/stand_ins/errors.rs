@@ -1,4 +1,5 @@
-//! Stand-in for the errors: a status and the offset it was found at.
+//! Stand-in for the errors: a status, the offset it was found at and, from a watched run, where what it fails on was
+//! borrowed.
 
 use crate::{
     file_format::{CodeOffset, FunctionDefinitionIndex},
@@ -11,11 +12,13 @@ pub type PartialVMResult<T> = Result<T, PartialVMError>;
 pub struct PartialVMError {
     pub status: StatusCode,
     pub offset: Option<CodeOffset>,
+    /// By record: the lowest and the highest offset of the edges that would each alone fail the failed test.
+    pub borrowed: Option<(CodeOffset, CodeOffset)>,
 }
 
 impl PartialVMError {
     pub fn new(status: StatusCode) -> Self {
-        PartialVMError { status, offset: None }
+        PartialVMError { status, offset: None, borrowed: None }
     }
 
     pub fn at_code_offset(self, _function: FunctionDefinitionIndex, offset: CodeOffset) -> Self {

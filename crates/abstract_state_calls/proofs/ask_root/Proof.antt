@@ -9,7 +9,7 @@ use Rattle.borrow_graph.specs.Models.{graphIn, toldOf}
 use Rattle.abstract_state.specs.Models.{words, runningOf, heeding}
 use Rattle.abstract_state.specs.ModelLaws.{does-as}
 use Rattle.abstract_state_calls.specs.Models.{acquiring}
-use Rattle.abstract_state_calls.specs.CallLaws.{acquire-none}
+use Rattle.abstract_state_calls.specs.AcquireLaws.{acquire-none}
 use borrow.Author.Needs.{needs}
 use Rattle.abstract_state_calls.proofs.ask_root.Statement.{statement}
 use Rattle.abstract_state_calls.proofs.ask_root.Tie as tie

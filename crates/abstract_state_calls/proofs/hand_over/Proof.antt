@@ -48,10 +48,11 @@ loop-less c = omega arith
 
 loop-again : tie.Need-loop-again Inv-loop μ-loop
 loop-again c =
-    let a = (c .before .before .before .before .before .before .args) in
+    let start = (c .before .before .before .before .before .before) in
+    let a = start .args in
     let l = (c .before .before .before .before .loop) in
     let v : Operand = operandOf ((c .before .value-of) .result) in
-    let z : length (a .t4 .list) ≡ 16 = search (needs, length-of-map) in
+    let z : length (a .t4 .list) ≡ 16 = search (needs, length-of-map, start .good .1 .1 .1 .0) in
     let k : length (operandsOf (a .t4)) ≡ min (a .t4 .len) 16 = operands-count (a .t4 .list) (a .t4 .len) z in
     let h : l .i < length (operandsOf (a .t4)) = omega (arith, (c .before .before .before .loop-test) .taken, (c .before .before .before .before .before .lesser) .ensures) in
     λ ls. left-turn (handing (a .code)) (operandsOf (a .t4)) (l .i) _ (words ls (a .names .now) (a .edges .now) (l .s)) _ (λ (u : Operand). handing (a .code) (u ∷ [])) (hand-step (a .code)) v

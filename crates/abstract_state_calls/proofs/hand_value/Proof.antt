@@ -1,13 +1,16 @@
-use mathlib.Core.Path.{ap, _∙_}
-use mathlib.Core.Bool.{Bool, not, _&&_}
+use mathlib.Core.Path.{sym, ap, _∙_}
+use mathlib.Core.Bool.{cond}
 use mathlib.Core.List.{[], _∷_}
+use mathlib.Core.Option.{Option, none}
+use Prim.Native.Nat.{ℕ}
 use borrow.Author.Tests.{ne-eqb}
 use Rattle.meaning.specs.Answers.{Ans}
 use Rattle.meaning.specs.AbstractState.{reference}
-use Rattle.meaning.specs.BorrowGraph.{isMutable}
-use Rattle.meaning.specs.EntryPoints.{writable, handOver}
+use Rattle.meaning.specs.BorrowGraph.{ofName, isMutable, borrows, lowestOf}
+use Rattle.meaning.specs.EntryPoints.{handOver}
+use Rattle.meaning.specs.Laws.Lowest.{lowest-guard}
 use Rattle.references.specs.Models.{told}
-use Rattle.borrow_graph.specs.Models.{graphIn}
+use Rattle.borrow_graph.specs.Models.{graphIn, lowIn, lowOf}
 use Rattle.abstract_state.specs.Models.{words, runningOf, failing}
 use Rattle.abstract_state.specs.ModelLaws.{does-as, does-nothing, told-both}
 use Rattle.abstract_state_calls.specs.Models.{handing}
@@ -22,8 +25,11 @@ enum-known-v c = search needs
 is-mutable-requires : tie.Need-is-mutable-requires
 is-mutable-requires c κs = search needs
 
-is-writable-requires : tie.Need-is-writable-requires
-is-writable-requires c κs = search needs
+has-consistent-borrows-requires : tie.Need-has-consistent-borrows-requires
+has-consistent-borrows-requires c κs = search needs
+
+only-if-requires : tie.Need-only-if-requires
+only-if-requires c κs = search needs
 
 violate-if-requires : tie.Need-violate-if-requires
 violate-if-requires c κs = search needs
@@ -33,17 +39,23 @@ enum-told c = search needs
 
 returns : tie.Need-returns
 returns c =
-    let a = (c .before .before .before .before .before .before .before .before .args) in
-    let n = (c .before .before .before .before .before .before .v) .given .0 .0 .0 in
-    let m = (c .before .before .before .before .is-mutable) .result in
-    let u = (c .before .before .before .is-writable) .result in
+    let start = (c .before .before .before .before .before .before .before) in
+    let a = start .args in
+    let v = (c .before .before .before .before .before .v) in
+    let n = v .given .0 .0 .0 in
+    let m = (c .before .before .before .is-mutable) in
+    let b = (c .before .before .has-consistent-borrows) in
+    let o = (c .before .only-if) in
     let g = graphIn (a .names .now) (a .edges .now) (a .state .«borrow_graph») in
     λ ls. let w = words ls (a .names .now) (a .edges .now) (a .state) in
-    rw ((c .before .before .before .before .before .before .v) .given .1)
-    (does-as (failing (told (u .refusal) (m .yes && not (u .yes))) (a .code)) (handing (a .code) (reference n ∷ [])) w _
-    (λ h. ap (λ (t : Ans Bool). failing t (a .code) (runningOf w))
-    (told-both g n (m .refusal) (u .refusal) (m .yes) (isMutable g n) (u .yes) (writable g n) (λ x y. x && not y) ((c .before .before .before .before .is-mutable) .ensures ls _ h) ((c .before .before .before .is-writable) .ensures ls h))
-    ∙ hand-one n (a .code) (runningOf w) (ne-eqb _ _ ((c .before .before .before .before .before .before .before .before .pre))))
+    rw (v .given .1)
+    (does-as (failing (lowOf (o .result)) (a .code)) (handing (a .code) (reference n ∷ [])) w _
+    (λ h. ap (λ (t : Ans (Option ℕ)). failing t (a .code) (runningOf w))
+    ((λ i. told (o .ensures .0 i) (o .ensures .1 i))
+    ∙ told-both g n (m .result .refusal) (b .result .refusal) (m .result .yes) (isMutable g n) (lowIn (b .result .offset)) (lowestOf (borrows n none) (g .edges)) (λ y l. cond y l none)
+    (m .ensures ls _ h) (b .ensures ls h)
+    ∙ ap (ofName g n) (sym (lowest-guard (isMutable g n) (borrows n none) (g .edges))))
+    ∙ hand-one n (a .code) (runningOf w) (ne-eqb _ _ (start .pre)))
     ((c .violate-if) .ensures ls _ _))
 
 returns-2 : tie.Need-returns-2
@@ -56,7 +68,8 @@ hand-value-spec =
     (tie.spec
     enum-known-v
     is-mutable-requires
-    is-writable-requires
+    has-consistent-borrows-requires
+    only-if-requires
     violate-if-requires
     enum-told
     returns

@@ -52,11 +52,12 @@ loop-less c = omega arith
 
 loop-again : tie.Need-loop-again Inv-loop μ-loop
 loop-again c =
-    let a = (c .before .before .before .before .before .before .before .args) in
+    let start = (c .before .before .before .before .before .before .before) in
+    let a = start .args in
     let ts : List Token = map tokenAs (take (a .count) (a .t4)) in
     let l = (c .before .before .before .before .before .loop) in
     let r = (c .before .return-value) .result in
-    let z : length (a .t4) ≡ 16 = search needs in
+    let z : length (a .t4) ≡ 16 = search (needs, start .good .1 .1 .1 .0) in
     let k : length ts ≡ min (a .count) 16 = front-count tokenAs (a .count) (a .t4) z in
     let h : l .i < length ts = omega (arith, (c .before .before .before .before .loop-test) .taken, (c .before .before .before .before .before .before .lesser) .ensures) in
     let b : l .i < length (l .list) = omega (arith, (c .before .before .before .before .loop-test) .taken, (c .before .before .before .before .before .before .lesser) .ensures, l .inv .1) in (

@@ -1,5 +1,5 @@
 use mathlib.Core.Path.{refl}
-use Rattle.meaning.specs.BorrowGraph.{fullyBorrowed}
+use Rattle.meaning.specs.BorrowGraph.{borrowsFully}
 use Rattle.abstract_state.specs.Models.{words, runningOf}
 use Rattle.abstract_state.specs.ModelLaws.{does-as}
 use Rattle.abstract_state_steps.specs.EntryLaws as E
@@ -18,7 +18,7 @@ returns c = λ ls.
     let a = (c .before .before .before .args) in
     let w = words ls (a .names .now) (a .edges .now) (a .state) in
     rw ((c .before .before .if1) .taken) (does-as _ _ w _
-    (λ h. E.test-at (runningOf w) (a .id .0) 108 (fullyBorrowed (runningOf w .graph) (a .id .0)) _ refl
+    (λ h. E.test-at (runningOf w) (a .id .0) 108 (borrowsFully (a .id .0)) _ refl
     ((c .before .has-full-borrows) .ensures ls h))
     (c .violate-if .ensures ls _ _))
 

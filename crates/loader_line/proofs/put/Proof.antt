@@ -12,7 +12,7 @@ use Rattle.loader_line.proofs.put.Tie as tie
 
 abbrev Inv-loop : tie.InvT-loop
 Inv-loop text at bytes₀ i₀ bytes i =
-    (i ≤ length text) × (length bytes ≡ 64) × (at + length text ≤ 64) × (take (at + i) bytes ++ drop i text ≡ take at bytes₀ ++ text)
+    (i ≤ length text) × (length bytes ≡ 96) × (at + length text ≤ 96) × (take (at + i) bytes ++ drop i text ≡ take at bytes₀ ++ text)
 
 abbrev μ-loop : tie.MeasureT-loop
 μ-loop text at bytes₀ i₀ bytes i = length text - i

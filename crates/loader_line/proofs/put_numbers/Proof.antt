@@ -5,6 +5,7 @@ use Prim.Native.Nat.{ℕ}
 use Rattle.loader_line.specs.Text.{decimalOf, numbersOf, space, newline}
 use Rattle.loader_line.specs.Models.{textOf}
 use Rattle.loader_line.specs.LineLaws.{put-four}
+use native.Mathlib.Omega.{arith}
 use borrow.Author.Needs.{needs}
 use Rattle.loader_line.proofs.put_numbers.Statement.{statement}
 use Rattle.loader_line.proofs.put_numbers.Tie as tie
@@ -34,7 +35,7 @@ returns c =
     let first = c .before .before .before .before .before .put-decimal .ensures .0 in
     let spaced = c .before .before .before .put .ensures .0 ∙ ap (λ (t : List ℕ). t ++ space) first in
     let second = c .before .before .put-decimal2 .ensures .0 ∙ ap (λ (t : List ℕ). t ++ decimalOf (c .before .before .before .before .before .before .args .b)) spaced in
-    (c .put2 .ensures .0 ∙ ap (λ (t : List ℕ). t ++ newline) second ∙ put-four (textOf l) _ _ _ _, c .put2 .ensures .2)
+    (c .put2 .ensures .0 ∙ ap (λ (t : List ℕ). t ++ newline) second ∙ put-four (textOf l) _ _ _ _, omega (arith, c .before .before .before .before .before .put-decimal .ensures .1, c .before .before .before .put .ensures .1, c .before .before .put-decimal2 .ensures .1, c .put2 .ensures .1), c .put2 .ensures .2)
 
 pub put-numbers-spec : {M : Type 1} → statement M
 put-numbers-spec =

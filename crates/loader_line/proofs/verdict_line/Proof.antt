@@ -3,7 +3,7 @@ use mathlib.Core.Path.{sym, ap, _∙_}
 use mathlib.Core.List.{List, _++_}
 use Prim.Native.Nat.{ℕ}
 use Rattle.absint.specs.Models.{rulingOf}
-use Rattle.loader_line.specs.Text.{violated, refused, numbersOf, verdictLine}
+use Rattle.loader_line.specs.Text.{refused, numbersOf, verdictLine}
 use borrow.Author.Needs.{needs}
 use Rattle.loader_line.proofs.verdict_line.Statement.{statement}
 use Rattle.loader_line.proofs.verdict_line.Tie as tie
@@ -17,6 +17,18 @@ accept-lines-requires c κs = search needs
 enum-known-ruling : tie.Need-enum-known-ruling
 enum-known-ruling c = search needs
 
+cast-violation-lines : tie.Need-cast-violation-lines
+cast-violation-lines c = search needs
+
+cast-violation-lines-2 : tie.Need-cast-violation-lines-2
+cast-violation-lines-2 c = search needs
+
+violation-lines-requires : tie.Need-violation-lines-requires
+violation-lines-requires c κs = search needs
+
+enum-known-ruling-2 : tie.Need-enum-known-ruling-2
+enum-known-ruling-2 c = search needs
+
 no-text-requires : tie.Need-no-text-requires
 no-text-requires c κs = search needs
 
@@ -26,26 +38,8 @@ slice-aggregate-put c = search needs
 put-requires : tie.Need-put-requires
 put-requires c κs = search needs
 
-cast-put-numbers : tie.Need-cast-put-numbers
-cast-put-numbers c = search needs
-
 put-numbers-requires : tie.Need-put-numbers-requires
 put-numbers-requires c κs = search needs
-
-enum-known-ruling-2 : tie.Need-enum-known-ruling-2
-enum-known-ruling-2 c = search needs
-
-no-text-requires-2 : tie.Need-no-text-requires-2
-no-text-requires-2 c κs = search needs
-
-slice-aggregate-put-2 : tie.Need-slice-aggregate-put-2
-slice-aggregate-put-2 c = search needs
-
-put-requires-2 : tie.Need-put-requires-2
-put-requires-2 c κs = search needs
-
-put-numbers-requires-2 : tie.Need-put-numbers-requires-2
-put-numbers-requires-2 c κs = search needs
 
 returns : tie.Need-returns
 returns c =
@@ -53,19 +47,17 @@ returns c =
 
 returns-2 : tie.Need-returns-2
 returns-2 c =
-    let put = c .before .before .put in
-    let no-text = c .before .before .before .before .no-text in
-    let ruling = c .before .before .before .before .before .before .ruling in
-    let word = put .ensures .0 ∙ ap (λ (t : List ℕ). t ++ violated) (no-text .ensures .0) in
-    (c .put-numbers .ensures .0 ∙ ap (λ (t : List ℕ). t ++ numbersOf (ruling .given .0 .0) (ruling .given .0 .1 .0 .0)) word ∙ ap (verdictLine _) (sym (ap rulingOf (ruling .given .1))), c .put-numbers .ensures .1)
+    let ruling = c .before .before .before .before .ruling in
+    (c .violation-lines .ensures .0 ∙ ap (verdictLine _) (sym (ap rulingOf (ruling .given .1))), c .violation-lines .ensures .1)
 
 returns-3 : tie.Need-returns-3
 returns-3 c =
-    let put2 = c .before .put2 in
-    let no-text2 = c .before .before .before .no-text2 in
+    let put = c .before .put in
+    let no-text = c .before .before .before .no-text in
     let ruling2 = c .before .before .before .before .before .ruling2 in
-    let word = put2 .ensures .0 ∙ ap (λ (t : List ℕ). t ++ refused) (no-text2 .ensures .0) in
-    (c .put-numbers2 .ensures .0 ∙ ap (λ (t : List ℕ). t ++ numbersOf (ruling2 .given .0 .0) (ruling2 .given .0 .1 .0)) word ∙ ap (verdictLine _) (sym (ap rulingOf (ruling2 .given .1))), c .put-numbers2 .ensures .1)
+    let word = put .ensures .0 ∙ ap (λ (t : List ℕ). t ++ refused) (no-text .ensures .0) in
+    let numbers = c .put-numbers .ensures .0 ∙ ap (λ (t : List ℕ). t ++ numbersOf (ruling2 .given .0 .0) (ruling2 .given .0 .1 .0)) word in
+    (numbers ∙ ap (verdictLine _) (sym (ap rulingOf (ruling2 .given .1))), c .put-numbers .ensures .2)
 
 pub verdict-line-spec : {M : Type 1} → statement M
 verdict-line-spec =
@@ -74,16 +66,14 @@ verdict-line-spec =
     enum-told
     accept-lines-requires
     enum-known-ruling
+    cast-violation-lines
+    cast-violation-lines-2
+    violation-lines-requires
+    enum-known-ruling-2
     no-text-requires
     slice-aggregate-put
     put-requires
-    cast-put-numbers
     put-numbers-requires
-    enum-known-ruling-2
-    no-text-requires-2
-    slice-aggregate-put-2
-    put-requires-2
-    put-numbers-requires-2
     returns
     returns-2
     returns-3)

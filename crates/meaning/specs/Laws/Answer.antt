@@ -14,7 +14,7 @@ use Rattle.meaning.specs.Lists.{empty}
 use Rattle.meaning.specs.AbstractState.{State, Operand, canonical, join, changed, joinBlurs}
 use Rattle.meaning.specs.EntryPoints.{Running}
 use Rattle.meaning.specs.Steps.{Instr, Machine, step}
-use Rattle.meaning.specs.Blocks.{Routine, runFrom, finish, settle, endOf, renamedEnd, exec, runBlock, instrsOf, startMachine}
+use Rattle.meaning.specs.Blocks.{Routine, machineAt, runFrom, finish, settle, endOf, renamedEnd, exec, runBlock, instrsOf, startMachine}
 use Rattle.meaning.specs.Loop.{mostVisits, Failure, verdictFor, Result, Block, noBlock, Next, at, stopped, Run, Slot, Propagation, propagate, afterChange, afterJoin, toKept, toSuccessor, afterBlock, turnAt, turns, blank, Verdict, accept, violation, refusal, lowest, verdictAt, verdict, run}
 use Rattle.meaning.specs.Listing.{Places, Listed, read, ifFine, ifNot, putAt, fullFor, placesFrom, faultAt, kindAt, nextAt, bodyAt, localsOf, faultyBlock, strayRet, firstOf, ruled, routineAt, afterRecords, noPlaces, readPlaces, readListing}
 use Rattle.meaning.specs.Verify.{runOf, verify, answerTo}
@@ -112,7 +112,7 @@ low-reader s =
 abbrev LowResult : ℕ → Result State → Type 0
 LowResult m (Result.ended k t) = Unit {0}
 LowResult m (Result.returned k) = Unit {0}
-LowResult m (Result.violated k c o) = Unit {0}
+LowResult m (Result.violated k c o a) = Unit {0}
 LowResult m (Result.refused n p) = p ≤ m
 
 module _ (returns : ℕ) (b : Block) (m : ℕ) (exit : b .exit ≤ m) where
@@ -130,13 +130,13 @@ module _ (returns : ℕ) (b : Block) (m : ℕ) (exit : b .exit ≤ m) where
 
   low-settle : (o : ℕ) (x : Outcome Machine) (k : Machine → Result State) → o ≤ m → ((n : Machine) → LowResult m (k n)) → LowResult m (settle o x k)
   low-settle o (done n) k h l = l n
-  low-settle o (violated n c) k h l = tt
+  low-settle o (violated n c a) k h l = tt
   low-settle o (refused n) k h l = h
 
   low-run : (is : List Instr) (o : ℕ) (n : Machine) → o + length is ≤ suc m → LowResult m (runFrom returns b o is n)
   unfolding runFrom
   low-run [] o n h = low-finish (n .state) (n .stack)
-  low-run (i ∷ is) o n h = low-settle o (step returns i n) _ (omega (arith, h)) (λ x. low-run is (suc o) x (omega (arith, h)))
+  low-run (i ∷ is) o n h = low-settle o (step returns i (machineAt o n)) _ (omega (arith, h)) (λ x. low-run is (suc o) x (omega (arith, h)))
 
 low-exec : (q : Routine) (m i : ℕ) (s : State) → Ruled (length (q .code)) (q .blocks) i → length (q .code) ≤ m → LowResult m (exec q i s)
 unfolding exec runBlock instrsOf
@@ -178,7 +178,7 @@ module _ (ex : ℕ → State → Result State) (bs : List Block) (m : ℕ) (exit
   low-block : (r : Run State) (i : ℕ) (x : Result State) → i < length bs → LowResult m x → LowNext m (afterBlock State join joinBlurs changed ex bs r i x .next)
   low-block r i (Result.ended k t) h l = low-propagate (getD bs i noBlock) t (exits i h) (getD bs i noBlock .successors) _ tt
   low-block r i (Result.returned k) h l = tt
-  low-block r i (Result.violated k c o) h l = tt
+  low-block r i (Result.violated k c o a) h l = tt
   low-block r i (Result.refused n p) h l = l
 
   low-ran : (r : Run State) (i : ℕ) (x : Option State) → i < length bs → LowNext m (L.visitBlock State join joinBlurs changed ex bs r i x .next)
@@ -201,7 +201,7 @@ module _ (ex : ℕ → State → Result State) (bs : List Block) (m : ℕ) (exit
 
 abbrev pub Low : Verdict → Type 0
 Low accept = Unit {0}
-Low (violation c o) = Unit {0}
+Low (violation c o a) = Unit {0}
 Low (refusal n p) = p ≤ 65536
 
 low-for : (f : Option Failure) → Low (verdictFor f)
@@ -220,7 +220,7 @@ few : (s : List ℕ) (q : Routine) → readListing s ≡ read q → length (q .c
 unfolding promised
 few s q e = leb-true _ _ (and-r (leb (q .locals) 16) _ (and-l _ _ (accepted-promised s q e)))
 
-rules : (s : List ℕ) (q : Routine) → readListing s ≡ read q → (i : ℕ) → i < length (q .blocks) → Ruled (length (q .code)) (q .blocks) i
+pub rules : (s : List ℕ) (q : Routine) → readListing s ≡ read q → (i : ℕ) → i < length (q .blocks) → Ruled (length (q .code)) (q .blocks) i
 rules s q e i h =
     let a : Accepted s q = accepted s q e in
     subst (λ (z : Routine). i < length (z .blocks) → Ruled (length (z .code)) (z .blocks) i) (sym (a .routine))

@@ -146,15 +146,30 @@ name-word w n b e h =
     let m = bit-back (w / 65536) b q in
     λ i. record { id = p i; mutable = m i }
 
-edge-words : (u v p c n : ℕ) (b s : Bool) (f : ℕ → ℕ) → u ≡ p * 65536 + c → c < 65536 → v ≡ bit b * 32 + bit s * 16 + n → n ≤ 8
-    → edgeOf u v f ≡ record { parent = p; child = c; blurred = b; edge = record { strong = s; path = upTo n f } }
-edge-words u v p c n b s f e h d k =
+-- an edge's marks, read: its offset o, whether it is blurred and strong, and its n labels
+module _ (v o n : ℕ) (b s : Bool) (e : v ≡ o * 65536 + bit b * 32 + bit s * 16 + n) (k : n ≤ 8) where
+  pub marks-blurred : eqb (v / 32 % 2) 1 ≡ b
+  marks-blurred = bit-back (v / 32 % 2) b (omega (arith, bit-le b, bit-le s))
+
+  pub marks-strong : eqb (v / 16 % 2) 1 ≡ s
+  marks-strong = bit-back (v / 16 % 2) s (omega (arith, bit-le b, bit-le s))
+
+  pub marks-count : min (v % 16) 8 ≡ n
+  marks-count = omega (arith, bit-le b, bit-le s)
+
+  pub marks-offset : v / 65536 ≡ o
+  marks-offset = omega (arith, bit-le b, bit-le s)
+
+edge-words : (u v p c o n : ℕ) (b s : Bool) (f : ℕ → ℕ) → u ≡ p * 65536 + c → c < 65536 → v ≡ o * 65536 + bit b * 32 + bit s * 16 + n → n ≤ 8
+    → edgeOf u v f ≡ record { parent = p; child = c; blurred = b; edge = record { strong = s; path = upTo n f; offset = o } }
+edge-words u v p c o n b s f e h d k =
     let pa : u / 65536 ≡ p = omega arith in
     let ch : u % 65536 ≡ c = omega arith in
-    let bl = bit-back (v / 32) b (omega (arith, bit-le b, bit-le s)) in
-    let st = bit-back (v / 16 % 2) s (omega (arith, bit-le b, bit-le s)) in
-    let le : min (v % 16) 8 ≡ n = omega (arith, bit-le b, bit-le s) in
-    λ i. record { parent = pa i; child = ch i; blurred = bl i; edge = record { strong = st i; path = upTo (le i) f } }
+    let bl = marks-blurred v o n b s d k in
+    let st = marks-strong v o n b s d k in
+    let le = marks-count v o n b s d k in
+    let off = marks-offset v o n b s d k in
+    λ i. record { parent = pa i; child = ch i; blurred = bl i; edge = record { strong = st i; path = upTo (le i) f; offset = off i } }
 
 -- ---- edges
 
@@ -166,7 +181,12 @@ edge-ext w v at h =
     let m = h (at + 1) (omega arith) (omega arith) in
     let p : upTo (min (w (at + 1) % 16) 8) (λ i. labelIn (w (at + 2 + i))) ≡ upTo (min (v (at + 1) % 16) 8) (λ i. labelIn (v (at + 2 + i))) =
     upTo-same (min (w (at + 1) % 16) 8) (min (v (at + 1) % 16) 8) (λ i. labelIn (w (at + 2 + i))) (λ i. labelIn (v (at + 2 + i))) (ap (λ (k : ℕ). min (k % 16) 8) m) (λ i k. ap labelIn (h (at + 2 + i) (omega arith) (omega arith))) in
-    λ i. record { parent = e i / 65536; child = e i % 65536; blurred = eqb (m i / 32) 1; edge = record { strong = eqb (m i / 16 % 2) 1; path = p i } }
+    λ i. record {
+      parent = e i / 65536;
+      child = e i % 65536;
+      blurred = eqb (m i / 32 % 2) 1;
+      edge = record { strong = eqb (m i / 16 % 2) 1; path = p i; offset = m i / 65536 };
+    }
 
 -- an edge of the words from a place on
 pub edge-from : (ws : List ℕ) (at k : ℕ) → edgeIn (wordsFrom ws at) k ≡ edgeIn (wordAt ws) (at + k)
@@ -190,18 +210,28 @@ module _ (ws us : List ℕ) (at u v n : ℕ) (f : ℕ → ℕ) (h : at + 10 ≤ 
   edge-put-next : getD us (at + 1) 0 ≡ v
   edge-put-next = q .frame .below (at + 1) (omega arith) ∙ getD-set-same (set ws at u) (at + 1) v 0 (omega (arith, length-set ws at u))
 
-  pub edge-put : (p c : ℕ) (b s : Bool) → u ≡ p * 65536 + c → c < 65536 → v ≡ bit b * 32 + bit s * 16 + n
-      → edgeIn (wordAt us) at ≡ record { parent = p; child = c; blurred = b; edge = record { strong = s; path = upTo n f } }
+  pub edge-put : (p c o : ℕ) (b s : Bool) → u ≡ p * 65536 + c → c < 65536 → v ≡ o * 65536 + bit b * 32 + bit s * 16 + n
+      → edgeIn (wordAt us) at ≡ record { parent = p; child = c; blurred = b; edge = record { strong = s; path = upTo n f; offset = o } }
   unfolding edgeIn
-  edge-put p c b s e l d =
-      edge-words (getD us at 0) (getD us (at + 1) 0) p c n b s (λ i. labelIn (getD us (at + 2 + i) 0)) (edge-put-at ∙ e) l (edge-put-next ∙ d) k
-      ∙ ap (λ (x : List ℕ). record { parent = p; child = c; blurred = b; edge = record { strong = s; path = x } }) (upTo-ext n (λ i. labelIn (getD us (at + 2 + i) 0)) f (λ i m. q .within i m))
+  edge-put p c o b s e l d =
+      edge-words (getD us at 0) (getD us (at + 1) 0) p c o n b s (λ i. labelIn (getD us (at + 2 + i) 0)) (edge-put-at ∙ e) l (edge-put-next ∙ d) k
+      ∙ ap (λ (x : List ℕ). record { parent = p; child = c; blurred = b; edge = record { strong = s; path = x; offset = o } }) (upTo-ext n (λ i. labelIn (getD us (at + 2 + i) 0)) f (λ i m. q .within i m))
 
 -- an edge, read
 pub edge-read : (w : ℕ → ℕ) (at : ℕ) (ls : List ℕ) → ls ≡ upTo (min (w (at + 1) % 16) 8) (λ i. labelIn (w (at + 2 + i)))
-    → _≡_ {A = GEdge} (record { parent = w at / 65536; child = w at % 65536; blurred = eqb (w (at + 1) / 32) 1; edge = record { strong = eqb (w (at + 1) / 16 % 2) 1; path = ls } }) (edgeIn w at)
+    → _≡_ {A = GEdge} (record {
+      parent = w at / 65536;
+      child = w at % 65536;
+      blurred = eqb (w (at + 1) / 32 % 2) 1;
+      edge = record { strong = eqb (w (at + 1) / 16 % 2) 1; path = ls; offset = w (at + 1) / 65536 };
+    }) (edgeIn w at)
 unfolding edgeIn
-edge-read w at ls e = λ i. record { parent = w at / 65536; child = w at % 65536; blurred = eqb (w (at + 1) / 32) 1; edge = record { strong = eqb (w (at + 1) / 16 % 2) 1; path = e i } }
+edge-read w at ls e = λ i. record {
+  parent = w at / 65536;
+  child = w at % 65536;
+  blurred = eqb (w (at + 1) / 32 % 2) 1;
+  edge = record { strong = eqb (w (at + 1) / 16 % 2) 1; path = e i; offset = w (at + 1) / 65536 };
+}
 
 -- of n edges from `at` on the first i are written
 pub record WrittenEdges (f : ℕ → GEdge) (at n i : ℕ) (ws ws′ : List ℕ) : Type 0 where

@@ -13,7 +13,7 @@ use Rattle.meaning.specs.BorrowGraph.{held, Graph, renamed}
 use Rattle.meaning.specs.AbstractState.{Local, absent, value, ref, count1, State, Form, canonical, crosses, newNameOf, ownNames, Operand}
 use Rattle.meaning.specs.EntryPoints.{localNames, Running}
 use Rattle.meaning.specs.Steps.{Machine, Instr, step, isRet}
-use Rattle.meaning.specs.Blocks.{startMachine, settle, renamedEnd, endOf, finish, runFrom, instrsOf, Routine, runBlock, exec}
+use Rattle.meaning.specs.Blocks.{startMachine, machineAt, settle, renamedEnd, endOf, finish, runFrom, instrsOf, Routine, runBlock, exec}
 use Rattle.meaning.specs.Loop.{Result, Block, noBlock}
 use Rattle.meaning.specs.Laws.Base.{decide, eqb-eq, leb-le, leb-gt, eqb-self, both, eqb-no, and-l, and-r, and-i}
 use Rattle.meaning.specs.Laws.Forms.{Strong, Open}
@@ -122,6 +122,10 @@ strong-owns l m s b h =
 start-good : (l m : ℕ) (s : State) → suc l + m ≤ 65536 → Strong l s → Good l m [] (startMachine l s .state)
 start-good l m s b h = record { count = h .form .count; keeps = record { root = refl; locals = refl; own = strong-owns l m s b h } }
 
+-- no name hangs on the offset of the instruction that runs
+pub at-good : (l o k : ℕ) (m : Machine) → Good l k (m .stack) (m .state) → Good l k (m .stack) (machineAt o m .state)
+at-good l o k m h = record { count = h .count; keeps = record { root = h .keeps .root; locals = h .keeps .locals; own = h .keeps .own } }
+
 -- ---- the end of a block
 
 pub owns-open : (l m : ℕ) (ls : List Local) (g : Graph) (next : ℕ) → l ≤ 16 → length ls ≡ l → Owns l g next (localNames ls) m → Open l (record { locals = ls; graph = g })
@@ -161,7 +165,7 @@ canonical-fair l s = go (not (crosses (s .locals) 0 (s .locals))) (record { loca
 pub data Ends (P : State → Type 0) : Result State → Type 0 where
   ends : {k : ℕ} {t : State} → P t → Ends P (Result.ended k t)
   leaves : {k : ℕ} → Ends P (Result.returned k)
-  breaks : {k c o : ℕ} → Ends P (Result.violated k c o)
+  breaks : {k c o a : ℕ} → Ends P (Result.violated k c o a)
   bars : {n p : ℕ} → ordinary n ≡ true → Ends P (Result.refused n p)
 
 settle-ends : {P : Machine → Type 0} {Q : State → Type 0} (o : ℕ) {a : Outcome Machine} (k : Machine → Result State) → Meets P a → ((x : Machine) → P x → Ends Q (k x)) → Ends Q (settle o a k)
@@ -207,10 +211,12 @@ module _ (l : ℕ) (small : l ≤ 16) (returns : ℕ) (b : Block) where
       let e : length (i ∷ is) ≡ suc (length is) = refl in
       decide (isRet i)
       (λ q. let w : empty is && empty (b .successors) ≡ true = subst (λ (x : Bool). not x || (empty is && empty (b .successors)) ≡ true) q p₁ in
-      settle-ends o (λ n. runFrom returns b (suc o) is n) (any-ret l small returns i q k (m .stack) (m .state) (h .good))
+      settle-ends o (λ n. runFrom returns b (suc o) is n)
+      (any-ret l small returns i q k (m .stack) (machineAt o m .state) (at-good l o k m (h .good)))
       (λ n u. after-ret (suc o) is n (and-l (empty is) (empty (b .successors)) w) (and-r (empty is) (empty (b .successors)) w)))
       (λ q. settle-ends o (λ n. runFrom returns b (suc o) is n)
-      (step-fine l small returns i (m .stack) (17 * length is) (m .state) (and-l (withinFrame l i) (all (withinFrame l) is) f) q (good-less l small k (17 * length is + 17) (m .stack) (m .state) (h .good) (omega arith)) (h .few))
+      (step-fine l small returns i (m .stack) (17 * length is) (machineAt o m .state) (and-l (withinFrame l i) (all (withinFrame l) is) f) q
+      (good-less l small k (17 * length is + 17) (m .stack) (machineAt o m .state) (at-good l o k m (h .good)) (omega arith)) (h .few))
       (λ n u. runFrom-ends (suc o) is (17 * length is) n (and-r (withinFrame l i) (all (withinFrame l) is) f) p₂ u (omega arith)))
 
 -- ---- the blocks of a routine
@@ -293,25 +299,25 @@ exec-ends q h i s strong =
 abbrev isEnded : Result State → Type 0
 isEnded (Result.ended k v) = Unit {0}
 isEnded (Result.returned k) = ⊥
-isEnded (Result.violated k c o) = ⊥
+isEnded (Result.violated k c o a) = ⊥
 isEnded (Result.refused n o) = ⊥
 
 abbrev isRefused : Result State → Type 0
 isRefused (Result.ended k v) = ⊥
 isRefused (Result.returned k) = ⊥
-isRefused (Result.violated k c o) = ⊥
+isRefused (Result.violated k c o a) = ⊥
 isRefused (Result.refused n o) = Unit {0}
 
 abbrev fromEnded : State → Result State → State
 fromEnded d (Result.ended k v) = v
 fromEnded d (Result.returned k) = d
-fromEnded d (Result.violated k c o) = d
+fromEnded d (Result.violated k c o a) = d
 fromEnded d (Result.refused n o) = d
 
 abbrev fromRefused : ℕ → Result State → ℕ
 fromRefused d (Result.ended k v) = d
 fromRefused d (Result.returned k) = d
-fromRefused d (Result.violated k c o) = d
+fromRefused d (Result.violated k c o a) = d
 fromRefused d (Result.refused n o) = n
 
 ends-at : {P : State → Type 0} {a : Result State} → Ends P a → (k : ℕ) (t : State) → a ≡ Result.ended k t → P t

@@ -253,23 +253,24 @@ join-reports g h k e =
     addAll-reports (unmatched g h) g k (wf→inv g (and-l (wellFormed g) (wellFormed h) (and-l (wellFormed g && wellFormed h) (sameNames g h) (z .0))))
     (y .1 ∙ ap ok (limit-ok (y .0) k (y .2) .0))
 
-pub borrowWeak-reports : (g : Graph) (p : ℕ) (path : List ℕ) (c : ℕ) (h : Graph) → borrowWeak g p path c ≡ ok h
-    → blursTo g h ≡ reportedNow (between p (record { strong = false; path = path }) c ∷ []) g
+pub borrowWeak-reports : (g : Graph) (p : ℕ) (path : List ℕ) (c o : ℕ) (h : Graph) → borrowWeak g p path c o ≡ ok h
+    → blursTo g h ≡ reportedNow (between p (record { strong = false; path = path; offset = o }) c ∷ []) g
 unfolding borrowWeak
-borrowWeak-reports g p path c h e =
-    let xs : List GEdge = between p (record { strong = false; path = path }) c ∷ [] in
+borrowWeak-reports g p path c o h e =
+    let xs : List GEdge = between p (record { strong = false; path = path; offset = o }) c ∷ [] in
     let z = guard-ok (wellFormed g && pairOk (g .names) p c) 9 (andThen (addAll xs g) limit) h e in
     let y = andThen-ok (addAll xs g) limit h (z .1) in
     addAll-reports xs g h (wf→inv g (and-l (wellFormed g) (pairOk (g .names) p c) (z .0))) (y .1 ∙ ap ok (limit-ok (y .0) h (y .2) .0))
 
 -- a strong borrow: of the graph without the edges that move
-pub borrowStrong-reports : (g : Graph) (p : ℕ) (path : List ℕ) (c : ℕ) (h : Graph) → borrowStrong g p path c ≡ ok h
+pub borrowStrong-reports : (g : Graph) (p : ℕ) (path : List ℕ) (c o : ℕ) (h : Graph) → borrowStrong g p path c o ≡ ok h
     → let rest : Graph = record { names = g .names; edges = keep (λ x. not (moves p path x)) (g .edges) } in
-    blursTo rest h ≡ reportedNow (map (shift c path) (keep (moves p path) (g .edges)) ++ (between p (record { strong = true; path = path }) c ∷ [])) rest
+    blursTo rest h ≡ reportedNow (map (shift c path) (keep (moves p path) (g .edges)) ++ (between p (record { strong = true; path = path; offset = o }) c ∷ [])) rest
 unfolding borrowStrong
-borrowStrong-reports g p path c h e =
+borrowStrong-reports g p path c o h e =
     let rest : Graph = record { names = g .names; edges = keep (λ x. not (moves p path x)) (g .edges) } in
-    let xs : List GEdge = map (shift c path) (keep (moves p path) (g .edges)) ++ (between p (record { strong = true; path = path }) c ∷ []) in
+    let xs : List GEdge = map (shift c path) (keep (moves p path) (g .edges))
+    ++ (between p (record { strong = true; path = path; offset = o }) c ∷ []) in
     let t : Bool = pairOk (g .names) p c && all (λ x. not (eqb c (x .child))) (keep (moves p path) (g .edges)) in
     let z = guard-ok (wellFormed g && t) 9 (andThen (addAll xs rest) limit) h e in
     let y = andThen-ok (addAll xs rest) limit h (z .1) in

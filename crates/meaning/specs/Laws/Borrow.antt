@@ -65,23 +65,23 @@ unfolding setAt
 thin-keep p c q [] = thin-none
 thin-keep p c q (x ∷ xs) = thin-cond p c q x xs (eqPair p c (x .parent) (x .child)) (q x) refl (thin-keep p c q xs)
 
-isBlur-all : (es : List Edge) → isBlur es ≡ true → (length es ≤ 1) × (all (λ e. eqEdge e weakest) es ≡ true)
+isBlur-all : (es : List Edge) → isBlur es ≡ true → (length es ≤ 1) × (all (λ e. eqEdge e (weakest 0)) es ≡ true)
 unfolding isBlur
 isBlur-all [] h = absurd (false≢true h)
 isBlur-all (e ∷ []) h = (omega arith, and-i h refl)
 isBlur-all (e ∷ f ∷ es) h = absurd (false≢true h)
 
-all-isBlur : (es : List Edge) → nonEmpty es ≡ true → length es ≤ 1 → all (λ e. eqEdge e weakest) es ≡ true → isBlur es ≡ true
+all-isBlur : (es : List Edge) → nonEmpty es ≡ true → length es ≤ 1 → all (λ e. eqEdge e (weakest 0)) es ≡ true → isBlur es ≡ true
 unfolding isBlur nonEmpty
 all-isBlur [] n l h = absurd (false≢true n)
-all-isBlur (e ∷ []) n l h = and-l (eqEdge e weakest) true h
+all-isBlur (e ∷ []) n l h = and-l (eqEdge e (weakest 0)) true h
 all-isBlur (e ∷ f ∷ es) n l h = absurd (omega arith)
 
-few-ok : (es : List Edge) → length es ≤ 1 → all (λ x. eqEdge x weakest) es ≡ true → leb (length es) 10 && (all short es && ordered es) ≡ true
+few-ok : (es : List Edge) → length es ≤ 1 → all (λ x. eqEdge x (weakest 0)) es ≡ true → leb (length es) 10 && (all short es && ordered es) ≡ true
 unfolding ordered short
 few-ok [] q r = refl
 few-ok (e ∷ []) q r =
-    subst (λ (x : Edge). leb 1 10 && (all short (x ∷ []) && ordered (x ∷ [])) ≡ true) (sym (eqEdge-eq e weakest (and-l (eqEdge e weakest) true r))) refl
+    subst (λ (x : Edge). leb 1 10 && (all short (x ∷ []) && ordered (x ∷ [])) ≡ true) (sym (eqEdge-eq e (weakest 0) (and-l (eqEdge e (weakest 0)) true r))) refl
 few-ok (e ∷ f ∷ es) q r = absurd (omega arith)
 
 thin-ok : (s t : EdgeSet) → solid t ≡ true → Thinner s t → setOk s ≡ true → setOk t ≡ true
@@ -90,7 +90,7 @@ thin-ok s t o h k = decide (t .blurred)
     (λ b. let z = isBlur-all (s .edges) (sym (setOk-blurred s (h .flag b)) ∙ k) in
     let l : length (s .edges) ≤ 1 = z .0 in
     let m : length (t .edges) ≤ length (s .edges) = h .fewer in
-    setOk-blurred t b ∙ all-isBlur (t .edges) (subst (λ (x : Bool). not x || nonEmpty (t .edges) ≡ true) b o) (omega arith) (h .every (λ e. eqEdge e weakest) (z .1)))
+    setOk-blurred t b ∙ all-isBlur (t .edges) (subst (λ (x : Bool). not x || nonEmpty (t .edges) ≡ true) b o) (omega arith) (h .every (λ e. eqEdge e (weakest 0)) (z .1)))
     (λ b. setOk-unblurred t b ∙ plain (s .blurred) refl)
   where
     plain : (b : Bool) → s .blurred ≡ b → leb (length (t .edges)) 10 && (all short (t .edges) && ordered (t .edges)) ≡ true
@@ -98,7 +98,7 @@ thin-ok s t o h k = decide (t .blurred)
         let z = isBlur-all (s .edges) (sym (setOk-blurred s e) ∙ k) in
         let l : length (s .edges) ≤ 1 = z .0 in
         let m : length (t .edges) ≤ length (s .edges) = h .fewer in
-        few-ok (t .edges) (omega arith) (h .every (λ x. eqEdge x weakest) (z .1))
+        few-ok (t .edges) (omega arith) (h .every (λ x. eqEdge x (weakest 0)) (z .1))
     plain false e =
         let w : leb (length (s .edges)) 10 && (all short (s .edges) && ordered (s .edges)) ≡ true = sym (setOk-unblurred s e) ∙ k in
         let w2 : all short (s .edges) && ordered (s .edges) ≡ true = and-r (leb (length (s .edges)) 10) (all short (s .edges) && ordered (s .edges)) w in
@@ -136,22 +136,22 @@ borrowed-from g g₀ c xs h v n q r e =
       noEnd = λ root d w. let z = r root d w in addAll-pairs (endsNot root) xs g₀ (y .0) (y .1) (z .0) (z .1);
     })
 
-pub borrowWeak-law : (g : Graph) (p : ℕ) (path : List ℕ) (c : ℕ) (h : Graph) → borrowWeak g p path c ≡ ok h → Borrowed g c h
+pub borrowWeak-law : (g : Graph) (p : ℕ) (path : List ℕ) (c o : ℕ) (h : Graph) → borrowWeak g p path c o ≡ ok h → Borrowed g c h
 unfolding borrowWeak
-borrowWeak-law g p path c h e =
-    let z = guard-ok (wellFormed g && pairOk (g .names) p c) 9 (andThen (addAll (between p (record { strong = false; path = path }) c ∷ []) g) limit) h e in
-    borrowed-from g g c (between p (record { strong = false; path = path }) c ∷ []) h (wf→inv g (and-l (wellFormed g) (pairOk (g .names) p c) (z .0))) refl
+borrowWeak-law g p path c o h e =
+    let z = guard-ok (wellFormed g && pairOk (g .names) p c) 9 (andThen (addAll (between p (record { strong = false; path = path; offset = o }) c ∷ []) g) limit) h e in
+    borrowed-from g g c (between p (record { strong = false; path = path; offset = o }) c ∷ []) h (wf→inv g (and-l (wellFormed g) (pairOk (g .names) p c) (z .0))) refl
     (and-i (and-r (wellFormed g) (pairOk (g .names) p c) (z .0)) refl) (λ root d w. (w, and-i (ap not d) refl)) (z .1)
 
 all-map : {A B : Type 0} (f : B → Bool) (g : A → B) (xs : List A) → all (λ x. f (g x)) xs ≡ true → all f (map g xs) ≡ true
 all-map f g [] h = refl
 all-map f g (x ∷ xs) h = and-i (and-l (f (g x)) (all (λ y. f (g y)) xs) h) (all-map f g xs (and-r (f (g x)) (all (λ y. f (g y)) xs) h))
 
-pub borrowStrong-law : (g : Graph) (p : ℕ) (path : List ℕ) (c : ℕ) (h : Graph) → borrowStrong g p path c ≡ ok h → Borrowed g c h
+pub borrowStrong-law : (g : Graph) (p : ℕ) (path : List ℕ) (c o : ℕ) (h : Graph) → borrowStrong g p path c o ≡ ok h → Borrowed g c h
 unfolding borrowStrong
-borrowStrong-law g p path c h e =
+borrowStrong-law g p path c o h e =
     let moved : List GEdge = keep (moves p path) (g .edges) in
-    let last : List GEdge = between p (record { strong = true; path = path }) c ∷ [] in
+    let last : List GEdge = between p (record { strong = true; path = path; offset = o }) c ∷ [] in
     let xs : List GEdge = map (shift c path) moved ++ last in
     let g₀ : Graph = record { names = g .names; edges = keep (λ x. not (moves p path x)) (g .edges) } in
     let a : Bool = all (λ x. not (eqb c (x .child))) moved in

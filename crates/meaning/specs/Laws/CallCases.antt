@@ -36,11 +36,11 @@ module _ (g : Graph) (n : ℕ) (m : Bool) where
           let z : ns ≡ putName (record { id = n; mutable = m }) (g .names) = e ∙ sym (place-name (record { id = n; mutable = m }) (g .names)) in
           rw (w, h, k) (λ i. ok (record { names = z i; edges = g .edges }))
 
-module _ (g : Graph) (p : ℕ) (path : List ℕ) (c : ℕ) where
-  pub weak-9 : wellFormed g && pairOk (g .names) p c ≡ false → refuse 9 ≡ borrowWeak g p path c
+module _ (g : Graph) (p : ℕ) (path : List ℕ) (c o : ℕ) where
+  pub weak-9 : wellFormed g && pairOk (g .names) p c ≡ false → refuse 9 ≡ borrowWeak g p path c o
   unfolding borrowWeak
   weak-9 w = rw w refl
 
-  pub weak-ok : wellFormed g ≡ true → pairOk (g .names) p c ≡ true → andThen (addEdge g (between p (record { strong = false; path = path }) c)) limit ≡ borrowWeak g p path c
+  pub weak-ok : wellFormed g ≡ true → pairOk (g .names) p c ≡ true → andThen (addEdge g (between p (record { strong = false; path = path; offset = o }) c)) limit ≡ borrowWeak g p path c o
   unfolding borrowWeak
-  weak-ok w h = rw (w, h) (sym (add-one-edge (between p (record { strong = false; path = path }) c) g))
+  weak-ok w h = rw (w, h) (sym (add-one-edge (between p (record { strong = false; path = path; offset = o }) c) g))

@@ -83,11 +83,12 @@ mine-uncons k e b x s m =
     }
 
 -- the set of a pair, by its first edge
-first-ok : (x : GEdge) (s : EdgeSet) → short (x .edge) ≡ true → not (x .blurred) || eqEdge (x .edge) weakest ≡ true → Mine 1 (x .edge) (x .blurred) s → setOk (union (one x) s) ≡ true
+first-ok : (x : GEdge) (s : EdgeSet) → short (x .edge) ≡ true → not (x .blurred) || eqEdge (x .edge) (weakest 0) ≡ true → Mine 1 (x .edge) (x .blurred) s → setOk (union (one x) s) ≡ true
 unfolding ordered isBlur
 first-ok x s sh w m = decide (x .blurred)
     (λ t. setOk-blurred (union (one x) s) (or-l (s .blurred) t)
-    ∙ subst (λ (l : List Edge). isBlur (x .edge ∷ l) ≡ true) (sym (m .alone t)) (subst (λ (z : Bool). not z || eqEdge (x .edge) weakest ≡ true) t w))
+    ∙ subst (λ (l : List Edge). isBlur (x .edge ∷ l) ≡ true) (sym (m .alone t))
+    (subst (λ (z : Bool). not z || eqEdge (x .edge) (weakest 0) ≡ true) t w))
     (λ t. let z : 1 + length (s .edges) ≤ 10 = m .few in
     let z′ : suc (length (s .edges)) ≤ 10 = omega arith in
     setOk-unblurred (union (one x) s) (or-no (x .blurred) (s .blurred) t (m .plain))
@@ -95,17 +96,17 @@ first-ok x s sh w m = decide (x .blurred)
 
 record First (x : GEdge) (s : EdgeSet) : Type 0 where
   sh : short (x .edge) ≡ true
-  w : not (x .blurred) || eqEdge (x .edge) weakest ≡ true
+  w : not (x .blurred) || eqEdge (x .edge) (weakest 0) ≡ true
   rest : Mine 1 (x .edge) (x .blurred) s
 
-blur-first : (e : Edge) (l : List Edge) → isBlur (e ∷ l) ≡ true → (l ≡ []) × (eqEdge e weakest ≡ true)
+blur-first : (e : Edge) (l : List Edge) → isBlur (e ∷ l) ≡ true → (l ≡ []) × (eqEdge e (weakest 0) ≡ true)
 unfolding isBlur
 blur-first e [] h = (refl, h)
 blur-first e (f ∷ l) h = absurd (false≢true h)
 
-weakest-short : (e : Edge) → eqEdge e weakest ≡ true → short e ≡ true
+weakest-short : (e : Edge) → eqEdge e (weakest 0) ≡ true → short e ≡ true
 unfolding short
-weakest-short e h = subst (λ (f : Edge). short f ≡ true) (sym (eqEdge-eq e weakest h)) refl
+weakest-short e h = subst (λ (f : Edge). short f ≡ true) (sym (eqEdge-eq e (weakest 0) h)) refl
 
 nil-mine : (e : Edge) (b : Bool) (s : EdgeSet) → s .edges ≡ [] → s .blurred ≡ false → Mine 1 e b s
 nil-mine e b s n p =
@@ -128,7 +129,7 @@ ok-first x xs h =
     let xb : x .blurred ≡ false = or-no-l (x .blurred) (s .blurred) t in
     record {
       sh = and-l (short (x .edge)) (all short (s .edges)) sh;
-      w = or-l (eqEdge (x .edge) weakest) (ap not xb);
+      w = or-l (eqEdge (x .edge) (weakest 0)) (ap not xb);
       rest = record {
         few = omega arith;
         shorts = and-r (short (x .edge)) (all short (s .edges)) sh;
@@ -184,7 +185,7 @@ module _ (q : ℕ → ℕ → Bool) where
           ap setOk (setAt-miss p c x xs d′) ∙ r .others p c d′;
     }
 
-    linked-next : k ≤ 10 → isBefore (x .parent) (x .child) y ≡ true → q (x .parent) (x .child) ≡ true → short (x .edge) ≡ true → not (x .blurred) || eqEdge (x .edge) weakest ≡ true
+    linked-next : k ≤ 10 → isBefore (x .parent) (x .child) y ≡ true → q (x .parent) (x .child) ≡ true → short (x .edge) ≡ true → not (x .blurred) || eqEdge (x .edge) (weakest 0) ≡ true
         → Linked 1 x xs → Linked k y (x ∷ xs)
     unfolding inOrder
     linked-next l u qx sh w r =
@@ -210,10 +211,10 @@ module _ (q : ℕ → ℕ → Bool) where
       sameTest = ltb k 10 && (not (y .blurred || x .blurred) && ltEdge (y .edge) (x .edge))
 
       nextTest : Bool
-      nextTest = isBefore (x .parent) (x .child) y && (not (x .blurred) || eqEdge (x .edge) weakest)
+      nextTest = isBefore (x .parent) (x .child) y && (not (x .blurred) || eqEdge (x .edge) (weakest 0))
 
       go : (b : Bool) → same y x ≡ b
-          → (q (x .parent) (x .child) && (short (x .edge) && cond b (ltb k 10 && (not (y .blurred || x .blurred) && ltEdge (y .edge) (x .edge))) (isBefore (x .parent) (x .child) y && (not (x .blurred) || eqEdge (x .edge) weakest))))
+          → (q (x .parent) (x .child) && (short (x .edge) && cond b (ltb k 10 && (not (y .blurred || x .blurred) && ltEdge (y .edge) (x .edge))) (isBefore (x .parent) (x .child) y && (not (x .blurred) || eqEdge (x .edge) (weakest 0)))))
           && chain q (cond b (cond (ltb k 10) (k + 1) 10) 1) x xs ≡ true
           → ((j : ℕ) → j ≤ 10 → chain q j x xs ≡ true → Linked j x xs) → Linked k y (x ∷ xs)
       go true e h r =
@@ -233,8 +234,8 @@ module _ (q : ℕ → ℕ → Bool) where
           let h1 : qx && (short (x .edge) && nextTest) ≡ true = and-l (qx && (short (x .edge) && nextTest)) rest h in
           let h2 : short (x .edge) && nextTest ≡ true = and-r qx (short (x .edge) && nextTest) h1 in
           let h3 : nextTest ≡ true = and-r (short (x .edge)) nextTest h2 in
-          linked-next k y x xs l (and-l (isBefore (x .parent) (x .child) y) (not (x .blurred) || eqEdge (x .edge) weakest) h3) (and-l qx (short (x .edge) && nextTest) h1) (and-l (short (x .edge)) nextTest h2)
-          (and-r (isBefore (x .parent) (x .child) y) (not (x .blurred) || eqEdge (x .edge) weakest) h3)
+          linked-next k y x xs l (and-l (isBefore (x .parent) (x .child) y) (not (x .blurred) || eqEdge (x .edge) (weakest 0)) h3) (and-l qx (short (x .edge) && nextTest) h1) (and-l (short (x .edge)) nextTest h2)
+          (and-r (isBefore (x .parent) (x .child) y) (not (x .blurred) || eqEdge (x .edge) (weakest 0)) h3)
           (r 1 (omega arith) (and-r (qx && (short (x .edge) && nextTest)) rest h))
 
   linked-chain : (k : ℕ) (y : GEdge) (xs : List GEdge) → Linked k y xs → chain q k y xs ≡ true
@@ -252,7 +253,7 @@ module _ (q : ℕ → ℕ → Bool) where
       qs = and-r (q (x .parent) (x .child)) (onPairs q xs) (r .pairs)
 
       go : (b : Bool) → same y x ≡ b → ((j : ℕ) → Linked j x xs → chain q j x xs ≡ true)
-          → (q (x .parent) (x .child) && (short (x .edge) && cond b (ltb k 10 && (not (y .blurred || x .blurred) && ltEdge (y .edge) (x .edge))) (isBefore (x .parent) (x .child) y && (not (x .blurred) || eqEdge (x .edge) weakest))))
+          → (q (x .parent) (x .child) && (short (x .edge) && cond b (ltb k 10 && (not (y .blurred || x .blurred) && ltEdge (y .edge) (x .edge))) (isBefore (x .parent) (x .child) y && (not (x .blurred) || eqEdge (x .edge) (weakest 0)))))
           && chain q (cond b (cond (ltb k 10) (k + 1) 10) 1) x xs ≡ true
       go true e f =
           let turned : eqPair (y .parent) (y .child) (x .parent) (x .child) ≡ true = at-same (λ m n. eqPair m n (x .parent) (x .child) ≡ true) (x .parent) (x .child) (y .parent) (y .child) e (eqPair-self (x .parent) (x .child)) in
@@ -314,7 +315,7 @@ chain-ok q none0 xs = iff-eq (chain q 0 noEdge xs) (onPairs q xs && (onPairs (λ
       early = start-early xs;
       order = and-r (onPairs (λ p c. setOk (setAt p c xs)) xs) (inOrder xs) h1;
       pairs = ps;
-      mine = subst (λ (s : EdgeSet). Mine 0 weakest false s) (sym (none ps)) (mine-empty 0 weakest false (omega arith));
+      mine = subst (λ (s : EdgeSet). Mine 0 (weakest 0) false s) (sym (none ps)) (mine-empty 0 (weakest 0) false (omega arith));
       others = λ p c d. pick p c (at-or-empty (λ m n. setOk (setAt m n xs)) p c xs ss);
     }))
   where

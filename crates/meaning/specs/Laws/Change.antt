@@ -1,7 +1,7 @@
 -- What `changed` says, and that it is the Rust's test.
 use Prim.Native.Nat.{ℕ}
 use mathlib.Core.Bool.{true, false≢true, Bool·beq, Bool, false, not, true≢false, _&&_, _||_, cond}
-use mathlib.Core.List.{List, [], _∷_, _++_}
+use mathlib.Core.List.{List, [], _∷_, _++_, map}
 use mathlib.Core.Logic.{_⊎_, inl, inr}
 use mathlib.Core.Path.{_≡_, refl, ap, sym, _∙_, subst}
 use lib.Dec.{eqb}
@@ -13,7 +13,7 @@ use Rattle.meaning.specs.AbstractState.{Local, absent, value, ref, eqLoc
 use Rattle.meaning.specs.Laws.Base.{eqb-eq, and-l, and-r, and-i, both, not-true, keep-passes, all-imp, or-r, or-cases, or-l, eqb-self, decide, beq-eq}
 use Rattle.meaning.specs.Laws.Call.{setAt-all}
 use Rattle.meaning.specs.Laws.Graph.{at-or-empty, all-any}
-use Rattle.meaning.specs.Laws.Set.{eqEdge-eq, covers-self}
+use Rattle.meaning.specs.Laws.Set.{plain, plainSet, eqEdge-eq, covers-self, covered-plain}
 use Rattle.meaning.specs.Laws.State.{eqLocal-self, eqSet-self, Joined, join-law}
 
 -- ---- the test says what document 01 says
@@ -44,22 +44,34 @@ unfolding eqLocals
 eqLocals-self [] = refl
 eqLocals-self (x ∷ xs) = and-i (eqLocal-self x) (eqLocals-self xs)
 
-eqEdges-eq : (xs ys : List Edge) → eqEdges xs ys ≡ true → xs ≡ ys
+eqEdges-eq : (xs ys : List Edge) → eqEdges xs ys ≡ true → map plain xs ≡ map plain ys
 unfolding eqEdges
 eqEdges-eq [] [] e = refl
 eqEdges-eq [] (y ∷ ys) e = absurd (false≢true e)
 eqEdges-eq (x ∷ xs) [] e = absurd (false≢true e)
 eqEdges-eq (x ∷ xs) (y ∷ ys) e =
-    let p : x ≡ y = eqEdge-eq x y (and-l (eqEdge x y) (eqEdges xs ys) e) in
-    let q : xs ≡ ys = eqEdges-eq xs ys (and-r (eqEdge x y) (eqEdges xs ys) e) in
+    let p : plain x ≡ plain y = eqEdge-eq x y (and-l (eqEdge x y) (eqEdges xs ys) e) in
+    let q : map plain xs ≡ map plain ys = eqEdges-eq xs ys (and-r (eqEdge x y) (eqEdges xs ys) e) in
     λ i. p i ∷ q i
 
-eqSet-eq : (s t : EdgeSet) → eqSet s t ≡ true → s ≡ t
+eqSet-eq : (s t : EdgeSet) → eqSet s t ≡ true → plainSet s ≡ plainSet t
 unfolding eqSet
 eqSet-eq s t e =
     let p : s .blurred ≡ t .blurred = beq-eq (s .blurred) (t .blurred) (and-l (Bool·beq (s .blurred) (t .blurred)) (eqEdges (s .edges) (t .edges)) e) in
-    let q : s .edges ≡ t .edges = eqEdges-eq (s .edges) (t .edges) (and-r (Bool·beq (s .blurred) (t .blurred)) (eqEdges (s .edges) (t .edges)) e) in
+    let q : map plain (s .edges) ≡ map plain (t .edges) =
+    eqEdges-eq (s .edges) (t .edges) (and-r (Bool·beq (s .blurred) (t .blurred)) (eqEdges (s .edges) (t .edges)) e) in
     λ i. record { edges = q i; blurred = p i }
+
+eqEdges-plain : (xs ys : List Edge) → eqEdges (map plain xs) (map plain ys) ≡ eqEdges xs ys
+unfolding eqEdges eqEdge
+eqEdges-plain [] [] = refl
+eqEdges-plain [] (y ∷ ys) = refl
+eqEdges-plain (x ∷ xs) [] = refl
+eqEdges-plain (x ∷ xs) (y ∷ ys) = ap (λ (b : Bool). eqEdge x y && b) (eqEdges-plain xs ys)
+
+eqSet-plain : (s t : EdgeSet) → eqSet (plainSet s) (plainSet t) ≡ eqSet s t
+unfolding eqSet
+eqSet-plain s t = ap (λ (b : Bool). Bool·beq (s .blurred) (t .blurred) && b) (eqEdges-plain (s .edges) (t .edges))
 
 all-first : {A : Type 0} (f : A → Bool) (xs ys : List A) → all f (xs ++ ys) ≡ true → all f xs ≡ true
 all-first f [] ys e = refl
@@ -69,7 +81,7 @@ all-second : {A : Type 0} (f : A → Bool) (xs ys : List A) → all f (xs ++ ys)
 all-second f [] ys e = e
 all-second f (x ∷ xs) ys e = all-second f xs ys (and-r (f x) (all f (xs ++ ys)) e)
 
-eqSets-at : (g h : Graph) → eqSets g h ≡ true → (p c : ℕ) → setAt p c (g .edges) ≡ setAt p c (h .edges)
+eqSets-at : (g h : Graph) → eqSets g h ≡ true → (p c : ℕ) → plainSet (setAt p c (g .edges)) ≡ plainSet (setAt p c (h .edges))
 unfolding eqSets
 eqSets-at g h e p c = go (at-or-empty f p c (g .edges) (all-first t (g .edges) (h .edges) e)) (at-or-empty f p c (h .edges) (all-second t (g .edges) (h .edges) e))
   where
@@ -79,17 +91,19 @@ eqSets-at g h e p c = go (at-or-empty f p c (g .edges) (all-first t (g .edges) (
     t : GEdge → Bool
     t x = f (x .parent) (x .child)
 
-    go : (f p c ≡ true) ⊎ (setAt p c (g .edges) ≡ emptySet) → (f p c ≡ true) ⊎ (setAt p c (h .edges) ≡ emptySet) → setAt p c (g .edges) ≡ setAt p c (h .edges)
+    go : (f p c ≡ true) ⊎ (setAt p c (g .edges) ≡ emptySet) → (f p c ≡ true) ⊎ (setAt p c (h .edges) ≡ emptySet)
+        → plainSet (setAt p c (g .edges)) ≡ plainSet (setAt p c (h .edges))
     go (inl k) z = eqSet-eq (setAt p c (g .edges)) (setAt p c (h .edges)) k
     go (inr k) (inl l) = eqSet-eq (setAt p c (g .edges)) (setAt p c (h .edges)) l
-    go (inr k) (inr l) = k ∙ sym l
+    go (inr k) (inr l) = ap plainSet (k ∙ sym l)
 
 not-no : (b : Bool) → not b ≡ false → b ≡ true
 not-no true h = refl
 not-no false h = absurd (true≢false h)
 
--- not changed: the same locals, and the same set for each pair of names
-pub unchanged-same : (s t : State) → changed s t ≡ false → (s .locals ≡ t .locals) × ((p c : ℕ) → setAt p c (s .graph .edges) ≡ setAt p c (t .graph .edges))
+-- not changed: the same locals, and for each pair of names the same set but for offsets
+pub unchanged-same : (s t : State) → changed s t ≡ false
+    → (s .locals ≡ t .locals) × ((p c : ℕ) → plainSet (setAt p c (s .graph .edges)) ≡ plainSet (setAt p c (t .graph .edges)))
 unfolding changed
 unchanged-same s t e =
     let k : eqLocals (s .locals) (t .locals) && eqSets (s .graph) (t .graph) ≡ true = not-no (eqLocals (s .locals) (t .locals) && eqSets (s .graph) (t .graph)) e in (
@@ -97,12 +111,16 @@ unchanged-same s t e =
       eqSets-at (s .graph) (t .graph) (and-r (eqLocals (s .locals) (t .locals)) (eqSets (s .graph) (t .graph)) k),
     )
 
-pub same-unchanged : (s t : State) → s .locals ≡ t .locals → ((p c : ℕ) → setAt p c (s .graph .edges) ≡ setAt p c (t .graph .edges)) → changed s t ≡ false
+pub same-unchanged : (s t : State) → s .locals ≡ t .locals
+    → ((p c : ℕ) → plainSet (setAt p c (s .graph .edges)) ≡ plainSet (setAt p c (t .graph .edges)))
+    → changed s t ≡ false
 unfolding changed eqSets
 same-unchanged s t e h =
     ap not (and-i (subst (λ (ls : List Local). eqLocals (s .locals) ls ≡ true) e (eqLocals-self (s .locals)))
     (all-any (λ x. eqSet (setAt (x .parent) (x .child) (s .graph .edges)) (setAt (x .parent) (x .child) (t .graph .edges)))
-    (λ x. subst (λ (u : EdgeSet). eqSet (setAt (x .parent) (x .child) (s .graph .edges)) u ≡ true) (h (x .parent) (x .child)) (eqSet-self (setAt (x .parent) (x .child) (s .graph .edges))))
+    (λ x. let a : EdgeSet = setAt (x .parent) (x .child) (s .graph .edges) in
+    sym (eqSet-plain a (setAt (x .parent) (x .child) (t .graph .edges)))
+    ∙ subst (λ (u : EdgeSet). eqSet (plainSet a) u ≡ true) (h (x .parent) (x .child)) (eqSet-self (plainSet a)))
     (s .graph .edges ++ t .graph .edges)))
 
 -- ---- a join that changes nothing answers the very state
@@ -137,7 +155,9 @@ unchanged-eq s o t e c =
     same-state s o t j (z .0)
     (all-imp (λ x. covered (setAt (x .parent) (x .child) (t .graph .edges) .edges) (x .edge)) (λ x. covered (setAt (x .parent) (x .child) (j .parts .ours .edges) .edges) (x .edge))
     (λ x h. subst (λ (g : Graph). covered (setAt (x .parent) (x .child) (g .edges) .edges) (x .edge) ≡ true) (sym w)
-    (subst (λ (u : EdgeSet). covered (u .edges) (x .edge) ≡ true) (sym (z .1 (x .parent) (x .child))) h))
+    (sym (covered-plain (setAt (x .parent) (x .child) (s .graph .edges) .edges) (x .edge))
+    ∙ ap (λ (u : EdgeSet). covered (u .edges) (x .edge)) (z .1 (x .parent) (x .child))
+    ∙ covered-plain (setAt (x .parent) (x .child) (t .graph .edges) .edges) (x .edge) ∙ h))
     (unmatched (j .parts .ours) (j .parts .theirs)) (j .merge .news))
 
 -- ---- the Rust's test: the locals differ, or some edge of the answer is not covered by an edge of the state (`leq`)
@@ -160,7 +180,7 @@ prefix-trans (x ∷ xs) (y ∷ ys) (z ∷ zs) p q =
     and-i (subst (λ (n : ℕ). eqb n z ≡ true) (sym e) (and-l (eqb y z) (prefix ys zs) q)) (prefix-trans xs ys zs (and-r (eqb x y) (prefix xs ys) p) (and-r (eqb y z) (prefix ys zs) q))
 
 pub covers-trans : (a b c : Edge) → covers a b ≡ true → covers b c ≡ true → covers a c ≡ true
-unfolding covers
+unfolding covers eqEdge
 covers-trans a b c p q = go (or-cases (eqEdge a b) (not (a .strong) && prefix (a .path) (b .path)) p) (or-cases (eqEdge b c) (not (b .strong) && prefix (b .path) (c .path)) q)
   where
     go : (eqEdge a b ≡ true) ⊎ (not (a .strong) && prefix (a .path) (b .path) ≡ true) → (eqEdge b c ≡ true) ⊎ (not (b .strong) && prefix (b .path) (c .path) ≡ true)

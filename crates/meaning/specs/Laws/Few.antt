@@ -4,23 +4,23 @@ use Prim.Native.Nat.{ℕ, zero, suc, _+_, _*_, _≤_, zero-le}
 use native.Mathlib.Omega.{arith}
 use mathlib.Core.Bool.{Bool, true, false, not, _&&_, _||_, cond, false≢true}
 use mathlib.Core.List.{List, [], _∷_, _++_, map}
-use mathlib.Core.Option.{none, some}
+use mathlib.Core.Option.{Option, none, some}
 use mathlib.Core.Path.{_≡_, refl, subst}
 use native.Mathlib.Nat.{le-refl}
 use lib.Dec.{ltb, eqb}
 use lib.ListN.{length, getD}
-use Rattle.meaning.specs.Answers.{Ans, ok, refuse, andThen, guard, Outcome, done, violated, refused, then, lift, fails, needs}
-use Rattle.meaning.specs.Lists.{all, any, keep, empty}
+use Rattle.meaning.specs.Answers.{Ans, ok, refuse, andThen, guard, Outcome, done, violated, refused, then, lift, failsAt, needs}
+use Rattle.meaning.specs.Lists.{all, keep, empty}
 use Rattle.meaning.specs.Labels.{fieldLabel, localLabel, globalLabel}
-use Rattle.meaning.specs.BorrowGraph.{Graph, between, pairOk, moves, shift, spliced, without, addAll, newlyBlurred, limit, release, newName, borrowWeak, borrowStrong, wellFormed, held, isMutable, borrowed, mutablyBorrowed, fullyBorrowed}
+use Rattle.meaning.specs.BorrowGraph.{Graph, GEdge, between, pairOk, moves, shift, spliced, without, addAll, newlyBlurred, limit, release, newName, borrowWeak, borrowStrong, wellFormed, held, isMutable, borrows, borrowsMutably, lowestOf}
 use Rattle.meaning.specs.AbstractState.{State, canonical, Local, absent, value, ref, Operand, nonRef, reference, Token, ofValue, ofRef}
-use Rattle.meaning.specs.EntryPoints.{Running, Answer, Answers, countOn, withLocal, answer, writable, freezable, readable, needsName, newRef, onGraph, addCopy, addBorrow, addFieldBorrow, addLocalBorrow, addResourceBorrow, releaseName, valueFor, releaseValue, copyOf, copyLoc, moveOf, moveLoc, localOf, overwrite, stLoc, freezeRef, comparison, readRef, writeRef, borrowLoc, borrowField, borrowGlobal, moveFrom, vectorTest, vectorOp, vectorElementBorrow, operandNames, localNames, putNumber, ascend, releaseAll, borrowFrom, handOver, notAcquired, parentsOf, returnValues, call, ret}
+use Rattle.meaning.specs.EntryPoints.{Running, Answer, Answers, countOn, withLocal, answer, fails, barsReading, barsHandingOver, barsLocalBorrow, barsFieldBorrow, barsResourceBorrow, needsName, newRef, onGraph, addCopy, addBorrow, addFieldBorrow, addLocalBorrow, addResourceBorrow, releaseName, valueFor, releaseValue, copyOf, copyLoc, moveOf, moveLoc, localOf, overwrite, stLoc, freezeRef, comparison, readRef, writeRef, borrowLoc, borrowField, borrowGlobal, moveFrom, vectorTest, vectorOp, vectorElementBorrow, operandNames, localNames, putNumber, ascend, releaseAll, borrowFrom, handOver, noneBorrowed, notAcquired, parentsOf, returnValues, call, ret}
 use Rattle.meaning.specs.Steps.{Machine, Instr, Pop, CopyLoc, MoveLoc, StLoc, FreezeRef, Compare, ReadRef, WriteRef, BorrowLoc, BorrowField, BorrowGlobal, MoveFrom, Call, Ret, Values, MoveTo, VectorOp, BorrowElement, pop, popRef, popValue, popValues, popMany, push, pushed, pushAll, pushNew, unchanged, stepOn, step, isRet}
-use Rattle.meaning.specs.Blocks.{Routine, settle, renamedEnd, endOf, finish, runFrom, instrsOf, runBlock, exec, startMachine}
+use Rattle.meaning.specs.Blocks.{Routine, machineAt, settle, renamedEnd, endOf, finish, runFrom, instrsOf, runBlock, exec, startMachine}
 use Rattle.meaning.specs.Loop.{Result, Block, noBlock, passedUp}
 use Rattle.meaning.specs.Laws.Add.{keep-few}
 use Rattle.meaning.specs.Laws.Base.{guard-ok, andThen-ok, leb-le, decide, and-l, and-r}
-use Rattle.meaning.specs.Laws.Block.{Enters, enters}
+use Rattle.meaning.specs.Laws.Block.{Enters, enters, at-good}
 use Rattle.meaning.specs.Laws.Blurs.{newly-few}
 use Rattle.meaning.specs.Laws.Forms.{Strong}
 use Rattle.meaning.specs.Laws.Graph.{limit-ok}
@@ -33,7 +33,7 @@ use Rattle.meaning.specs.Laws.Step.{names-le, locals-le, Fine, good-less
 -- what is done, or violated, has a number of at most k; a refusal has none
 data Adds {A : Type 0} (number : A → ℕ) (k : ℕ) : Outcome A → Type 0 where
   adds : {a : A} → number a ≤ k → Adds number k (done a)
-  broke : {j c : ℕ} → j ≤ k → Adds number k (violated j c)
+  broke : {j c o : ℕ} → j ≤ k → Adds number k (violated j c o)
   barred : {n : ℕ} → Adds number k (refused n)
 
 adds-more : {A : Type 0} {number : A → ℕ} {k n : ℕ} {a : Outcome A} → Adds number k a → k ≤ n → Adds number n a
@@ -46,9 +46,14 @@ adds-then (adds {a} p) h f g = g a p
 adds-then (broke {j} p) h f g = broke {j = j} (omega (arith, p, h))
 adds-then barred h f g = barred
 
-adds-fails : {A : Type 0} {number : A → ℕ} {k : ℕ} (n : ℕ) (b : Bool) (c : ℕ) {a : Outcome A} → n ≤ k → Adds number k a → Adds number k (fails n b c a)
-adds-fails n true c p h = broke p
-adds-fails n false c p h = h
+adds-failsAt : {A : Type 0} {number : A → ℕ} {k : ℕ} (n : ℕ) (x : Option ℕ) (c : ℕ) {a : Outcome A} → n ≤ k → Adds number k a
+    → Adds number k (failsAt n x c a)
+adds-failsAt n none c p h = h
+adds-failsAt n (some o) c p h = broke p
+
+adds-fails : {A : Type 0} {number : A → ℕ} {k : ℕ} (r : Running) (q : GEdge → Bool) (c : ℕ) {a : Outcome A} → r .blurs ≤ k → Adds number k a
+    → Adds number k (fails r q c a)
+adds-fails r q c p h = adds-failsAt (r .blurs) (lowestOf q (r .graph .edges)) c p h
 
 adds-needs : {A : Type 0} {number : A → ℕ} {k : ℕ} (b : Bool) (n : ℕ) {a : Outcome A} → Adds number k a → Adds number k (needs b n a)
 adds-needs true n h = h
@@ -84,33 +89,34 @@ release-limit : (g : Graph) (n : ℕ) (h : Graph) → release g n ≡ ok h → l
 unfolding release
 release-limit g n h e = limited (wellFormed g && held g n) (addAll (spliced g n) (without g n)) h e
 
-weak-limit : (g : Graph) (p : ℕ) (path : List ℕ) (c : ℕ) (h : Graph) → borrowWeak g p path c ≡ ok h → length (h .edges) ≤ 96
+weak-limit : (g : Graph) (p : ℕ) (path : List ℕ) (c o : ℕ) (h : Graph) → borrowWeak g p path c o ≡ ok h → length (h .edges) ≤ 96
 unfolding borrowWeak
-weak-limit g p path c h e = limited (wellFormed g && pairOk (g .names) p c) (addAll (between p (record { strong = false; path = path }) c ∷ []) g) h e
+weak-limit g p path c o h e =
+    limited (wellFormed g && pairOk (g .names) p c) (addAll (between p (record { strong = false; path = path; offset = o }) c ∷ []) g) h e
 
-strong-limit : (g : Graph) (p : ℕ) (path : List ℕ) (c : ℕ) (h : Graph) → borrowStrong g p path c ≡ ok h → length (h .edges) ≤ 96
+strong-limit : (g : Graph) (p : ℕ) (path : List ℕ) (c o : ℕ) (h : Graph) → borrowStrong g p path c o ≡ ok h → length (h .edges) ≤ 96
 unfolding borrowStrong
-strong-limit g p path c h e =
+strong-limit g p path c o h e =
     limited (wellFormed g && (pairOk (g .names) p c && all (λ x. not (eqb c (x .child))) (keep (moves p path) (g .edges))))
-    (addAll (map (shift c path) (keep (moves p path) (g .edges)) ++ (between p (record { strong = true; path = path }) c ∷ []))
+    (addAll (map (shift c path) (keep (moves p path) (g .edges)) ++ (between p (record { strong = true; path = path; offset = o }) c ∷ []))
     (record { names = g .names; edges = keep (λ x. not (moves p path x)) (g .edges) })) h e
 
 release-few : (n : ℕ) (r : Running) → Adds blurs (r .blurs + 96) (releaseName n r)
 unfolding releaseName
 release-few n r = graph-few r (release (r .graph) n) (release-limit (r .graph) n)
 
-weak-few : (p : ℕ) (path : List ℕ) (c : ℕ) (r : Running) → Adds blurs (r .blurs + 96) (onGraph r (borrowWeak (r .graph) p path c))
-weak-few p path c r = graph-few r (borrowWeak (r .graph) p path c) (weak-limit (r .graph) p path c)
+weak-few : (p : ℕ) (path : List ℕ) (c : ℕ) (r : Running) → Adds blurs (r .blurs + 96) (onGraph r (borrowWeak (r .graph) p path c (r .offset)))
+weak-few p path c r = graph-few r (borrowWeak (r .graph) p path c (r .offset)) (weak-limit (r .graph) p path c (r .offset))
 
-strong-few : (p : ℕ) (path : List ℕ) (c : ℕ) (r : Running) → Adds blurs (r .blurs + 96) (onGraph r (borrowStrong (r .graph) p path c))
-strong-few p path c r = graph-few r (borrowStrong (r .graph) p path c) (strong-limit (r .graph) p path c)
+strong-few : (p : ℕ) (path : List ℕ) (c : ℕ) (r : Running) → Adds blurs (r .blurs + 96) (onGraph r (borrowStrong (r .graph) p path c (r .offset)))
+strong-few p path c r = graph-few r (borrowStrong (r .graph) p path c (r .offset)) (strong-limit (r .graph) p path c (r .offset))
 
 -- a new name adds none
 newRef-few : (m : Bool) (r : Running) → Adds blurs (r .blurs) (newRef m r)
 unfolding newRef
 newRef-few m r = adds-needs (ltb (r .next) 65536) 9 (go (newName (r .graph) (r .next) m))
   where
-    go : (a : Ans Graph) → Adds blurs (r .blurs) (then (lift a) (λ g. done (record { locals = r .locals; graph = g; next = suc (r .next); root = r .root; blurs = r .blurs })))
+    go : (a : Ans Graph) → Adds blurs (r .blurs) (then (lift a) (λ g. done (record { locals = r .locals; graph = g; next = suc (r .next); root = r .root; blurs = r .blurs; offset = r .offset })))
     go (ok g) = adds (le-refl (r .blurs))
     go (refuse n) = barred
 
@@ -157,8 +163,8 @@ module _ (r : Running) where
   known : {A : Type 0} {number : A → ℕ} {k : ℕ} (n : ℕ) {a : Outcome A} → Adds number k a → Adds number k (needsName (r .graph) n a)
   known n h = adds-needs (wellFormed (r .graph) && held (r .graph) n) 9 h
 
-  test : {A : Type 0} {number : A → ℕ} (b : Bool) (c : ℕ) {a : Outcome A} → Adds number two a → Adds number two (fails (r .blurs) b c a)
-  test b c h = adds-fails (r .blurs) b c (omega arith) h
+  test : {A : Type 0} {number : A → ℕ} (q : GEdge → Bool) (c : ℕ) {a : Outcome A} → Adds number two a → Adds number two (fails r q c a)
+  test q c h = adds-fails r q c (omega arith) h
 
   plain : (v : Operand) → Adds ofAnswer two (answer r v)
   plain v = adds {a = record { state = r; operand = v }} (omega arith)
@@ -182,7 +188,7 @@ module _ (r : Running) where
     where
       go : (x : Local) → Adds ofAnswer two (copyOf r i x)
       go absent = barred
-      go value = known (r .root) (test (mutablyBorrowed (r .graph) (r .root) (some (localLabel i))) 101 (plain nonRef))
+      go value = known (r .root) (test (borrowsMutably (r .graph) (r .root) (some (localLabel i))) 101 (plain nonRef))
       go (ref n) = known n (adds-more (borrow-few (isMutable (r .graph) n) (addCopy n (r .next)) r (λ s. strong-few n [] (r .next) s)) (omega arith))
 
   moveLoc-few : (i : ℕ) → Adds ofAnswer two (moveLoc i r)
@@ -194,13 +200,13 @@ module _ (r : Running) where
 
       go : (x : Local) → Adds ofAnswer two (moveOf r i x)
       go absent = barred
-      go value = known (r .root) (test (borrowed (r .graph) (r .root) (some (localLabel i))) 102 (moved nonRef))
+      go value = known (r .root) (test (borrows (r .root) (some (localLabel i))) 102 (moved nonRef))
       go (ref n) = moved (reference n)
 
   freezeRef-few : (n : ℕ) → Adds ofAnswer two (freezeRef n r)
   unfolding freezeRef addCopy
   freezeRef-few n =
-      known n (adds-needs (isMutable (r .graph) n) 13 (test (not (freezable (r .graph) n none)) 104
+      known n (adds-needs (isMutable (r .graph) n) 13 (test (borrowsMutably (r .graph) n none) 104
       (replace-few false (addCopy n (r .next)) n r (λ s. strong-few n [] (r .next) s))))
 
   comparison-few : (v w : Operand) → Adds ofAnswer two (comparison v w r)
@@ -209,42 +215,42 @@ module _ (r : Running) where
   comparison-few nonRef (reference n) = barred
   comparison-few (reference m) nonRef = barred
   comparison-few (reference m) (reference n) =
-      known m (test (not (readable (r .graph) m none)) 105 (known n (test (not (readable (r .graph) n none)) 105
+      known m (test (barsReading (r .graph) m none) 105 (known n (test (barsReading (r .graph) n none) 105
       (adds-then (release-few m r) (omega arith) (λ s. then (releaseName n s) (λ t. answer t nonRef))
       (λ s p. adds-then (release-few n s) (omega (arith, p)) (λ t. answer t nonRef) (λ t q. adds (omega (arith, p, q))))))))
 
   readRef-few : (n : ℕ) → Adds ofAnswer two (readRef n r)
   unfolding readRef
-  readRef-few n = known n (test (not (readable (r .graph) n none)) 105 (adds-then (released n) (omega arith) (λ s. answer s nonRef) (λ s p. adds p)))
+  readRef-few n = known n (test (barsReading (r .graph) n none) 105 (adds-then (released n) (omega arith) (λ s. answer s nonRef) (λ s p. adds p)))
 
   writeRef-few : (n : ℕ) → Adds blurs two (writeRef n r)
   unfolding writeRef
-  writeRef-few n = known n (adds-needs (isMutable (r .graph) n) 13 (test (not (writable (r .graph) n)) 106 (released n)))
+  writeRef-few n = known n (adds-needs (isMutable (r .graph) n) 13 (test (borrows n none) 106 (released n)))
 
   borrowLoc-few : (m : Bool) (i : ℕ) → Adds ofAnswer two (borrowLoc m i r)
   unfolding borrowLoc addLocalBorrow
   borrowLoc-few m i =
-      known (r .root) (test (not m && mutablyBorrowed (r .graph) (r .root) (some (localLabel i))) 107
+      known (r .root) (test (barsLocalBorrow m (r .graph) (r .root) i) 107
       (adds-more (borrow-few m (addLocalBorrow i (r .next)) r (λ s. strong-few (s .root) (localLabel i ∷ []) (r .next) s)) (omega arith)))
 
   borrowField-few : (m : Bool) (n f : ℕ) → Adds ofAnswer two (borrowField m n f r)
   unfolding borrowField addFieldBorrow
   borrowField-few m n f =
-      known n (test (cond m (fullyBorrowed (r .graph) n) (not (readable (r .graph) n (some (fieldLabel f))))) 108
+      known n (test (barsFieldBorrow m (r .graph) n f) 108
       (replace-few m (addFieldBorrow n f (r .next)) n r (λ s. strong-few n (fieldLabel f ∷ []) (r .next) s)))
 
   borrowGlobal-few : (m : Bool) (i : ℕ) → Adds ofAnswer two (borrowGlobal m i r)
   unfolding borrowGlobal addResourceBorrow
   borrowGlobal-few m i =
-      known (r .root) (test ((m && borrowed (r .graph) (r .root) (some (globalLabel i))) || mutablyBorrowed (r .graph) (r .root) (some (globalLabel i))) 109
+      known (r .root) (test (barsResourceBorrow m (r .graph) (r .root) i) 109
       (adds-more (borrow-few m (addResourceBorrow i (r .next)) r (λ s. weak-few (s .root) (globalLabel i ∷ []) (r .next) s)) (omega arith)))
 
   moveFrom-few : (i : ℕ) → Adds ofAnswer two (moveFrom i r)
   unfolding moveFrom
-  moveFrom-few i = known (r .root) (test (borrowed (r .graph) (r .root) (some (globalLabel i))) 109 (plain nonRef))
+  moveFrom-few i = known (r .root) (test (borrows (r .root) (some (globalLabel i))) 109 (plain nonRef))
 
   vector-few : {A : Type 0} {number : A → ℕ} (m : Bool) (n c : ℕ) {a : Outcome A} → Adds number two a → Adds number two (vectorTest m r n c a)
-  vector-few true n c h = adds-needs (isMutable (r .graph) n) 13 (test (not (writable (r .graph) n)) c h)
+  vector-few true n c h = adds-needs (isMutable (r .graph) n) 13 (test (borrows n none) c h)
   vector-few false n c h = h
 
   vectorOp-few : (v : Operand) (m : Bool) → Adds blurs two (vectorOp v m r)
@@ -266,7 +272,7 @@ stLoc-few i v r = go (getD (r .locals) i absent)
 
     go : (x : Local) → Adds blurs (two s) (overwrite i s x)
     go absent = adds {a = s} (omega arith)
-    go value = known s (s .root) (test s (borrowed (s .graph) (s .root) (some (localLabel i))) 103 (adds {a = s} (omega arith)))
+    go value = known s (s .root) (test s (borrows (s .root) (some (localLabel i))) 103 (adds {a = s} (omega arith)))
     go (ref n) = released s n
 
 -- ---- call and return
@@ -292,7 +298,13 @@ ascend-few (n ∷ ns) =
 handOver-few : {A : Type 0} {number : A → ℕ} {k : ℕ} (ns : List ℕ) (c : ℕ) (r : Running) {a : Outcome A} → r .blurs ≤ k → Adds number k a → Adds number k (handOver ns c r a)
 unfolding handOver
 handOver-few [] c r p h = h
-handOver-few (n ∷ ns) c r p h = known r n (adds-fails (r .blurs) (isMutable (r .graph) n && not (writable (r .graph) n)) c p (handOver-few ns c r p h))
+handOver-few (n ∷ ns) c r p h = known r n (adds-fails r (barsHandingOver (r .graph) n) c p (handOver-few ns c r p h))
+
+noneBorrowed-few : {A : Type 0} {number : A → ℕ} {k : ℕ} (is : List ℕ) (r : Running) {a : Outcome A} → r .blurs ≤ k → Adds number k a
+    → Adds number k (noneBorrowed is r a)
+unfolding noneBorrowed
+noneBorrowed-few [] r p h = h
+noneBorrowed-few (i ∷ is) r p h = adds-fails r (borrows (r .root) (some (globalLabel i))) 109 p (noneBorrowed-few is r p h)
 
 abbrev ofAnswers : Answers → ℕ
 ofAnswers a = a .state .blurs
@@ -326,7 +338,7 @@ call-few args acquired ts r l t =
     let a : length names ≤ length args = names-le args in
     let b : length alls ≤ length names = ascend-few names in
     let c : length muts ≤ length alls = keep-few (isMutable (r .graph)) alls in
-    known r (r .root) (adds-fails (r .blurs) (any (λ i. borrowed (r .graph) (r .root) (some (globalLabel i))) acquired) 109 (omega arith)
+    known r (r .root) (noneBorrowed-few (ascend acquired) r (omega arith)
     (handOver-few names 112 r (omega arith)
     (adds-then (returnValues-few ts muts alls r (omega (arith, a, b, c, l)) (omega (arith, a, b, l))) (omega (arith, t)) (λ x. then (releaseAll alls (x .state)) (λ s. done (record { state = s; operands = x .operands })))
     (λ x p. adds-then (releaseAll-few alls (x .state)) (omega (arith, a, b, l, t, p)) (λ s. done (record { state = s; operands = x .operands }))
@@ -338,9 +350,9 @@ ret-few vs r l =
     let names : List ℕ = localNames (r .locals) in
     let a : length names ≤ length (r .locals) = locals-le (r .locals) in
     let b : length (ascend names) ≤ length names = ascend-few names in
-    adds-then (releaseAll-few (ascend names) r) (omega (arith, a, b, l)) (λ s. needsName (s .graph) (s .root) (fails (s .blurs) (borrowed (s .graph) (s .root) none) 113 (handOver (operandNames vs) 114 s (done s))))
+    adds-then (releaseAll-few (ascend names) r) (omega (arith, a, b, l)) (λ s. needsName (s .graph) (s .root) (fails s (borrows (s .root) none) 113 (handOver (operandNames vs) 114 s (done s))))
     (λ s p. let h : s .blurs ≤ r .blurs + perStep = omega (arith, a, b, l, p) in
-    known s (s .root) (adds-fails (s .blurs) (borrowed (s .graph) (s .root) none) 113 h (handOver-few (operandNames vs) 114 s h (adds h))))
+    known s (s .root) (adds-fails s (borrows (s .root) none) 113 h (handOver-few (operandNames vs) 114 s h (adds h))))
 
 -- ---- the stack, and one instruction
 
@@ -462,17 +474,17 @@ module _ (l : ℕ) (small : l ≤ 16) (returns : ℕ) (b : Block) where
   unfolding runFrom retsPlaced step
   run-few o [] k m f p h c = let a : passedUp (finish b (m .state) (m .stack)) ≤ m .state .blurs = finish-few (m .state) (m .stack) in omega (arith, a)
   run-few o (i ∷ is) k m f p h c =
-      let r : Running = m .state in
+      let r : Running = machineAt o m .state in
       let w : not (isRet i) || (empty is && empty (b .successors)) ≡ true = and-l (not (isRet i) || (empty is && empty (b .successors))) (retsPlaced (b .successors) is) p in
       let count : length (r .locals) ≡ l = h .good .count in
       let this : Adds ofMachine (r .blurs + perStep) (stepOn returns i (m .stack) r) = step-few l returns (m .stack) r (h .few) (omega (arith, count, small)) i (and-l (withinFrame l i) (all (withinFrame l) is) f) in
       let next : Machine → Result State = λ n. runFrom returns b (suc o) is n in
       decide (isRet i)
       (λ q. let z : empty is && empty (b .successors) ≡ true = subst (λ (x : Bool). not x || (empty is && empty (b .successors)) ≡ true) q w in
-      settle-few o (r .blurs + perStep) (r .blurs + perStep * suc (length is)) next (any-ret l small returns i q k (m .stack) r (h .good)) this (omega arith)
+      settle-few o (r .blurs + perStep) (r .blurs + perStep * suc (length is)) next (any-ret l small returns i q k (m .stack) r (at-good l o k m (h .good))) this (omega arith)
       (λ n u t. let a : passedUp (next n) ≤ n .state .blurs = after-few (suc o) is n (and-l (empty is) (empty (b .successors)) z) in omega (arith, a, t)))
       (λ q. settle-few o (r .blurs + perStep) (r .blurs + perStep * suc (length is)) next
-      (step-fine l small returns i (m .stack) (17 * length is) r (and-l (withinFrame l i) (all (withinFrame l) is) f) q (good-less l small k (17 * length is + 17) (m .stack) r (h .good) (omega arith)) (h .few))
+      (step-fine l small returns i (m .stack) (17 * length is) r (and-l (withinFrame l i) (all (withinFrame l) is) f) q (good-less l small k (17 * length is + 17) (m .stack) r (at-good l o k m (h .good)) (omega arith)) (h .few))
       this (omega arith)
       (λ n u t. let a : passedUp (next n) ≤ n .state .blurs + perStep * length is =
       run-few (suc o) is (17 * length is) n (and-r (withinFrame l i) (all (withinFrame l) is) f) (and-r (not (isRet i) || (empty is && empty (b .successors))) (retsPlaced (b .successors) is) p) u (omega arith) in

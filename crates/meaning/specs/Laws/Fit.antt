@@ -226,10 +226,17 @@ module _ (St : Type 0) (join : St → St → Ans St) (joinBlurs : St → St → 
       ran : (o : Result St) → exec i s ≡ o → turn St join joinBlurs changed exec blocks r ≡ afterBlock St join joinBlurs changed exec blocks r i o
       ran o d = turned ∙ ap (visitBlock St join joinBlurs changed exec blocks r i) (sym ours ∙ e) ∙ ap (afterBlock St join joinBlurs changed exec blocks r i) d
 
-      pub step-violated : (k c o : ℕ) → length blocks ≤ length xs → exec i s ≡ violated k c o → Reached (turn St join joinBlurs changed exec blocks r) ks (set xs i (failed c o)) (at (suc i)) (suc v) (b + k)
-      step-violated k c o w d =
-          subst (λ (q : Run St). Reached q ks (set xs i (failed c o)) (at (suc i)) (suc v) (b + k)) (sym (ran (violated k c o) d))
-          (record { same-length = marked-length (failed c o); fits = marked (failed c o) w; next = refl; visited = ap suc (a .visited); blurred = ap (λ (n : ℕ). n + k) (a .blurred) })
+      pub step-violated : (k c o p : ℕ) → length blocks ≤ length xs → exec i s ≡ violated k c o p
+          → Reached (turn St join joinBlurs changed exec blocks r) ks (set xs i (failed c o p)) (at (suc i)) (suc v) (b + k)
+      step-violated k c o p w d =
+          subst (λ (q : Run St). Reached q ks (set xs i (failed c o p)) (at (suc i)) (suc v) (b + k)) (sym (ran (violated k c o p) d))
+          (record {
+            same-length = marked-length (failed c o p);
+            fits = marked (failed c o p) w;
+            next = refl;
+            visited = ap suc (a .visited);
+            blurred = ap (λ (n : ℕ). n + k) (a .blurred);
+          })
 
       pub step-refused : (n p : ℕ) → exec i s ≡ refused n p → Reached (turn St join joinBlurs changed exec blocks r) ks xs (stopped n p) (suc v) b
       step-refused n p d =

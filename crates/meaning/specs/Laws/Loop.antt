@@ -221,8 +221,8 @@ module _ (St : Type 0) (join : St → St → Ans St) (joinBlurs : St → St → 
         record { okay = h .okay; falls = falls-next (z .slots) (z .next) (h .less) (h .next); seen = le-refl (suc (visits r)) }
     ran (returned k) s fs e =
         record { okay = mark-ok (r .slots) i fine a; falls = falls-on (mark St join joinBlurs changed exec blocks (r .slots) i fine) (mark-less (r .slots) i fine); seen = le-refl (suc (visits r)) }
-    ran (violated k c o) s fs e =
-        record { okay = mark-ok (r .slots) i (failed c o) a; falls = falls-on (mark St join joinBlurs changed exec blocks (r .slots) i (failed c o)) (mark-less (r .slots) i (failed c o)); seen = le-refl (suc (visits r)) }
+    ran (violated k c o p) s fs e =
+        record { okay = mark-ok (r .slots) i (failed c o p) a; falls = falls-on (mark St join joinBlurs changed exec blocks (r .slots) i (failed c o p)) (mark-less (r .slots) i (failed c o p)); seen = le-refl (suc (visits r)) }
     ran (refused n p) s fs e = record { okay = a; falls = falls-stop (r .slots) (le-refl (total (r .slots))); seen = le-refl (suc (visits r)) }
 
     visited : (o : Option St) → getD (r .slots) i blank .kept ≡ o → Progress (visits r) p₀ (visitBlock St join joinBlurs changed exec blocks r i o)

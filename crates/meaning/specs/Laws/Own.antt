@@ -35,7 +35,7 @@ insert-fair : (s : EdgeSet) (e : Edge) → fair (insert s e) ≡ true
 unfolding insert
 insert-fair s e = go (s .blurred) (leb 10 (length (s .edges))) (leb (length (e .path)) 8) (has e (s .edges))
   where
-    go : (a b c d : Bool) → fair (cond a (ok s) (cond b (ok blur) (cond c (cond d (ok s) (ok (record { edges = put e (s .edges); blurred = false }))) (refuse 22)))) ≡ true
+    go : (a b c d : Bool) → fair (cond a (ok s) (cond b (ok (blur (e .offset))) (cond c (cond d (ok s) (ok (record { edges = put e (s .edges); blurred = false }))) (refuse 22)))) ≡ true
     go true b c d = refl
     go false true c d = refl
     go false false true true = refl
@@ -277,23 +277,24 @@ module _ (l : ℕ) (g : Graph) (next c : ℕ) (xs : List ℕ) (m : ℕ) (o : Own
       let b : count1 (eqb c c) ≡ 1 = count-yes (eqb-self c) in
       and-i (owns-held l g next (c ∷ xs) m o p (omega arith)) (and-i (owns-held l g next (c ∷ xs) m o c (omega arith)) (ap not (eqb-no {m = p} {n = c} (other p h))))
 
-  pub borrowWeak-fair : (p : ℕ) (path : List ℕ) → 1 ≤ times p (l ∷ xs) → fair (borrowWeak g p path c) ≡ true
+  pub borrowWeak-fair : (p : ℕ) (path : List ℕ) (a : ℕ) → 1 ≤ times p (l ∷ xs) → fair (borrowWeak g p path c a) ≡ true
   unfolding borrowWeak
-  borrowWeak-fair p path h =
-      fair-guard (wellFormed g && pairOk (g .names) p c) 9 (andThen (addAll (between p (record { strong = false; path = path }) c ∷ []) g) limit)
-      (and-i (o .formed) (ends-ok p h)) (puts-fair (between p (record { strong = false; path = path }) c ∷ []) g)
+  borrowWeak-fair p path a h =
+      fair-guard (wellFormed g && pairOk (g .names) p c) 9
+      (andThen (addAll (between p (record { strong = false; path = path; offset = a }) c ∷ []) g) limit)
+      (and-i (o .formed) (ends-ok p h)) (puts-fair (between p (record { strong = false; path = path; offset = a }) c ∷ []) g)
 
-  pub borrowStrong-fair : (p : ℕ) (path : List ℕ) → 1 ≤ times p (l ∷ xs) → onPairs (endsNot c) (g .edges) ≡ true → fair (borrowStrong g p path c) ≡ true
+  pub borrowStrong-fair : (p : ℕ) (path : List ℕ) (a : ℕ) → 1 ≤ times p (l ∷ xs) → onPairs (endsNot c) (g .edges) ≡ true → fair (borrowStrong g p path c a) ≡ true
   unfolding borrowStrong
-  borrowStrong-fair p path h f =
+  borrowStrong-fair p path a h f =
       fair-guard (wellFormed g && (pairOk (g .names) p c && all (λ x. not (eqb c (x .child))) (keep (moves p path) (g .edges)))) 9
       (andThen
-      (addAll (map (shift c path) (keep (moves p path) (g .edges)) ++ (between p (record { strong = true; path = path }) c ∷ []))
+      (addAll (map (shift c path) (keep (moves p path) (g .edges)) ++ (between p (record { strong = true; path = path; offset = a }) c ∷ []))
       (record { names = g .names; edges = keep (λ x. not (moves p path x)) (g .edges) }))
       limit)
       (and-i (o .formed) (and-i (ends-ok p h) (all-keep (λ x. not (eqb c (x .child))) (moves p path) (g .edges)
       (all-imp (λ x. endsNot c (x .parent) (x .child)) (λ x. not (eqb c (x .child))) (λ x q. ap not (eqb-no {m = c} {n = x .child} (λ z. eqb-ne {m = x .child} {n = c} (not-true q) (sym z)))) (g .edges) f))))
-      (puts-fair (map (shift c path) (keep (moves p path) (g .edges)) ++ (between p (record { strong = true; path = path }) c ∷ []))
+      (puts-fair (map (shift c path) (keep (moves p path) (g .edges)) ++ (between p (record { strong = true; path = path; offset = a }) c ∷ []))
       (record { names = g .names; edges = keep (λ x. not (moves p path x)) (g .edges) }))
 
   borrowed-own : (h : Graph) → Borrowed g c h → Owns l h next (c ∷ xs) m
@@ -305,11 +306,11 @@ module _ (l : ℕ) (g : Graph) (next c : ℕ) (xs : List ℕ) (m : ℕ) (o : Own
     left = o .left;
   }
 
-  pub borrowWeak-own : (p : ℕ) (path : List ℕ) (h : Graph) → borrowWeak g p path c ≡ ok h → Owns l h next (c ∷ xs) m
-  borrowWeak-own p path h e = borrowed-own h (borrowWeak-law g p path c h e)
+  pub borrowWeak-own : (p : ℕ) (path : List ℕ) (a : ℕ) (h : Graph) → borrowWeak g p path c a ≡ ok h → Owns l h next (c ∷ xs) m
+  borrowWeak-own p path a h e = borrowed-own h (borrowWeak-law g p path c a h e)
 
-  pub borrowStrong-own : (p : ℕ) (path : List ℕ) (h : Graph) → borrowStrong g p path c ≡ ok h → Owns l h next (c ∷ xs) m
-  borrowStrong-own p path h e = borrowed-own h (borrowStrong-law g p path c h e)
+  pub borrowStrong-own : (p : ℕ) (path : List ℕ) (a : ℕ) (h : Graph) → borrowStrong g p path c a ≡ ok h → Owns l h next (c ∷ xs) m
+  borrowStrong-own p path a h e = borrowed-own h (borrowStrong-law g p path c a h e)
 
 -- ---- the join of two graphs with the same names in use
 

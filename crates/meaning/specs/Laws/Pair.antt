@@ -397,7 +397,7 @@ insert-22 : (s : EdgeSet) (e : Edge) (n : ℕ) → insert s e ≡ refuse n → n
 unfolding insert
 insert-22 s e n q = go (s .blurred) (leb 10 (length (s .edges))) (leb (length (e .path)) 8) (has e (s .edges)) q
   where
-    go : (a b c d : Bool) → cond a (ok s) (cond b (ok blur) (cond c (cond d (ok s) (ok (record { edges = put e (s .edges); blurred = false }))) (refuse 22))) ≡ refuse n → n ≡ 22
+    go : (a b c d : Bool) → cond a (ok s) (cond b (ok (blur (e .offset))) (cond c (cond d (ok s) (ok (record { edges = put e (s .edges); blurred = false }))) (refuse 22))) ≡ refuse n → n ≡ 22
     go true b c d h = absurd (refuse≢ok (sym h))
     go false true c d h = absurd (refuse≢ok (sym h))
     go false false true true h = absurd (refuse≢ok (sym h))
@@ -452,7 +452,7 @@ insertAll-append (d ∷ ds) es s = go (insert s d) (λ t. insertAll-append ds es
 -- a blurred set stays as it is
 insert-blurred : (s : EdgeSet) (e : Edge) → s .blurred ≡ true → insert s e ≡ ok s
 unfolding insert
-insert-blurred s e b = ap (λ (z : Bool). cond z (ok s) (cond (leb 10 (length (s .edges))) (ok blur) (cond (leb (length (e .path)) 8) (cond (has e (s .edges)) (ok s) (ok (record { edges = put e (s .edges); blurred = false }))) (refuse 22)))) b
+insert-blurred s e b = ap (λ (z : Bool). cond z (ok s) (cond (leb 10 (length (s .edges))) (ok (blur (e .offset))) (cond (leb (length (e .path)) 8) (cond (has e (s .edges)) (ok s) (ok (record { edges = put e (s .edges); blurred = false }))) (refuse 22)))) b
 
 pub insertAll-blurred : (es : List Edge) (s : EdgeSet) → s .blurred ≡ true → insertAll es s ≡ ok s
 unfolding insertAll

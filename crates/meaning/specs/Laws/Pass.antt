@@ -8,7 +8,7 @@ use lib.Dec.{leb, eqb}
 use lib.ListN.{length}
 use Rattle.meaning.specs.Answers.{ok, guard, Ans, refuse, andThen}
 use Rattle.meaning.specs.Lists.{all, each, keep}
-use Rattle.meaning.specs.References.{Edge, EdgeSet, insert, offer, fitting, covered, setOk}
+use Rattle.meaning.specs.References.{Edge, EdgeSet, insert, fits, tooLong, offer, fitting, covered, setOk}
 use Rattle.meaning.specs.BorrowGraph.{splice, GEdge, setAt, setTo, eqPair, Graph, held, pairOk, wellFormed, spliced, without, release, sameNames, joinGraphs, Name, other}
 use Rattle.meaning.specs.Laws.Base.{leb-gt, le-leb, and-l, leb-le, decide, ok-inj, guard-ok, andThen-ok, and-r, eqb-self, eqb-no, eqb-eq}
 use Rattle.meaning.specs.Laws.Call.{without-inv}
@@ -27,25 +27,30 @@ pub offer-fitting : (s : EdgeSet) (e : Edge) → offer s (fitting e) ≡ insert 
 unfolding offer fitting
 offer-fitting s e = go (leb (length (e .path)) 8) refl
   where
-    go : (b : Bool) → leb (length (e .path)) 8 ≡ b → offer s (guard b 22 (ok e)) ≡ insert s e
+    go : (b : Bool) → leb (length (e .path)) 8 ≡ b → offer s (cond b (fits e) (tooLong (e .offset))) ≡ insert s e
     go true h = refl
     go false h = offer-insert s e (leb-gt h)
 
-pub offer-ok : (s : EdgeSet) (e : Edge) → offer s (ok e) ≡ insert s e
+pub offer-ok : (s : EdgeSet) (e : Edge) → offer s (fits e) ≡ insert s e
 unfolding offer
 offer-ok s e = refl
 
-pub fitting-short : (e : Edge) → length (e .path) ≤ 8 → ok e ≡ fitting e
+pub fitting-short : (e : Edge) → length (e .path) ≤ 8 → fits e ≡ fitting e
 unfolding fitting
-fitting-short e h = ap (λ (b : Bool). guard b 22 (ok e)) (sym (le-leb h))
+fitting-short e h = ap (λ (b : Bool). cond b (fits e) (tooLong (e .offset))) (sym (le-leb h))
 
-pub splice-strong : (e f : Edge) → e .strong ≡ true → record { strong = f .strong; path = e .path ++ f .path } ≡ splice e f
+pub splice-strong : (e f : Edge) → e .strong ≡ true → record { strong = f .strong; path = e .path ++ f .path; offset = f .offset } ≡ splice e f
 unfolding splice
-splice-strong e f h = λ i. record { strong = sym h i && f .strong; path = cond (sym h i) (e .path ++ f .path) (e .path) }
+splice-strong e f h = λ i. record { strong = sym h i && f .strong; path = cond (sym h i) (e .path ++ f .path) (e .path); offset = f .offset }
 
-pub splice-weak : (e f : Edge) → e .strong ≡ false → e ≡ splice e f
+pub splice-weak : (e f : Edge) → e .strong ≡ false → record { strong = e .strong; path = e .path; offset = f .offset } ≡ splice e f
 unfolding splice
-splice-weak e f h = λ i. record { strong = (h ∙ ap (λ (b : Bool). b && f .strong) (sym h)) i; path = cond (sym h i) (e .path ++ f .path) (e .path) }
+splice-weak e f h =
+    λ i. record {
+      strong = (h ∙ ap (λ (b : Bool). b && f .strong) (sym h)) i;
+      path = cond (sym h i) (e .path ++ f .path) (e .path);
+      offset = f .offset;
+    }
 
 module _ (ds : List Edge) (e : Edge) (es : List Edge) where
   pub uncovered-skip : covered ds e ≡ true → uncovered ds (e ∷ es) ≡ uncovered ds es

@@ -38,9 +38,9 @@ pub insert-short : (s : EdgeSet) (e : Edge) → length (e .path) ≤ 8 → (t : 
 unfolding insert
 insert-short s e h = go (s .blurred) (leb 10 (length (s .edges))) (has e (s .edges)) (leb (length (e .path)) 8) (le-leb h)
   where
-    go : (a b c d : Bool) → d ≡ true → (t : EdgeSet) × (cond a (ok s) (cond b (ok blur) (cond d (cond c (ok s) (ok (record { edges = put e (s .edges); blurred = false }))) (refuse 22))) ≡ ok t)
+    go : (a b c d : Bool) → d ≡ true → (t : EdgeSet) × (cond a (ok s) (cond b (ok (blur (e .offset))) (cond d (cond c (ok s) (ok (record { edges = put e (s .edges); blurred = false }))) (refuse 22))) ≡ ok t)
     go true b c d q = (s, refl)
-    go false true c d q = (blur, refl)
+    go false true c d q = (blur (e .offset), refl)
     go false false true true q = (s, refl)
     go false false false true q = (record { edges = put e (s .edges); blurred = false }, refl)
     go false false c false q = absurd (false≢true q)
@@ -77,7 +77,7 @@ module _ (g : Graph) (p c : ℕ) (e : Edge) (t : EdgeSet) (q : insert (setAt p c
 -- the edge y of g, moved under c, is put into a graph with the same names that has room
 module _ (g : Graph) (c : ℕ) (path : List ℕ) (y : GEdge) (ys : List GEdge) (r : Ans Graph) (w : wellFormed g ≡ true) (l : length (g .edges) < 96) where
   abbrev new : Edge
-  new = record { strong = y .edge .strong; path = drop (length path) (y .edge .path) }
+  new = record { strong = y .edge .strong; path = drop (length path) (y .edge .path); offset = y .edge .offset }
 
   module _ (h : Graph) (sh : length (drop (length path) (y .edge .path)) ≤ 8) (k : pairOk (g .names) c (y .child) ≡ true) (a : h ≡ leaves g (andThen (addEdge g (shift c path y)) limit)) where
     t : EdgeSet
@@ -123,7 +123,7 @@ addAll-append (x ∷ xs) ys g h e =
     let z = andThen-ok (addEdge g x) (λ k. addAll xs k) h e in
     ap (λ (a : Ans Graph). andThen a (λ k. addAll (xs ++ ys) k)) (z .1) ∙ addAll-append xs ys (z .0) h (z .2)
 
-module _ (g : Graph) (p : ℕ) (path : List ℕ) (c : ℕ) where
+module _ (g : Graph) (p : ℕ) (path : List ℕ) (c o : ℕ) where
   abbrev moved : List GEdge
   moved = keep (moves p path) (g .edges)
 
@@ -133,7 +133,7 @@ module _ (g : Graph) (p : ℕ) (path : List ℕ) (c : ℕ) where
   abbrev apart : Bool
   apart = all (λ x. not (eqb c (x .child))) moved
 
-  pub strong-9 : wellFormed g && (pairOk (g .names) p c && apart) ≡ false → borrowStrong g p path c ≡ refuse 9
+  pub strong-9 : wellFormed g && (pairOk (g .names) p c && apart) ≡ false → borrowStrong g p path c o ≡ refuse 9
   unfolding borrowStrong
   strong-9 e = rw e
 
@@ -168,9 +168,9 @@ module _ (g : Graph) (p : ℕ) (path : List ℕ) (c : ℕ) where
         second x y u k = and-l y u (and-r x (y && u) k)
 
     -- the last edge decides
-    pub strong-last : (h : Graph) → Moved stay c path moved h → borrowStrong g p path c ≡ andThen (addEdge h (between p (record { strong = true; path = path }) c)) limit
+    pub strong-last : (h : Graph) → Moved stay c path moved h → borrowStrong g p path c o ≡ andThen (addEdge h (between p (record { strong = true; path = path; offset = o }) c)) limit
     unfolding borrowStrong addAll
-    strong-last h m = rw t (ap (λ (z : Ans Graph). andThen z limit) (addAll-append (map (shift c path) moved) (between p (record { strong = true; path = path }) c ∷ []) stay h (m .done)) ∙ flat (addEdge h (between p (record { strong = true; path = path }) c)))
+    strong-last h m = rw t (ap (λ (z : Ans Graph). andThen z limit) (addAll-append (map (shift c path) moved) (between p (record { strong = true; path = path; offset = o }) c ∷ []) stay h (m .done)) ∙ flat (addEdge h (between p (record { strong = true; path = path; offset = o }) c)))
       where
         flat : (a : Ans Graph) → andThen (andThen a (λ k. ok k)) limit ≡ andThen a limit
         flat (ok k) = refl
@@ -194,14 +194,14 @@ insert-first p c es e z h = ap (λ (s : EdgeSet). insert s e) (empty-set p c es 
     made : Ans EdgeSet
     made = ok (record { edges = e ∷ []; blurred = false })
 
-pub strong-still : (g : Graph) (p : ℕ) (path : List ℕ) (c : ℕ) → wellFormed g ≡ true → pairOk (g .names) p c ≡ true → any (moves p path) (g .edges) ≡ false
-    → borrowStrong g p path c ≡ andThen (addEdge g (between p (record { strong = true; path = path }) c)) limit
+pub strong-still : (g : Graph) (p : ℕ) (path : List ℕ) (c o : ℕ) → wellFormed g ≡ true → pairOk (g .names) p c ≡ true → any (moves p path) (g .edges) ≡ false
+    → borrowStrong g p path c o ≡ andThen (addEdge g (between p (record { strong = true; path = path; offset = o }) c)) limit
 unfolding addAll
-strong-still g p path c w k e =
+strong-still g p path c o w k e =
     let n : keep (moves p path) (g .edges) ≡ [] = none-kept (moves p path) (g .edges) e in
     let s : keep (λ x. not (moves p path x)) (g .edges) ≡ g .edges = none-lost (moves p path) (g .edges) e in
     let t = and-i w (and-i k (ap (all (λ (x : GEdge). not (eqb c (x .child)))) n)) in
-    strong-last g p path c t g (record {
+    strong-last g p path c o t g (record {
       done = λ i. addAll (map (shift c path) (n i)) (record { names = g .names; edges = s i });
       formed = w;
       names = refl;

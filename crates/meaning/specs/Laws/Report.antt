@@ -5,8 +5,8 @@ use mathlib.Core.Bool.{Bool, true, false, cond, not, _&&_, false≢true}
 use mathlib.Core.Path.{_≡_, refl, sym, ap, _∙_, subst}
 use lib.Dec.{leb}
 use lib.ListN.{length}
-use Rattle.meaning.specs.Answers.{Ans, ok, refuse, andThen, leaves}
-use Rattle.meaning.specs.References.{Edge, EdgeSet, blur, has, put, insert, Report, added, alreadyThere, blurredNow, blurredBefore, report, offer, offerReport}
+use Rattle.meaning.specs.Answers.{Ans, ok, refuse, andThen}
+use Rattle.meaning.specs.References.{Edge, EdgeSet, blur, has, put, insert, Report, added, alreadyThere, blurredNow, blurredBefore, report, Offered, fits, tooLong, offer, offerReport}
 use Rattle.meaning.specs.Laws.Base.{leb-le, leb-gt, le-leb, ok-inj, andThen-ok, decide, and-not}
 
 -- ---- the set that is left
@@ -14,11 +14,11 @@ use Rattle.meaning.specs.Laws.Base.{leb-le, leb-gt, le-leb, ok-inj, andT
 abbrev pub setAfter : Report → EdgeSet → Edge → EdgeSet
 setAfter added s e = record { edges = put e (s .edges); blurred = false }
 setAfter alreadyThere s e = s
-setAfter blurredNow s e = blur
+setAfter blurredNow s e = blur (e .offset)
 setAfter blurredBefore s e = s
 
 after-tests : (s : EdgeSet) (e : Edge) (b c d h : Bool)
-    → cond b (ok s) (cond c (ok blur) (cond d (cond h (ok s) (ok (record { edges = put e (s .edges); blurred = false }))) (refuse 22)))
+    → cond b (ok s) (cond c (ok (blur (e .offset))) (cond d (cond h (ok s) (ok (record { edges = put e (s .edges); blurred = false }))) (refuse 22)))
     ≡ andThen (cond b (ok blurredBefore) (cond c (ok blurredNow) (cond d (cond h (ok alreadyThere) (ok added)) (refuse 22)))) (λ r. ok (setAfter r s e))
 after-tests s e true c d h = refl
 after-tests s e false true d h = refl
@@ -30,13 +30,19 @@ pub insert-report : (s : EdgeSet) (e : Edge) → insert s e ≡ andThen (report 
 unfolding insert report
 insert-report s e = after-tests s e (s .blurred) (leb 10 (length (s .edges))) (leb (length (e .path)) 8) (has e (s .edges))
 
+-- the edge that is offered; of one that is too long only the offset is known
+abbrev pub offeredOr : Edge → Offered → Edge
+offeredOr e (fits f) = f
+offeredOr e (tooLong o) = record { strong = e .strong; path = e .path; offset = o }
+
 -- an edge that is too long is never put in, so e is any
-pub offer-report : (s : EdgeSet) (a : Ans Edge) (e : Edge) → offer s a ≡ andThen (offerReport s a) (λ r. ok (setAfter r s (leaves e a)))
+pub offer-report : (s : EdgeSet) (a : Offered) (e : Edge) → offer s a ≡ andThen (offerReport s a) (λ r. ok (setAfter r s (offeredOr e a)))
 unfolding offer offerReport
-offer-report s (ok f) e = insert-report s f
-offer-report s (refuse n) e = go (s .blurred) (leb 10 (length (s .edges)))
+offer-report s (fits f) e = insert-report s f
+offer-report s (tooLong o) e = go (s .blurred) (leb 10 (length (s .edges)))
   where
-    go : (b c : Bool) → cond b (ok s) (cond c (ok blur) (refuse n)) ≡ andThen (cond b (ok blurredBefore) (cond c (ok blurredNow) (refuse n))) (λ r. ok (setAfter r s e))
+    go : (b c : Bool) → cond b (ok s) (cond c (ok (blur o)) (refuse 22))
+        ≡ andThen (cond b (ok blurredBefore) (cond c (ok blurredNow) (refuse 22))) (λ r. ok (setAfter r s (offeredOr e (tooLong o))))
     go true c = refl
     go false true = refl
     go false false = refl

@@ -148,7 +148,7 @@ module _ (q : Routine) (p : promised q ≡ true) where
       let b : Block = getD blocks i noBlock in
       propagate-ok b t w (b .successors) (record { slots = mark State join joinBlurs changed (exec q) blocks (r .slots) i fine; next = at (suc i) }) (mark-ok (r .slots) i fine (h .0), tt)
   block-ok r i h leaves = (mark-ok (r .slots) i fine (h .0), tt)
-  block-ok r i h (breaks {c} {o}) = (mark-ok (r .slots) i (failed c o) (h .0), tt)
+  block-ok r i h (breaks {c} {o} {a}) = (mark-ok (r .slots) i (failed c o a) (h .0), tt)
   block-ok r i h (bars w) = (h .0, w)
 
   visit-ok : (r : Run State) (i : ℕ) (k : Option State) → RunOk r → KeptOk k → RunOk (runLoopBlock State join joinBlurs changed (exec q) blocks r i k)
@@ -188,7 +188,7 @@ module _ (q : Routine) (p : promised q ≡ true) where
 
 abbrev numberIn : Verdict → ℕ
 numberIn accept = 0
-numberIn (violation c o) = 0
+numberIn (violation c o a) = 0
 numberIn (refusal n p) = n
 
 module _ (s : List ℕ) (q : Routine) (e : readListing s ≡ read q) where

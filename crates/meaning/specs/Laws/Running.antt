@@ -1,19 +1,19 @@
 -- The entry points keep the names in use right, and are never refused with 8, 9 or 23.
 use Prim.Native.Nat.{ℕ, suc, _+_, _≤_, _<_, zero-le}
 use native.Mathlib.Omega.{arith}
-use mathlib.Core.Bool.{true, Bool, false, false≢true, not, _&&_, _||_, cond}
+use mathlib.Core.Bool.{true, Bool, false, false≢true, _&&_, cond}
 use mathlib.Core.List.{List, [], _∷_, _++_}
-use mathlib.Core.Option.{none, some}
+use mathlib.Core.Option.{Option, none, some}
 use mathlib.Core.Path.{_≡_, refl, sym, ap, subst, _∙_}
 use borrow.Author.Tests.{lt-ltb}
 use lib.Dec.{eqb, ltb}
 use lib.ListN.{length}
-use Rattle.meaning.specs.Answers.{ordinary, Outcome, done, violated, refused, then, Ans, ok, refuse, lift, fails, needs}
-use Rattle.meaning.specs.Lists.{keep, any}
+use Rattle.meaning.specs.Answers.{ordinary, Outcome, done, violated, refused, then, Ans, ok, refuse, lift, failsAt, needs}
+use Rattle.meaning.specs.Lists.{keep}
 use Rattle.meaning.specs.Labels.{localLabel, globalLabel, fieldLabel}
-use Rattle.meaning.specs.BorrowGraph.{held, onPairs, wellFormed, release, newName, borrowWeak, borrowStrong, isMutable, fullyBorrowed, borrowed, mutablyBorrowed}
+use Rattle.meaning.specs.BorrowGraph.{GEdge, held, onPairs, wellFormed, release, newName, borrowWeak, borrowStrong, isMutable, borrows, borrowsMutably, lowestOf}
 use Rattle.meaning.specs.AbstractState.{Local, count1, Operand, nonRef, reference, Token, ofValue, ofRef}
-use Rattle.meaning.specs.EntryPoints.{Running, Answer, Answers, withGraph, answer, writable, freezable, readable, needsName, newRef, onGraph, addCopy, addBorrow, addFieldBorrow, addLocalBorrow, addResourceBorrow, releaseName, valueFor, releaseValue, freezeRef, comparison, readRef, writeRef, borrowLoc, borrowField, borrowGlobal, moveFrom, vectorTest, vectorOp, vectorElementBorrow, operandNames, releaseAll, borrowFrom, handOver, parentsOf, returnValues, putNumber, ascend, localNames, notAcquired, call, ret}
+use Rattle.meaning.specs.EntryPoints.{Running, Answer, Answers, withGraph, answer, fails, barsReading, barsHandingOver, barsLocalBorrow, barsFieldBorrow, barsResourceBorrow, needsName, newRef, onGraph, addCopy, addBorrow, addFieldBorrow, addLocalBorrow, addResourceBorrow, releaseName, valueFor, releaseValue, freezeRef, comparison, readRef, writeRef, borrowLoc, borrowField, borrowGlobal, moveFrom, vectorTest, vectorOp, vectorElementBorrow, operandNames, releaseAll, borrowFrom, handOver, parentsOf, returnValues, putNumber, ascend, localNames, noneBorrowed, notAcquired, call, ret}
 use Rattle.meaning.specs.Laws.Base.{and-i, eqb-self}
 use Rattle.meaning.specs.Laws.Call.{endsNot}
 use Rattle.meaning.specs.Laws.Own.{fair, Owns, times, count-yes, times-append, owns-held, owns-as, owns-less, release-fair, release-own, newName-fair, newName-own, borrowWeak-fair, borrowWeak-own, borrowStrong-fair, borrowStrong-own, owns-once}
@@ -23,7 +23,7 @@ use Rattle.meaning.specs.Laws.Own.{fair, Owns, times, count-yes, times-a
 -- what is done has the property; what is refused is not refused with 8, 9 or 23
 pub data Meets {A : Type 0} (P : A → Type 0) : Outcome A → Type 0 where
   met : {a : A} → P a → Meets P (done a)
-  broke : {k c : ℕ} → Meets P (violated k c)
+  broke : {k c o : ℕ} → Meets P (violated k c o)
   barred : {n : ℕ} → ordinary n ≡ true → Meets P (refused n)
 
 pub meets-then : {A B : Type 0} {P : A → Type 0} {Q : B → Type 0} {a : Outcome A} → Meets P a → (f : A → Outcome B) → ((x : A) → P x → Meets Q (f x)) → Meets Q (then a f)
@@ -35,9 +35,12 @@ pub meets-lift : {A : Type 0} {P : A → Type 0} (a : Ans A) → fair a ≡ true
 meets-lift (ok x) e k = met (k x refl)
 meets-lift (refuse n) e k = barred e
 
-pub meets-fails : {A : Type 0} {P : A → Type 0} (n : ℕ) (b : Bool) (c : ℕ) {k : Outcome A} → Meets P k → Meets P (fails n b c k)
-meets-fails n true c h = broke
-meets-fails n false c h = h
+meets-failsAt : {A : Type 0} {P : A → Type 0} (b : ℕ) (a : Option ℕ) (c : ℕ) {k : Outcome A} → Meets P k → Meets P (failsAt b a c k)
+meets-failsAt b none c h = h
+meets-failsAt b (some o) c h = broke
+
+pub meets-fails : {A : Type 0} {P : A → Type 0} (r : Running) (p : GEdge → Bool) (c : ℕ) {k : Outcome A} → Meets P k → Meets P (fails r p c k)
+meets-fails r p c h = meets-failsAt (r .blurs) (lowestOf p (r .graph .edges)) c h
 
 pub meets-needs : {A : Type 0} {P : A → Type 0} (b : Bool) (n : ℕ) {k : Outcome A} → ordinary n ≡ true → (b ≡ true → Meets P k) → Meets P (needs b n k)
 meets-needs true n e h = h refl
@@ -46,22 +49,22 @@ meets-needs false n e h = barred e
 -- read off
 abbrev isDone : {A : Type 0} → Outcome A → Type 0
 isDone (done a) = Unit {0}
-isDone (violated k c) = ⊥
+isDone (violated k c o) = ⊥
 isDone (refused n) = ⊥
 
 abbrev isRefused : {A : Type 0} → Outcome A → Type 0
 isRefused (done a) = ⊥
-isRefused (violated k c) = ⊥
+isRefused (violated k c o) = ⊥
 isRefused (refused n) = Unit {0}
 
 abbrev fromDone : {A : Type 0} → A → Outcome A → A
 fromDone d (done a) = a
-fromDone d (violated k c) = d
+fromDone d (violated k c o) = d
 fromDone d (refused n) = d
 
 abbrev fromRefused : {A : Type 0} → ℕ → Outcome A → ℕ
 fromRefused d (done a) = d
-fromRefused d (violated k c) = d
+fromRefused d (violated k c o) = d
 fromRefused d (refused n) = n
 
 pub meets-done : {A : Type 0} {P : A → Type 0} {a : Outcome A} → Meets P a → (x : A) → a ≡ done x → P x
@@ -119,22 +122,22 @@ module _ (l : ℕ) (ls : List Local) where
       let s : r .next < 65536 = omega arith in
       rw (lt-ltb (r .next) 65536 s)
       (meets-then (meets-lift (newName (r .graph) (r .next) b) (newName-fair l (r .graph) (r .next) xs (suc m) b (h .own) k) (λ g e. newName-own l (r .graph) (r .next) xs m b g (h .own) e))
-      (λ g. done (record { locals = r .locals; graph = g; next = suc (r .next); root = r .root; blurs = r .blurs }))
+      (λ g. done (record { locals = r .locals; graph = g; next = suc (r .next); root = r .root; blurs = r .blurs; offset = r .offset }))
       (λ g o. met (record { keeps = record { root = h .root; locals = h .locals; own = o .0 }; noEdge = o .1 })))
 
   -- a borrow from the root, or from a name in use beside c
   abbrev pub Uses : ℕ → List ℕ → Type 0
   Uses p xs = 1 ≤ times p (l ∷ xs)
 
-  weak-keeps : (p : ℕ) (path : List ℕ) (c : ℕ) (xs : List ℕ) (m : ℕ) (r : Running) → Keeps l ls (c ∷ xs) m r → Uses p xs → Meets (Keeps l ls (c ∷ xs) m) (onGraph r (borrowWeak (r .graph) p path c))
+  weak-keeps : (p : ℕ) (path : List ℕ) (c : ℕ) (xs : List ℕ) (m : ℕ) (r : Running) → Keeps l ls (c ∷ xs) m r → Uses p xs → Meets (Keeps l ls (c ∷ xs) m) (onGraph r (borrowWeak (r .graph) p path c (r .offset)))
   weak-keeps p path c xs m r h u =
-      meets-then (meets-lift (borrowWeak (r .graph) p path c) (borrowWeak-fair l (r .graph) (r .next) c xs m (h .own) p path u) (λ g e. borrowWeak-own l (r .graph) (r .next) c xs m (h .own) p path g e))
+      meets-then (meets-lift (borrowWeak (r .graph) p path c (r .offset)) (borrowWeak-fair l (r .graph) (r .next) c xs m (h .own) p path (r .offset) u) (λ g e. borrowWeak-own l (r .graph) (r .next) c xs m (h .own) p path (r .offset) g e))
       (λ g. done (withGraph r g)) (λ g o. met (record { root = h .root; locals = h .locals; own = o }))
 
-  pub strong-keeps : (p : ℕ) (path : List ℕ) (c : ℕ) (xs : List ℕ) (m : ℕ) (r : Running) → Fresh c xs m r → Uses p xs → Meets (Keeps l ls (c ∷ xs) m) (onGraph r (borrowStrong (r .graph) p path c))
+  pub strong-keeps : (p : ℕ) (path : List ℕ) (c : ℕ) (xs : List ℕ) (m : ℕ) (r : Running) → Fresh c xs m r → Uses p xs → Meets (Keeps l ls (c ∷ xs) m) (onGraph r (borrowStrong (r .graph) p path c (r .offset)))
   strong-keeps p path c xs m r f u =
       let h : Keeps l ls (c ∷ xs) m r = f .keeps in
-      meets-then (meets-lift (borrowStrong (r .graph) p path c) (borrowStrong-fair l (r .graph) (r .next) c xs m (h .own) p path u (f .noEdge)) (λ g e. borrowStrong-own l (r .graph) (r .next) c xs m (h .own) p path g e))
+      meets-then (meets-lift (borrowStrong (r .graph) p path c (r .offset)) (borrowStrong-fair l (r .graph) (r .next) c xs m (h .own) p path (r .offset) u (f .noEdge)) (λ g e. borrowStrong-own l (r .graph) (r .next) c xs m (h .own) p path (r .offset) g e))
       (λ g. done (withGraph r g)) (λ g o. met (record { root = h .root; locals = h .locals; own = o }))
 
   uses-root : (xs : List ℕ) (m : ℕ) (r : Running) → Keeps l ls xs m r → (ys : List ℕ) → Uses (r .root) ys
@@ -189,7 +192,7 @@ module _ (l : ℕ) (ls : List Local) where
   freezeRef-keeps n xs m r h k =
       known-keeps n (n ∷ xs) (suc m) r h (uses-head n xs)
       (meets-needs (isMutable (r .graph) n) 13 refl (λ e.
-      meets-fails (r .blurs) (not (freezable (r .graph) n none)) 104
+      meets-fails r (borrowsMutably (r .graph) n none) 104
       (replace-keeps false (addCopy n (r .next)) n xs m r h k (λ s f. strong-keeps n [] (r .next) (n ∷ xs) m s f (uses-head n xs)))))
 
   pub comparison-keeps : (v w : Operand) (xs : List ℕ) (m : ℕ) (r : Running) → Keeps l ls (operandNames (v ∷ []) ++ (operandNames (w ∷ []) ++ xs)) m r → Meets (Made xs m) (comparison v w r)
@@ -199,9 +202,9 @@ module _ (l : ℕ) (ls : List Local) where
   comparison-keeps (reference k) nonRef xs m r h = barred refl
   comparison-keeps (reference k) (reference n) xs m r h =
       known-keeps k (k ∷ n ∷ xs) m r h (uses-head k (n ∷ xs))
-      (meets-fails (r .blurs) (not (readable (r .graph) k none)) 105
+      (meets-fails r (barsReading (r .graph) k none) 105
       (known-keeps n (k ∷ n ∷ xs) m r h (let u : Uses n (n ∷ xs) = uses-head n xs in omega arith)
-      (meets-fails (r .blurs) (not (readable (r .graph) n none)) 105
+      (meets-fails r (barsReading (r .graph) n none) 105
       (meets-then (release-keeps k (n ∷ xs) m r h) (λ s. then (releaseName n s) (λ t. answer t nonRef))
       (λ s p. meets-then (release-keeps n xs m s p) (λ t. answer t nonRef) (λ t q. met q))))))
 
@@ -209,7 +212,7 @@ module _ (l : ℕ) (ls : List Local) where
   unfolding readRef
   readRef-keeps n xs m r h =
       known-keeps n (n ∷ xs) m r h (uses-head n xs)
-      (meets-fails (r .blurs) (not (readable (r .graph) n none)) 105
+      (meets-fails r (barsReading (r .graph) n none) 105
       (meets-then (release-keeps n xs m r h) (λ s. answer s nonRef) (λ s q. met q)))
 
   pub writeRef-keeps : (n : ℕ) (xs : List ℕ) (m : ℕ) (r : Running) → Keeps l ls (n ∷ xs) m r → Meets (Keeps l ls xs m) (writeRef n r)
@@ -217,35 +220,35 @@ module _ (l : ℕ) (ls : List Local) where
   writeRef-keeps n xs m r h =
       known-keeps n (n ∷ xs) m r h (uses-head n xs)
       (meets-needs (isMutable (r .graph) n) 13 refl (λ e.
-      meets-fails (r .blurs) (not (writable (r .graph) n)) 106 (release-keeps n xs m r h)))
+      meets-fails r (borrows n none) 106 (release-keeps n xs m r h)))
 
   pub borrowLoc-keeps : (b : Bool) (i : ℕ) (xs : List ℕ) (m : ℕ) (r : Running) → Keeps l ls xs (suc m) r → length xs ≤ 46 → Meets (Made xs m) (borrowLoc b i r)
   unfolding borrowLoc addLocalBorrow
   borrowLoc-keeps b i xs m r h k =
       known-root xs (suc m) r h
-      (meets-fails (r .blurs) (not b && mutablyBorrowed (r .graph) (r .root) (some (localLabel i))) 107
+      (meets-fails r (barsLocalBorrow b (r .graph) (r .root) i) 107
       (borrow-keeps b (addLocalBorrow i (r .next)) xs m r h k (λ s f. strong-keeps (s .root) (localLabel i ∷ []) (r .next) xs m s f (uses-root (r .next ∷ xs) m s (f .keeps) xs))))
 
   pub borrowField-keeps : (b : Bool) (n j : ℕ) (xs : List ℕ) (m : ℕ) (r : Running) → Keeps l ls (n ∷ xs) (suc m) r → length xs ≤ 45 → Meets (Made xs m) (borrowField b n j r)
   unfolding borrowField addFieldBorrow
   borrowField-keeps b n j xs m r h k =
       known-keeps n (n ∷ xs) (suc m) r h (uses-head n xs)
-      (meets-fails (r .blurs) (cond b (fullyBorrowed (r .graph) n) (not (readable (r .graph) n (some (fieldLabel j))))) 108
+      (meets-fails r (barsFieldBorrow b (r .graph) n j) 108
       (replace-keeps b (addFieldBorrow n j (r .next)) n xs m r h k (λ s f. strong-keeps n (fieldLabel j ∷ []) (r .next) (n ∷ xs) m s f (uses-head n xs))))
 
   pub borrowGlobal-keeps : (b : Bool) (i : ℕ) (xs : List ℕ) (m : ℕ) (r : Running) → Keeps l ls xs (suc m) r → length xs ≤ 46 → Meets (Made xs m) (borrowGlobal b i r)
   unfolding borrowGlobal addResourceBorrow
   borrowGlobal-keeps b i xs m r h k =
       known-root xs (suc m) r h
-      (meets-fails (r .blurs) ((b && borrowed (r .graph) (r .root) (some (globalLabel i))) || mutablyBorrowed (r .graph) (r .root) (some (globalLabel i))) 109
+      (meets-fails r (barsResourceBorrow b (r .graph) (r .root) i) 109
       (borrow-keeps b (addResourceBorrow i (r .next)) xs m r h k (λ s f. weak-keeps (s .root) (globalLabel i ∷ []) (r .next) xs m s (f .keeps) (uses-root (r .next ∷ xs) m s (f .keeps) xs))))
 
   pub moveFrom-keeps : (i : ℕ) (xs : List ℕ) (m : ℕ) (r : Running) → Keeps l ls xs m r → Meets (Made xs m) (moveFrom i r)
   unfolding moveFrom
-  moveFrom-keeps i xs m r h = known-root xs m r h (meets-fails (r .blurs) (borrowed (r .graph) (r .root) (some (globalLabel i))) 109 (met h))
+  moveFrom-keeps i xs m r h = known-root xs m r h (meets-fails r (borrows (r .root) (some (globalLabel i))) 109 (met h))
 
   meets-vector : {A : Type 0} {P : A → Type 0} (b : Bool) (r : Running) (n c : ℕ) {k : Outcome A} → Meets P k → Meets P (vectorTest b r n c k)
-  meets-vector true r n c h = meets-needs (isMutable (r .graph) n) 13 refl (λ e. meets-fails (r .blurs) (not (writable (r .graph) n)) c h)
+  meets-vector true r n c h = meets-needs (isMutable (r .graph) n) 13 refl (λ e. meets-fails r (borrows n none) c h)
   meets-vector false r n c h = h
 
   pub vectorOp-keeps : (v : Operand) (b : Bool) (xs : List ℕ) (m : ℕ) (r : Running) → Keeps l ls (operandNames (v ∷ []) ++ xs) m r → Meets (Keeps l ls xs m) (vectorOp v b r)
@@ -283,7 +286,7 @@ module _ (l : ℕ) (ls : List Local) where
   handOver-keeps [] c xs m r h w k = k
   handOver-keeps (n ∷ ns) c xs m r h w k =
       known-keeps n xs m r h (let a : 1 ≤ times n xs = within-head n ns xs w in omega arith)
-      (meets-fails (r .blurs) (isMutable (r .graph) n && not (writable (r .graph) n)) c (handOver-keeps ns c xs m r h (λ q e. w q (omega arith)) k))
+      (meets-fails r (barsHandingOver (r .graph) n) c (handOver-keeps ns c xs m r h (λ q e. w q (omega arith)) k))
 
   -- the values returned are in use too, each a place of its own
   pub record Returned (ts : List Token) (xs : List ℕ) (m : ℕ) (a : Answers) : Type 0 where
@@ -347,6 +350,11 @@ keep-times f (x ∷ xs) k = go (f x) (keep-times f xs k)
     go true h = omega arith
     go false h = omega arith
 
+noneBorrowed-meets : {A : Type 0} {P : A → Type 0} (is : List ℕ) (r : Running) {k : Outcome A} → Meets P k → Meets P (noneBorrowed is r k)
+unfolding noneBorrowed
+noneBorrowed-meets [] r k = k
+noneBorrowed-meets (i ∷ is) r k = meets-fails r (borrows (r .root) (some (globalLabel i))) 109 (noneBorrowed-meets is r k)
+
 module _ (l : ℕ) (ls : List Local) where
   -- ys: the names among the arguments; xs: those elsewhere
   pub call-keeps : (args : List Operand) (acquired : List ℕ) (ts : List Token) (xs : List ℕ) (m : ℕ) (r : Running) → Keeps l ls (operandNames args ++ xs) (length ts + m) r → length (operandNames args ++ xs) + length ts ≤ 46
@@ -358,7 +366,7 @@ module _ (l : ℕ) (ls : List Local) where
       let muts : List ℕ = keep (isMutable (r .graph)) alls in
       let f₂ : Answers → Outcome Answers = λ a. then (releaseAll alls (a .state)) (λ s. done (record { state = s; operands = a .operands })) in
       known-root l ls (ys ++ xs) (length ts + m) r h
-      (meets-fails (r .blurs) (any (λ i. borrowed (r .graph) (r .root) (some (globalLabel i))) acquired) 109
+      (noneBorrowed-meets (ascend acquired) r
       (handOver-keeps l ls ys 112 (ys ++ xs) (length ts + m) r h (λ p e. let a : times p (ys ++ xs) ≡ times p ys + times p xs = times-append p ys xs in omega arith)
       (meets-then
       (returnValues-keeps l ls ts muts alls (ys ++ xs) m r h k
@@ -392,9 +400,9 @@ module _ (l : ℕ) (ls : List Local) where
   ret-meets vs xs m r h =
       let ys : List ℕ = operandNames vs in
       meets-then (releaseAll-keeps l ls (ascend (localNames (r .locals))) (ys ++ xs) m r (keeps-as l ls (ys ++ (xs ++ localNames ls)) (ascend (localNames (r .locals)) ++ (ys ++ xs)) m r h turn))
-      (λ s. needsName (s .graph) (s .root) (fails (s .blurs) (borrowed (s .graph) (s .root) none) 113 (handOver ys 114 s (done s))))
+      (λ s. needsName (s .graph) (s .root) (fails s (borrows (s .root) none) 113 (handOver ys 114 s (done s))))
       (λ s k. known-root l ls (ys ++ xs) m s k
-      (meets-fails (s .blurs) (borrowed (s .graph) (s .root) none) 113
+      (meets-fails s (borrows (s .root) none) 113
       (handOver-keeps l ls ys 114 (ys ++ xs) m s k (λ p e. let a : times p (ys ++ xs) ≡ times p ys + times p xs = times-append p ys xs in omega arith) (met tt))))
     where
       split : (n : ℕ) → times n (operandNames vs ++ (xs ++ localNames ls)) ≡ times n (operandNames vs) + (times n xs + times n (localNames ls))

@@ -2,7 +2,7 @@
 use Prim.Native.Nat.{ℕ, suc, _<_, _≤_, min}
 use native.Mathlib.Omega.{arith}
 use mathlib.Core.Bool.{true, false≢true, Bool, false, Bool·beq, not, _&&_, _||_, cond, true≢false}
-use mathlib.Core.List.{List, [], _∷_}
+use mathlib.Core.List.{List, [], _∷_, map}
 use mathlib.Core.Logic.{_⊎_, inl, inr, _≢_}
 use mathlib.Core.Path.{_≡_, refl, ap, _∙_, sym, subst}
 use lib.Dec.{eqb, ltb, leb}
@@ -11,6 +11,19 @@ use Rattle.meaning.specs.Answers.{ok, refuse}
 use Rattle.meaning.specs.Lists.{any, all}
 use Rattle.meaning.specs.References.{eqPath, Edge, eqEdge, prefix, covers, weakest, put, ltEdge, ltPath, has, ordered, EdgeSet, blur, short, insert, isBlur, setOk, covered}
 use Rattle.meaning.specs.Laws.Base.{and-l, and-r, eqb-eq, and-i, eqb-self, or-l, or-r, le-leb, leb-le, or-cases, decide, leb-gt, all-imp, refuse≢ok, ok-inj, or-no-l, or-no-r, beq-eq}
+
+-- ---- an edge without its offset (Laws/Offsets says what ignores it)
+
+abbrev pub plain : Edge → Edge
+plain e = record { strong = e .strong; path = e .path; offset = 0 }
+
+abbrev pub plainSet : EdgeSet → EdgeSet
+plainSet s = record { edges = map plain (s .edges); blurred = s .blurred }
+
+pub covered-plain : (es : List Edge) (f : Edge) → covered (map plain es) f ≡ covered es f
+unfolding covers eqEdge
+covered-plain [] f = refl
+covered-plain (e ∷ es) f = ap (λ (b : Bool). covers e f || b) (covered-plain es f)
 
 -- ---- equality of edges is its test
 
@@ -33,12 +46,12 @@ pub beq-self : (a : Bool) → Bool·beq a a ≡ true
 beq-self true = refl
 beq-self false = refl
 
-pub eqEdge-eq : (e f : Edge) → eqEdge e f ≡ true → e ≡ f
+pub eqEdge-eq : (e f : Edge) → eqEdge e f ≡ true → plain e ≡ plain f
 unfolding eqEdge
 eqEdge-eq e f h =
     let p : e .strong ≡ f .strong = beq-eq (e .strong) (f .strong) (and-l (Bool·beq (e .strong) (f .strong)) (eqPath (e .path) (f .path)) h) in
     let q : e .path ≡ f .path = eqPath-eq (e .path) (f .path) (and-r (Bool·beq (e .strong) (f .strong)) (eqPath (e .path) (f .path)) h) in
-    λ i. record { strong = p i; path = q i }
+    λ i. record { strong = p i; path = q i; offset = 0 }
 
 pub eqEdge-self : (e : Edge) → eqEdge e e ≡ true
 unfolding eqEdge
@@ -48,9 +61,9 @@ pub covers-self : (e : Edge) → covers e e ≡ true
 unfolding covers
 covers-self e = or-l (not (e .strong) && prefix (e .path) (e .path)) (eqEdge-self e)
 
-pub weakest-covers : (e : Edge) → covers weakest e ≡ true
+pub weakest-covers : (o : ℕ) (e : Edge) → covers (weakest o) e ≡ true
 unfolding covers prefix
-weakest-covers e = or-r (eqEdge weakest e) refl
+weakest-covers o e = or-r (eqEdge (weakest o) e) refl
 
 -- ---- put
 
@@ -198,14 +211,15 @@ ordered-put e (x ∷ xs) n d =
 
 pub data Inserted (s : EdgeSet) (e : Edge) (t : EdgeSet) : Type 0 where
   before : s .blurred ≡ true → s ≡ t → Inserted s e t
-  justNow : s .blurred ≡ false → 10 ≤ length (s .edges) → t ≡ blur → Inserted s e t
+  justNow : s .blurred ≡ false → 10 ≤ length (s .edges) → t ≡ blur (e .offset) → Inserted s e t
   present : s .blurred ≡ false → has e (s .edges) ≡ true → s ≡ t → Inserted s e t
   added : s .blurred ≡ false → length (s .edges) < 10 → short e ≡ true → has e (s .edges) ≡ false
       → t ≡ record { edges = put e (s .edges); blurred = false } → Inserted s e t
 
 by-tests : (s : EdgeSet) (e : Edge) (t : EdgeSet) (b c d h : Bool)
     → s .blurred ≡ b → leb 10 (length (s .edges)) ≡ c → short e ≡ d → has e (s .edges) ≡ h
-    → cond b (ok s) (cond c (ok blur) (cond d (cond h (ok s) (ok (record { edges = put e (s .edges); blurred = false }))) (refuse 22))) ≡ ok t
+    → cond b (ok s) (cond c (ok (blur (e .offset)))
+    (cond d (cond h (ok s) (ok (record { edges = put e (s .edges); blurred = false }))) (refuse 22))) ≡ ok t
     → Inserted s e t
 by-tests s e t true c d h eb ec ed eh q = before eb (ok-inj q)
 by-tests s e t false true d h eb ec ed eh q = justNow eb (leb-le ec) (sym (ok-inj q))
@@ -269,14 +283,14 @@ pub setOk-unblurred : (s : EdgeSet) → s .blurred ≡ false → setOk s ≡ (le
 unfolding setOk
 setOk-unblurred s b = ap (λ (x : Bool). cond x (isBlur (s .edges)) (leb (length (s .edges)) 10 && (all short (s .edges) && ordered (s .edges)))) b
 
-blur-ok : setOk blur ≡ true
-unfolding setOk isBlur
-blur-ok = eqEdge-self weakest
+blur-ok : (o : ℕ) → setOk (blur o) ≡ true
+unfolding setOk isBlur eqEdge eqPath
+blur-ok o = refl
 
 pub insert-setOk : (s : EdgeSet) (e : Edge) (t : EdgeSet) → Inserted s e t → setOk s ≡ true → setOk t ≡ true
 insert-setOk s e t (before b q) h = subst (λ (x : EdgeSet). setOk x ≡ true) q h
 insert-setOk s e t (present b p q) h = subst (λ (x : EdgeSet). setOk x ≡ true) q h
-insert-setOk s e t (justNow b l q) h = ap setOk q ∙ blur-ok
+insert-setOk s e t (justNow b l q) h = ap setOk q ∙ blur-ok (e .offset)
 insert-setOk s e t (added b l k p q) h =
     let xs : List Edge = s .edges in
     let o : leb (length xs) 10 && (all short xs && ordered xs) ≡ true = sym (setOk-unblurred s b) ∙ h in
@@ -289,21 +303,21 @@ insert-setOk s e t (added b l k p q) h =
 
 -- ---- covering
 
-blur-covers : (f : Edge) → covered (blur .edges) f ≡ true
-blur-covers f = or-l false (weakest-covers f)
+blur-covers : (o : ℕ) (f : Edge) → covered (blur o .edges) f ≡ true
+blur-covers o f = or-l false (weakest-covers o f)
 
 -- what was covered stays so
 pub insert-covers : (s : EdgeSet) (e : Edge) (t : EdgeSet) (f : Edge) → Inserted s e t → covered (s .edges) f ≡ true → covered (t .edges) f ≡ true
 insert-covers s e t f (before b q) h = subst (λ (x : EdgeSet). covered (x .edges) f ≡ true) q h
 insert-covers s e t f (present b p q) h = subst (λ (x : EdgeSet). covered (x .edges) f ≡ true) q h
-insert-covers s e t f (justNow b l q) h = ap (λ (x : EdgeSet). covered (x .edges) f) q ∙ blur-covers f
+insert-covers s e t f (justNow b l q) h = ap (λ (x : EdgeSet). covered (x .edges) f) q ∙ blur-covers (e .offset) f
 insert-covers s e t f (added b l k p q) h =
     ap (λ (x : EdgeSet). covered (x .edges) f) q ∙ any-put (λ d. covers d f) e (s .edges) ∙ or-r (covers e f) h
 
 isBlur-covers : (xs : List Edge) (f : Edge) → isBlur xs ≡ true → covered xs f ≡ true
-unfolding isBlur
+unfolding isBlur covers eqEdge
 isBlur-covers [] f h = absurd (false≢true h)
-isBlur-covers (x ∷ []) f h = or-l false (subst (λ (y : Edge). covers y f ≡ true) (sym (eqEdge-eq x weakest h)) (weakest-covers f))
+isBlur-covers (x ∷ []) f h = or-l false (subst (λ (y : Edge). covers y f ≡ true) (sym (eqEdge-eq x (weakest 0) h)) (weakest-covers 0 f))
 isBlur-covers (x ∷ y ∷ ys) f h = absurd (false≢true h)
 
 pub setOk-blurred : (s : EdgeSet) → s .blurred ≡ true → setOk s ≡ isBlur (s .edges)
@@ -311,6 +325,7 @@ unfolding setOk
 setOk-blurred s b = ap (λ (x : Bool). cond x (isBlur (s .edges)) (leb (length (s .edges)) 10 && (all short (s .edges) && ordered (s .edges)))) b
 
 has-step : (e x : Edge) (xs : List Edge) → (has e xs ≡ true → covered xs e ≡ true) → (eqEdge e x ≡ true) ⊎ (has e xs ≡ true) → covered (x ∷ xs) e ≡ true
+unfolding covers eqEdge
 has-step e x xs r (inl p) = or-l (covered xs e) (subst (λ (y : Edge). covers y e ≡ true) (eqEdge-eq e x p) (covers-self e))
 has-step e x xs r (inr p) = or-r (covers x e) (r p)
 
@@ -324,6 +339,6 @@ pub insert-new : (s : EdgeSet) (e : Edge) (t : EdgeSet) → Inserted s e t → s
 insert-new s e t (before b q) h =
     subst (λ (x : EdgeSet). covered (x .edges) e ≡ true) q (isBlur-covers (s .edges) e (sym (setOk-blurred s b) ∙ h))
 insert-new s e t (present b p q) h = subst (λ (x : EdgeSet). covered (x .edges) e ≡ true) q (has-covers e (s .edges) p)
-insert-new s e t (justNow b l q) h = ap (λ (x : EdgeSet). covered (x .edges) e) q ∙ blur-covers e
+insert-new s e t (justNow b l q) h = ap (λ (x : EdgeSet). covered (x .edges) e) q ∙ blur-covers (e .offset) e
 insert-new s e t (added b l k p q) h =
     ap (λ (x : EdgeSet). covered (x .edges) e) q ∙ any-put (λ d. covers d e) e (s .edges) ∙ or-l (covered (s .edges) e) (covers-self e)

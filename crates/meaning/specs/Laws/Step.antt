@@ -9,7 +9,7 @@ use lib.Dec.{ltb, eqb}
 use lib.ListN.{length, getD, set, List·getD-eq-default, length-append, length-set}
 use Rattle.meaning.specs.Answers.{ordinary, Outcome, done, refused, then}
 use Rattle.meaning.specs.Labels.{localLabel}
-use Rattle.meaning.specs.BorrowGraph.{isMutable, borrowed, mutablyBorrowed}
+use Rattle.meaning.specs.BorrowGraph.{isMutable, borrows, borrowsMutably}
 use Rattle.meaning.specs.AbstractState.{Local, absent, value, ref, Operand, nonRef, reference, count1, Token}
 use Rattle.meaning.specs.EntryPoints.{localNames, operandNames, localOf, Running, Answer, withLocal, addCopy, releaseValue, copyOf, copyLoc, moveOf, moveLoc, overwrite, stLoc, freezeRef, comparison, readRef, writeRef, borrowField, borrowGlobal, moveFrom, vectorOp, vectorElementBorrow, call, ret}
 use Rattle.meaning.specs.Steps.{Machine, Instr, Pop, CopyLoc, MoveLoc, StLoc, FreezeRef, Compare, ReadRef, WriteRef, BorrowLoc, BorrowField, BorrowGlobal, MoveFrom, Call, Ret, Values, MoveTo, VectorOp, BorrowElement, pop, popRef, popValue, popValues, popMany, push, pushed, pushAll, pushNew, unchanged, stepOn, step, isRet}
@@ -141,7 +141,7 @@ module _ (l : ℕ) (small : l ≤ 16) where
       go absent e = barred refl
       go value e =
           known-root l (r .locals) xs (suc m) r (h .keeps)
-          (meets-fails (r .blurs) (mutablyBorrowed (r .graph) (r .root) (some (localLabel i))) 101
+          (meets-fails r (borrowsMutably (r .graph) (r .root) (some (localLabel i))) 101
           (met (good-as vs (nonRef ∷ vs) m r (good-less (suc m) m vs r h (omega arith)) (λ n. refl))))
       go (ref n) e =
           let u : 1 ≤ times n (localNames (r .locals)) = local-use (r .locals) i n e in
@@ -168,7 +168,7 @@ module _ (l : ℕ) (small : l ≤ 16) where
       go absent e = barred refl
       go value e =
           known-root l (r .locals) (operandNames vs ++ localNames (r .locals)) m r (h .keeps)
-          (meets-fails (r .blurs) (borrowed (r .graph) (r .root) (some (localLabel i))) 102
+          (meets-fails r (borrows (r .root) (some (localLabel i))) 102
           (met (good-local vs (nonRef ∷ vs) i absent m r h (λ n. let a : times n (localNames (set (r .locals) i absent)) + 0 ≡ times n (localNames (r .locals)) + 0 = after value e value≢absent n in omega arith))))
         where
           value≢absent : value ≡ absent → ⊥
@@ -205,7 +205,7 @@ module _ (l : ℕ) (small : l ≤ 16) where
       go absent e = met (plain absent e (λ n. refl))
       go value e =
           let k : Good l m vs s = plain value e (λ n. refl) in
-          known-root l (s .locals) (operandNames vs ++ localNames (s .locals)) m s (k .keeps) (meets-fails (s .blurs) (borrowed (s .graph) (s .root) (some (localLabel i))) 103 (met k))
+          known-root l (s .locals) (operandNames vs ++ localNames (s .locals)) m s (k .keeps) (meets-fails s (borrows (s .root) (some (localLabel i))) 103 (met k))
       go (ref j) e =
           let k : Good l m (reference j ∷ vs) s = good-local (v ∷ vs) (reference j ∷ vs) i (localOf v) m r h
           (λ n. let a : times n (localNames (set (r .locals) i (localOf v))) + times n (j ∷ []) ≡ times n (localNames (r .locals)) + times n (operandNames (v ∷ [])) = law (ref j) e n in

@@ -14,7 +14,7 @@ abbrev pub link : ℕ → GEdge → GEdge → Bool
 link k y x =
     short (x .edge)
     && cond (same y x) (ltb k 10 && (not (y .blurred || x .blurred) && ltEdge (y .edge) (x .edge)))
-    (isBefore (x .parent) (x .child) y && (not (x .blurred) || eqEdge (x .edge) weakest))
+    (isBefore (x .parent) (x .child) y && (not (x .blurred) || eqEdge (x .edge) (weakest 0)))
 
 abbrev pub nextCount : ℕ → GEdge → GEdge → ℕ
 nextCount k y x = cond (same y x) (cond (ltb k 10) (k + 1) 10) 1
@@ -25,7 +25,7 @@ chain q k y (x ∷ xs) = (q (x .parent) (x .child) && link k y x) && chain q (ne
 
 -- what stands before the first edge: no edge joins 0 to itself
 abbrev pub noEdge : GEdge
-noEdge = record { parent = 0; child = 0; blurred = false; edge = weakest }
+noEdge = record { parent = 0; child = 0; blurred = false; edge = weakest 0 }
 
 -- the same for names: each at least m, and above the one before
 abbrev pub climbs : ℕ → List Name → Bool

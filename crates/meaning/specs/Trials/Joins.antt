@@ -49,14 +49,14 @@ unfolding run turns turn propagate startSlots position
 loops = refl
 
 -- a strong borrow moves the weak edges below it too
-factors : isSets (borrowStrong (record { names = name 0 ∷ name 1 ∷ name 2 ∷ []; edges = between 0 (weak (1 ∷ 2 ∷ [])) 2 ∷ [] }) 0 (fieldLabel 1 ∷ []) 1) (single 0 1 (strong (1 ∷ [])) ∷ single 1 2 (weak (2 ∷ [])) ∷ record { parent = 0; child = 2; set = emptySet } ∷ []) ≡ true
+factors : isSets (borrowStrong (record { names = name 0 ∷ name 1 ∷ name 2 ∷ []; edges = between 0 (weak (1 ∷ 2 ∷ [])) 2 ∷ [] }) 0 (fieldLabel 1 ∷ []) 1 0) (single 0 1 (strong (1 ∷ [])) ∷ single 1 2 (weak (2 ∷ [])) ∷ record { parent = 0; child = 2; set = emptySet } ∷ []) ≡ true
 unfolding name borrowStrong insert eqEdge eqPath prefix has put ltEdge ltPath setAt wellFormed holds addAll addEdge setTo limit ascending setOk ordered short inOrder isBlur eqSet eqEdges
 factors = refl
 
 -- Two blocks failed, the one with the lower entry listed later: its error is the verdict.
-abbrev failing : ℕ → Slot ℕ
-failing o = record { kept = some 0; status = failed 102 o; changes = 0 }
+abbrev failing : ℕ → ℕ → Slot ℕ
+failing o a = record { kept = some 0; status = failed 102 o a; changes = 0 }
 
-lower-entry : verdictFor (lowest (record { entry = 4; exit = 5; successors = [] } ∷ record { entry = 1; exit = 3; successors = [] } ∷ []) (failing 5 ∷ failing 2 ∷ []) none) ≡ violation 102 2
+lower-entry : verdictFor (lowest (record { entry = 4; exit = 5; successors = [] } ∷ record { entry = 1; exit = 3; successors = [] } ∷ []) (failing 5 4 ∷ failing 2 1 ∷ []) none) ≡ violation 102 2 1
 unfolding lowest
 lower-entry = refl

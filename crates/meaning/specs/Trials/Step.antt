@@ -7,9 +7,9 @@ use lib.Dec.{eqb}
 use lib.ListN.{length}
 use Rattle.meaning.specs.Lists.{all}
 use Rattle.meaning.specs.References.{insert, eqEdge, eqPath, prefix, has, put, ltEdge, ltPath, setOk, ordered, short, isBlur}
-use Rattle.meaning.specs.BorrowGraph.{splice, setAt, release, wellFormed, holds, spliced, without, addAll, addEdge, setTo, limit, ascending, inOrder, newName, borrowWeak, borrowStrong, putName, renamed, renameNames, renameEdges, putEdge, isMutable, borrowed, mutablyBorrowed, fullyBorrowed}
+use Rattle.meaning.specs.BorrowGraph.{splice, setAt, release, wellFormed, holds, spliced, without, addAll, addEdge, setTo, limit, ascending, inOrder, newName, borrowWeak, borrowStrong, putName, renamed, renameNames, renameEdges, putEdge, isMutable, lowestOf}
 use Rattle.meaning.specs.AbstractState.{ofRef, canonical, crosses, ownNames, newNameOf, localHolding, State, join, changed, firstState, firstLocals, firstNames, ofValue, Token, joinBlurs}
-use Rattle.meaning.specs.EntryPoints.{newRef, addBorrow, addLocalBorrow, releaseName, valueFor, moveLoc, stLoc, borrowLoc, putNumber, ascend, releaseAll, borrowFrom, handOver, notAcquired, returnValues, call, ret, addCopy, addFieldBorrow, addResourceBorrow, releaseValue, copyLoc, freezeRef, comparison, readRef, writeRef, borrowField, borrowGlobal, moveFrom, vectorOp, vectorElementBorrow}
+use Rattle.meaning.specs.EntryPoints.{newRef, addBorrow, addLocalBorrow, releaseName, valueFor, moveLoc, stLoc, borrowLoc, putNumber, ascend, releaseAll, borrowFrom, handOver, noneBorrowed, notAcquired, returnValues, call, ret, addCopy, addFieldBorrow, addResourceBorrow, releaseValue, copyLoc, freezeRef, comparison, readRef, writeRef, borrowField, borrowGlobal, moveFrom, vectorOp, vectorElementBorrow}
 use Rattle.meaning.specs.Steps.{MoveLoc, StLoc, Ret, Call, popValues, popMany, push, pushAll, pushNew, step, Values, Instr, Pop, CopyLoc, FreezeRef, Compare, ReadRef, WriteRef, BorrowLoc, BorrowField, BorrowGlobal, MoveFrom, MoveTo, VectorOp, BorrowElement}
 use Rattle.meaning.specs.Blocks.{Routine, instrsOf, runFrom, runBlock, exec}
 use Rattle.meaning.specs.Loop.{run, verdict, lowest, accept, propagate, turn as loopStep, turns, startSlots, position, refusal, Verdict, violation, Block}
@@ -25,7 +25,7 @@ moved = record {
 }
 
 pub moved-accepted : verdict (moved .blocks) (run State join joinBlurs changed (exec moved) (moved .blocks) 10 (firstState (moved .locals) (moved .params))) ≡ accept
-unfolding firstState firstLocals firstNames run turns loopStep propagate startSlots position verdict lowest exec runBlock runFrom instrsOf step popValues popMany push pushAll pushNew valueFor newRef stLoc borrowLoc moveLoc addLocalBorrow addBorrow borrowed mutablyBorrowed isMutable newName borrowStrong borrowWeak putName wellFormed holds ascending setAt setTo setOk ordered short inOrder isBlur addAll addEdge insert limit has put prefix eqEdge eqPath ltEdge ltPath canonical crosses renamed renameNames renameEdges putEdge ownNames newNameOf localHolding call notAcquired handOver returnValues borrowFrom releaseAll releaseName release spliced without splice ascend putNumber ret
+unfolding firstState firstLocals firstNames run turns loopStep propagate startSlots position verdict lowest exec runBlock runFrom instrsOf step popValues popMany push pushAll pushNew valueFor newRef stLoc borrowLoc moveLoc addLocalBorrow addBorrow lowestOf isMutable newName borrowStrong borrowWeak putName wellFormed holds ascending setAt setTo setOk ordered short inOrder isBlur addAll addEdge insert limit has put prefix eqEdge eqPath ltEdge ltPath canonical crosses renamed renameNames renameEdges putEdge ownNames newNameOf localHolding call notAcquired noneBorrowed handOver returnValues borrowFrom releaseAll releaseName release spliced without splice ascend putNumber ret
 moved-accepted = refl
 
 -- an exchange of two references, which is 16, with an operand left: 14 comes first
@@ -39,20 +39,20 @@ left = record {
 }
 
 pub left-refused : verdict (left .blocks) (run State join joinBlurs changed (exec left) (left .blocks) 10 (firstState (left .locals) (left .params))) ≡ refusal 14 4
-unfolding firstState firstLocals firstNames run turns loopStep propagate startSlots position verdict lowest exec runBlock runFrom instrsOf step popValues popMany push pushAll pushNew valueFor newRef stLoc borrowLoc moveLoc addLocalBorrow addBorrow borrowed mutablyBorrowed isMutable newName borrowStrong borrowWeak putName wellFormed holds ascending setAt setTo setOk ordered short inOrder isBlur addAll addEdge insert limit has put prefix eqEdge eqPath ltEdge ltPath canonical crosses renamed renameNames renameEdges putEdge ownNames newNameOf localHolding call notAcquired handOver returnValues borrowFrom releaseAll releaseName release spliced without splice ascend putNumber ret
+unfolding firstState firstLocals firstNames run turns loopStep propagate startSlots position verdict lowest exec runBlock runFrom instrsOf step popValues popMany push pushAll pushNew valueFor newRef stLoc borrowLoc moveLoc addLocalBorrow addBorrow lowestOf isMutable newName borrowStrong borrowWeak putName wellFormed holds ascending setAt setTo setOk ordered short inOrder isBlur addAll addEdge insert limit has put prefix eqEdge eqPath ltEdge ltPath canonical crosses renamed renameNames renameEdges putEdge ownNames newNameOf localHolding call notAcquired noneBorrowed handOver returnValues borrowFrom releaseAll releaseName release spliced without splice ascend putNumber ret
 left-refused = refl
 
 -- ---- one block without successors, for each number of document 01
 
 abbrev isVerdict : Verdict → Verdict → Bool
 isVerdict accept accept = true
-isVerdict accept (violation c o) = false
+isVerdict accept (violation c o a) = false
 isVerdict accept (refusal n o) = false
-isVerdict (violation c o) accept = false
-isVerdict (violation c o) (violation d r) = eqb c d && eqb o r
-isVerdict (violation c o) (refusal n r) = false
+isVerdict (violation c o a) accept = false
+isVerdict (violation c o a) (violation d r b) = eqb c d && (eqb o r && eqb a b)
+isVerdict (violation c o a) (refusal n r) = false
 isVerdict (refusal n o) accept = false
-isVerdict (refusal n o) (violation c r) = false
+isVerdict (refusal n o) (violation c r a) = false
 isVerdict (refusal n o) (refusal k r) = eqb n k && eqb o r
 
 -- L, the parameters, the number of returns, the instructions
@@ -75,43 +75,52 @@ imm = ofRef false
 unfoldable pub routines : List Bool
 unfolding whole
 routines =
-    whole 1 (ofValue ∷ []) 0 (BorrowLoc 0 true ∷ CopyLoc 0 ∷ []) (violation 101 1)
+    whole 1 (ofValue ∷ []) 0 (BorrowLoc 0 true ∷ CopyLoc 0 ∷ []) (violation 101 1 0)
     ∷ whole 1 (ofValue ∷ []) 0 (BorrowLoc 0 false ∷ CopyLoc 0 ∷ Pop ∷ Pop ∷ []) accept
-    ∷ whole 1 (ofValue ∷ []) 0 (BorrowLoc 0 true ∷ Values 0 15 ofValue ∷ CopyLoc 0 ∷ []) (violation 101 2)
-    ∷ whole 1 (ofValue ∷ []) 0 (BorrowLoc 0 false ∷ MoveLoc 0 ∷ []) (violation 102 1)
-    ∷ whole 1 (ofValue ∷ []) 0 (BorrowLoc 0 false ∷ load ∷ StLoc 0 ∷ []) (violation 103 2)
+    ∷ whole 1 (ofValue ∷ []) 0 (BorrowLoc 0 true ∷ Values 0 15 ofValue ∷ CopyLoc 0 ∷ []) (violation 101 2 0)
+    ∷ whole 1 (ofValue ∷ []) 0 (BorrowLoc 0 false ∷ MoveLoc 0 ∷ []) (violation 102 1 0)
+    ∷ whole 1 (ofValue ∷ []) 0 (BorrowLoc 0 false ∷ load ∷ StLoc 0 ∷ []) (violation 103 2 0)
     ∷ whole 2 (ofValue ∷ []) 0 (BorrowLoc 0 false ∷ StLoc 1 ∷ StLoc 0 ∷ []) (refusal 10 2)
-    ∷ whole 1 (mut ∷ []) 0 (CopyLoc 0 ∷ MoveLoc 0 ∷ FreezeRef ∷ []) (violation 104 2)
+    ∷ whole 1 (mut ∷ []) 0 (CopyLoc 0 ∷ MoveLoc 0 ∷ FreezeRef ∷ []) (violation 104 2 0)
     ∷ whole 1 (mut ∷ []) 0 (MoveLoc 0 ∷ FreezeRef ∷ ReadRef ∷ Pop ∷ []) accept
-    ∷ whole 1 (mut ∷ []) 0 (CopyLoc 0 ∷ MoveLoc 0 ∷ ReadRef ∷ []) (violation 105 2)
-    ∷ whole 1 (mut ∷ []) 0 (CopyLoc 0 ∷ CopyLoc 0 ∷ Compare ∷ []) (violation 105 2)
-    ∷ whole 2 (mut ∷ []) 0 (CopyLoc 0 ∷ StLoc 1 ∷ MoveLoc 0 ∷ MoveLoc 1 ∷ Compare ∷ []) (violation 105 4)
+    ∷ whole 1 (mut ∷ []) 0 (CopyLoc 0 ∷ MoveLoc 0 ∷ ReadRef ∷ []) (violation 105 2 0)
+    ∷ whole 1 (mut ∷ []) 0 (CopyLoc 0 ∷ CopyLoc 0 ∷ Compare ∷ []) (violation 105 2 0)
+    ∷ whole 2 (mut ∷ []) 0 (CopyLoc 0 ∷ StLoc 1 ∷ MoveLoc 0 ∷ MoveLoc 1 ∷ Compare ∷ []) (violation 105 4 0)
+    ∷ whole 2 (mut ∷ mut ∷ []) 0 (CopyLoc 0 ∷ CopyLoc 1 ∷ MoveLoc 0 ∷ MoveLoc 1 ∷ Compare ∷ []) (violation 105 4 1)
     ∷ whole 1 (imm ∷ []) 0 (CopyLoc 0 ∷ CopyLoc 0 ∷ Compare ∷ Pop ∷ []) accept
-    ∷ whole 2 (mut ∷ []) 0 (CopyLoc 0 ∷ StLoc 1 ∷ load ∷ MoveLoc 0 ∷ WriteRef ∷ []) (violation 106 4)
+    ∷ whole 2 (mut ∷ []) 0 (CopyLoc 0 ∷ StLoc 1 ∷ load ∷ MoveLoc 0 ∷ WriteRef ∷ []) (violation 106 4 0)
     ∷ whole 1 (mut ∷ []) 0 (load ∷ MoveLoc 0 ∷ WriteRef ∷ []) accept
-    ∷ whole 1 (ofValue ∷ []) 0 (BorrowLoc 0 true ∷ BorrowLoc 0 false ∷ []) (violation 107 1)
+    ∷ whole 1 (ofValue ∷ []) 0 (BorrowLoc 0 true ∷ BorrowLoc 0 false ∷ []) (violation 107 1 0)
+    ∷ whole 1 (ofValue ∷ []) 0 (load ∷ BorrowLoc 0 true ∷ BorrowLoc 0 true ∷ MoveLoc 0 ∷ []) (violation 102 3 2)
+    ∷ whole 1 (ofValue ∷ []) 0 (load ∷ BorrowLoc 0 true ∷ BorrowLoc 0 true ∷ FreezeRef ∷ []) (violation 104 3 1)
     ∷ whole 1 [] 0 (BorrowLoc 0 true ∷ BorrowLoc 0 true ∷ Pop ∷ Pop ∷ []) accept
-    ∷ whole 1 (mut ∷ []) 0 (CopyLoc 0 ∷ MoveLoc 0 ∷ BorrowField 5 true ∷ []) (violation 108 2)
-    ∷ whole 1 (mut ∷ []) 0 (CopyLoc 0 ∷ BorrowField 5 true ∷ MoveLoc 0 ∷ BorrowField 5 false ∷ []) (violation 108 3)
+    ∷ whole 1 (mut ∷ []) 0 (CopyLoc 0 ∷ MoveLoc 0 ∷ BorrowField 5 true ∷ []) (violation 108 2 0)
+    ∷ whole 1 (mut ∷ []) 0 (CopyLoc 0 ∷ BorrowField 5 true ∷ MoveLoc 0 ∷ BorrowField 5 false ∷ []) (violation 108 3 1)
     ∷ whole 1 (mut ∷ []) 0 (CopyLoc 0 ∷ BorrowField 5 true ∷ MoveLoc 0 ∷ BorrowField 6 false ∷ Pop ∷ Pop ∷ []) accept
     ∷ whole 1 (imm ∷ []) 0 (MoveLoc 0 ∷ BorrowField 5 true ∷ Pop ∷ []) accept
-    ∷ whole 0 [] 0 (load ∷ BorrowGlobal 3 true ∷ load ∷ BorrowGlobal 3 false ∷ []) (violation 109 3)
-    ∷ whole 0 [] 0 (load ∷ BorrowGlobal 3 false ∷ load ∷ BorrowGlobal 3 true ∷ []) (violation 109 3)
+    ∷ whole 0 [] 0 (load ∷ BorrowGlobal 3 true ∷ load ∷ BorrowGlobal 3 false ∷ []) (violation 109 3 1)
+    ∷ whole 0 [] 0 (load ∷ BorrowGlobal 3 false ∷ load ∷ BorrowGlobal 3 true ∷ []) (violation 109 3 1)
     ∷ whole 0 [] 0 (load ∷ BorrowGlobal 3 true ∷ load ∷ BorrowGlobal 4 true ∷ Pop ∷ Pop ∷ []) accept
-    ∷ whole 0 [] 0 (load ∷ BorrowGlobal 3 false ∷ load ∷ MoveFrom 3 ∷ []) (violation 109 3)
-    ∷ whole 0 [] 0 (load ∷ BorrowGlobal 3 false ∷ Call 0 (5 ∷ 3 ∷ []) [] ∷ []) (violation 109 2)
-    ∷ whole 2 (mut ∷ []) 0 (CopyLoc 0 ∷ StLoc 1 ∷ MoveLoc 0 ∷ VectorOp 0 true 0 ofValue ∷ []) (violation 110 3)
+    ∷ whole 0 [] 0 (load ∷ BorrowGlobal 3 false ∷ load ∷ MoveFrom 3 ∷ []) (violation 109 3 1)
+    ∷ whole 0 [] 0 (load ∷ BorrowGlobal 3 false ∷ Call 0 (5 ∷ 3 ∷ []) [] ∷ []) (violation 109 2 1)
+    ∷ whole 0 [] 0 (load ∷ BorrowGlobal 5 false ∷ load ∷ BorrowGlobal 3 false ∷ Call 0 (5 ∷ 3 ∷ []) [] ∷ []) (violation 109 4 3)
+    ∷ whole 0 [] 0 (load ∷ BorrowGlobal 3 true ∷ Call 1 [] (imm ∷ mut ∷ []) ∷ BorrowField 1 true ∷ load ∷ BorrowGlobal 3 false ∷ []) (violation 109 5 3)
+    ∷ whole 0 [] 0 (load ∷ BorrowGlobal 3 true ∷ Call 1 [] (imm ∷ mut ∷ []) ∷ BorrowField 1 true ∷ load ∷ BorrowGlobal 3 true ∷ []) (violation 109 5 2)
+    ∷ whole 2 (mut ∷ []) 0 (CopyLoc 0 ∷ StLoc 1 ∷ MoveLoc 0 ∷ VectorOp 0 true 0 ofValue ∷ []) (violation 110 3 0)
     ∷ whole 2 (mut ∷ []) 0 (CopyLoc 0 ∷ StLoc 1 ∷ MoveLoc 0 ∷ VectorOp 0 false 1 ofValue ∷ Pop ∷ []) accept
-    ∷ whole 2 (mut ∷ []) 0 (CopyLoc 0 ∷ StLoc 1 ∷ MoveLoc 0 ∷ load ∷ BorrowElement true ∷ []) (violation 111 4)
+    ∷ whole 2 (mut ∷ []) 0 (CopyLoc 0 ∷ StLoc 1 ∷ MoveLoc 0 ∷ load ∷ BorrowElement true ∷ []) (violation 111 4 0)
     ∷ whole 2 (mut ∷ []) 0 (CopyLoc 0 ∷ StLoc 1 ∷ MoveLoc 0 ∷ load ∷ BorrowElement false ∷ Pop ∷ []) accept
-    ∷ whole 2 (mut ∷ []) 0 (CopyLoc 0 ∷ StLoc 1 ∷ MoveLoc 0 ∷ Call 1 [] [] ∷ []) (violation 112 3)
+    ∷ whole 2 (mut ∷ []) 0 (CopyLoc 0 ∷ StLoc 1 ∷ MoveLoc 0 ∷ Call 1 [] [] ∷ []) (violation 112 3 0)
+    ∷ whole 2 (mut ∷ mut ∷ []) 0 (CopyLoc 0 ∷ CopyLoc 1 ∷ MoveLoc 1 ∷ MoveLoc 0 ∷ Call 2 [] [] ∷ []) (violation 112 4 1)
     ∷ whole 2 (mut ∷ imm ∷ []) 2 (MoveLoc 0 ∷ MoveLoc 1 ∷ Call 2 [] (mut ∷ imm ∷ []) ∷ Ret ∷ []) accept
     ∷ whole 1 (ofValue ∷ []) 0 (BorrowLoc 0 true ∷ Call 1 [] [] ∷ MoveLoc 0 ∷ Pop ∷ []) accept
-    ∷ whole 1 (ofValue ∷ []) 0 (BorrowLoc 0 true ∷ Call 1 [] (mut ∷ []) ∷ MoveLoc 0 ∷ []) (violation 102 2)
-    ∷ whole 2 (mut ∷ []) 0 (load ∷ BorrowGlobal 3 false ∷ CopyLoc 0 ∷ StLoc 1 ∷ MoveLoc 0 ∷ Call 1 (3 ∷ []) [] ∷ []) (violation 109 5)
-    ∷ whole 1 (ofValue ∷ []) 1 (BorrowLoc 0 false ∷ Ret ∷ []) (violation 113 1)
+    ∷ whole 1 (ofValue ∷ []) 0 (BorrowLoc 0 true ∷ Call 1 [] (mut ∷ []) ∷ MoveLoc 0 ∷ []) (violation 102 2 1)
+    ∷ whole 2 (mut ∷ []) 0 (load ∷ BorrowGlobal 3 false ∷ CopyLoc 0 ∷ StLoc 1 ∷ MoveLoc 0 ∷ Call 1 (3 ∷ []) [] ∷ []) (violation 109 5 1)
+    ∷ whole 1 (ofValue ∷ []) 1 (BorrowLoc 0 false ∷ Ret ∷ []) (violation 113 1 0)
     ∷ whole 2 (ofValue ∷ []) 0 (BorrowLoc 0 false ∷ StLoc 1 ∷ Ret ∷ []) accept
-    ∷ whole 1 (mut ∷ []) 2 (CopyLoc 0 ∷ MoveLoc 0 ∷ Ret ∷ []) (violation 114 2)
+    ∷ whole 1 (mut ∷ []) 2 (CopyLoc 0 ∷ MoveLoc 0 ∷ Ret ∷ []) (violation 114 2 0)
+    ∷ whole 2 (mut ∷ ofValue ∷ []) 3 (CopyLoc 0 ∷ MoveLoc 0 ∷ BorrowLoc 1 false ∷ Ret ∷ []) (violation 113 3 2)
+    ∷ whole 2 (mut ∷ mut ∷ []) 4 (CopyLoc 0 ∷ CopyLoc 1 ∷ MoveLoc 1 ∷ MoveLoc 0 ∷ Ret ∷ []) (violation 114 4 1)
     ∷ whole 1 (mut ∷ []) 1 (MoveLoc 0 ∷ BorrowField 1 true ∷ Ret ∷ []) accept
     ∷ whole 0 [] 0 (Pop ∷ []) (refusal 10 0)
     ∷ whole 0 [] 0 (load ∷ ReadRef ∷ []) (refusal 11 1)
@@ -130,5 +139,5 @@ routines =
     ∷ []
 
 pub all-cases : all (λ b. b) routines ≡ true
-unfolding routines whole firstState firstLocals firstNames run turns loopStep propagate startSlots position verdict lowest exec runBlock runFrom instrsOf step popValues popMany push pushAll pushNew valueFor releaseValue newRef copyLoc moveLoc stLoc freezeRef comparison readRef writeRef borrowLoc borrowField borrowGlobal moveFrom vectorOp vectorElementBorrow addCopy addBorrow addFieldBorrow addLocalBorrow addResourceBorrow releaseName fullyBorrowed borrowed mutablyBorrowed isMutable newName borrowStrong borrowWeak putName wellFormed holds ascending setAt setTo setOk ordered short inOrder isBlur addAll addEdge insert limit has put prefix eqEdge eqPath ltEdge ltPath canonical crosses call notAcquired handOver returnValues borrowFrom releaseAll release spliced without splice ascend putNumber ret
+unfolding routines whole firstState firstLocals firstNames run turns loopStep propagate startSlots position verdict lowest exec runBlock runFrom instrsOf step popValues popMany push pushAll pushNew valueFor releaseValue newRef copyLoc moveLoc stLoc freezeRef comparison readRef writeRef borrowLoc borrowField borrowGlobal moveFrom vectorOp vectorElementBorrow addCopy addBorrow addFieldBorrow addLocalBorrow addResourceBorrow releaseName lowestOf isMutable newName borrowStrong borrowWeak putName wellFormed holds ascending setAt setTo setOk ordered short inOrder isBlur addAll addEdge insert limit has put prefix eqEdge eqPath ltEdge ltPath canonical crosses call notAcquired noneBorrowed handOver returnValues borrowFrom releaseAll release spliced without splice ascend putNumber ret
 all-cases = refl

@@ -86,7 +86,7 @@ module _ {M : Type 1} (𝓤 : URA M) (H : Heap 𝓤) (A : Atoms 𝓤) (W : Given
 
   -- what `push` says of its answer
   abbrev Said : Pushed → Type 0
-  Said r = (halted 0 0 (r .refusal) (stackOf (r .stack)) ≡ pushEach (stackOf h) (operandOf v ∷ [])) × Keeps (r .refusal) h (r .stack)
+  Said r = (halted 0 0 0 (r .refusal) (stackOf (r .stack)) ≡ pushEach (stackOf h) (operandOf v ∷ [])) × Keeps (r .refusal) h (r .stack)
 
   abbrev to-push : Push 𝓤 H A at-mem run .Ghost
   to-push = ((tt, tt, tt, (h, (v, tt)), (stack-val h ∷ [], (value-val v ∷ [], tt))), tt)

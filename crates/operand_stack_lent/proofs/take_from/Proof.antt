@@ -89,7 +89,7 @@ module _ {M : Type 1} (𝓤 : URA M) (H : Heap 𝓤) (A : Atoms 𝓤) (W : Given
 
   -- what `pop` says of its answer
   abbrev Said : TakenOff → Type 0
-  Said r = (halted 0 0 (r .refusal) (record { what = operandOf (r .value); rest = stackOf (r .stack) }) ≡ popOne (stackOf h)) × Keeps (r .refusal) h (r .stack)
+  Said r = (halted 0 0 0 (r .refusal) (record { what = operandOf (r .value); rest = stackOf (r .stack) }) ≡ popOne (stackOf h)) × Keeps (r .refusal) h (r .stack)
 
   abbrev to-pop : Pop 𝓤 H A at-mem run .Ghost
   to-pop = ((tt, tt, tt, (h, tt), (stack-val h ∷ [], tt)), tt)

@@ -20,8 +20,8 @@ Inv-loop n blocks t l₀ i₀ l i = lowestBy (drop i (blocksIn blocks n)) (drop 
 abbrev μ-loop : tie.MeasureT-loop
 μ-loop n blocks t l₀ i₀ l i = n - i
 
-cast-t15 : tie.Need-cast-t15 Inv-loop μ-loop
-cast-t15 c = omega arith
+cast-t16 : tie.Need-cast-t16 Inv-loop μ-loop
+cast-t16 c = omega arith
 
 returns : tie.Need-returns Inv-loop μ-loop
 returns c =
@@ -70,13 +70,13 @@ loop-again c =
 
 returns-2 : tie.Need-returns-2 Inv-loop μ-loop
 returns-2 c =
-    let loop = c .before .before .before .loop in
-    let args = c .before .before .before .before .before .args in
+    let loop = c .before .before .before .before .loop in
+    let args = c .before .before .before .before .before .before .args in
     let full : length (args .t1) ≡ 16 = search length-of-map in
     let rows : length (args .t3 .statuses) ≡ 16 = search length-of-map in
-    let end = blocks-end (args .t1) (args .n) full (c .before .before .before .before .before .pre) (loop .i) (c .before .before .loop-test .left) in
+    let end = blocks-end (args .t1) (args .n) full (c .before .before .before .before .before .before .pre) (loop .i) (c .before .before .before .loop-test .left) in
     let all = lowest-all (blocksIn (args .t1) (args .n)) (statusesOf (args .t3)) (loop .i) (failureOf (loop .l)) end (loop .inv) in
-    (verdict-found (blocksIn (args .t1) (args .n)) (args .t3) (c .before .before .before .before .if1 .left) (loop .l) all (c .before .if2 .taken), statuses-count (args .t3) rows)
+    (verdict-found (blocksIn (args .t1) (args .n)) (args .t3) (c .before .before .before .before .before .if1 .left) (loop .l) all (c .before .before .if2 .taken), statuses-count (args .t3) rows)
 
 returns-3 : tie.Need-returns-3 Inv-loop μ-loop
 returns-3 c =
@@ -94,7 +94,7 @@ verdict-of-spec =
     (tie.spec
     Inv-loop
     μ-loop
-    cast-t15
+    cast-t16
     returns
     loop-holds
     mul-b

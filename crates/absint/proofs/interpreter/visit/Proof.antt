@@ -50,7 +50,7 @@ ended : (c : tie.After-run-block) → let s = (c .before .before .before .before
     → exec (routine s) (s .args .t .next) (stateOf (first s)) ≡ endFor (block c .successors) (runningOf (last c))
 ended c =
     let x = c .run-block .result in
-    Law.placed-end (block c .successors) (x .state .blurred) (x .state .violation) (x .state .refusal) (runningOf (last c)) (x .place .0) _ (ran c)
+    Law.placed-end (block c .successors) (x .state .blurred) (x .state .violation) (x .state .«borrowed_at» .0) (x .state .refusal) (runningOf (last c)) (x .place .0) _ (ran c)
 
 ended-some : (c : tie.After-run-block) → let s = (c .before .before .before .before .before .before .before .before) in
     c .run-block .result .state .violation ≡ 0 → c .run-block .result .state .refusal ≡ 0
@@ -135,7 +135,7 @@ plus-requires c κs =
 
 fail-requires : tie.Need-fail-requires
 fail-requires c κs =
-    let p = (c .before .before .before .before .before .before .before .before .before .before .before .before .before .before .before .pre) .0 in
+    let p = (c .before .before .before .before .before .before .before .before .before .before .before .before .before .before .before .before .pre) .0 in
     let h = p .within in
     let k = p .blocks in
     omega (arith, h, k)
@@ -143,17 +143,17 @@ fail-requires c κs =
 returns : tie.Need-returns
 unfolding statusesOf
 returns c =
-    let s = (c .before .before .before .before .before .before .before .before .before .before .before .before .before .before .before .before) in
-    let o = (c .before .before .before .before .before) in
-    let r = (c .before .before .before .before .before .before .before .before) in
+    let s = (c .before .before .before .before .before .before .before .before .before .before .before .before .before .before .before .before .before) in
+    let o = (c .before .before .before .before .before .before) in
+    let r = (c .before .before .before .before .before .before .before .before .before) in
     let x = r .run-block .result in
     let fail = c .fail in
     Law.turned-violated (s .args .listing .now) (s .args .code .now) (s .args .routine) (s .args .area .now) (s .args .t) (s .pre .0)
-    (stateOf (first s)) (s .pre .1 .kept) (counted o (fail .ensures .3)) (fail .result) (x .state .blurred) (x .state .violation) (x .place .0)
-    (Law.placed-violated (block r .successors) (x .state .blurred) (x .state .violation) (x .state .refusal) (runningOf (last r)) (x .place .0) _ (ran r) ((c .before .before .if1) .taken))
-    (fail .ensures .1 ∙ marked o (failed (x .state .violation) (x .place .0))) (fail .ensures .0 ∙ after o)
+    (stateOf (first s)) (s .pre .1 .kept) (counted o (fail .ensures .3)) (fail .result) (x .state .blurred) (x .state .violation) (x .place .0) (x .state .«borrowed_at» .0)
+    (Law.placed-violated (block r .successors) (x .state .blurred) (x .state .violation) (x .state .«borrowed_at» .0) (x .state .refusal) (runningOf (last r)) (x .place .0) _ (ran r) ((c .before .before .before .if1) .taken))
+    (fail .ensures .1 ∙ marked o (failed (x .state .violation) (x .place .0) (x .state .«borrowed_at» .0))) (fail .ensures .0 ∙ after o)
     (fail .ensures .2 .visits ∙ add-one (s .args .t .visits)) (fail .ensures .2 .turns ∙ o .onward .ensures .3)
-    (fail .ensures .2 .blurred ∙ (c .before .plus) .ensures .0) ((c .before .plus) .ensures .1)
+    (fail .ensures .2 .blurred ∙ (c .before .before .plus) .ensures .0) ((c .before .before .plus) .ensures .1)
 
 stop-requires : tie.Need-stop-requires
 stop-requires c κs = search needs
@@ -168,7 +168,7 @@ returns-2 c =
     let stop = c .stop in
     Law.turned-refused (s .args .listing .now) (s .args .code .now) (s .args .routine) (s .args .area .now) (s .args .t) (s .pre .0)
     (stateOf (first s)) (s .pre .1 .kept) (counted o (stop .ensures .3)) (stop .result) (x .state .refusal) (x .place .0)
-    (Law.placed-refused (block r .successors) (x .state .blurred) (x .state .violation) (x .state .refusal) (runningOf (last r)) (x .place .0) _ (ran r) ((c .before .before .before .if1) .left) ((c .before .if2) .taken))
+    (Law.placed-refused (block r .successors) (x .state .blurred) (x .state .violation) (x .state .«borrowed_at» .0) (x .state .refusal) (runningOf (last r)) (x .place .0) _ (ran r) ((c .before .before .before .if1) .left) ((c .before .if2) .taken))
     (stop .ensures .1 ∙ o .onward .ensures .1) (stop .ensures .0) (stop .ensures .2 .visits ∙ add-one (s .args .t .visits)) (stop .ensures .2 .turns ∙ o .onward .ensures .3)
     (stop .ensures .2 .blurred ∙ o .onward .ensures .4)
 

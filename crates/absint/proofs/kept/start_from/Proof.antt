@@ -12,8 +12,8 @@ use Rattle.absint.proofs.kept.start_from.Tie as tie
 load-requires : tie.Need-load-requires
 load-requires c κs = search needs
 
-add-t13 : tie.Need-add-t13
-add-t13 c = search needs
+add-t15 : tie.Need-add-t15
+add-t15 c = search needs
 
 returns : tie.Need-returns
 returns c =
@@ -46,4 +46,4 @@ returns c =
     }
 
 pub start-from-spec : {M : Type 1} → statement M
-start-from-spec = tie.close (tie.spec load-requires add-t13 returns)
+start-from-spec = tie.close (tie.spec load-requires add-t15 returns)

@@ -26,14 +26,15 @@ returns c = λ ls es.
     let new-ref = (c .before .before .before .before .before .new-ref) in
     let k = a .state .blurred in
     let v = a .state .violation in
+    let o = a .state .«borrowed_at» .0 in
     let n = a .state .refusal in
     let r = runningOf (words ls (a .names .now) es (a .state)) in
     let g = graphIn (new-ref .last .0) es (new-ref .result .graph) in
     record {
       fits = λ h. record { locals = h .locals; tells = new-ref .ensures es (h .tells) .tells };
       does = λ h.
-          answered k k v n r (new-ref .result .refusal) g named ((c .if2) .taken)
-          ∙ here k v n r (λ s. then (lift (told (new-ref .result .refusal) g)) (λ y. done (named s y))) (newRef (a .mutable))
+          answered k k v o n r (new-ref .result .refusal) g named ((c .if2) .taken)
+          ∙ here k v o n r (λ s. then (lift (told (new-ref .result .refusal) g)) (λ y. done (named s y))) (newRef (a .mutable))
           (next-named (a .mutable) r (told (new-ref .result .refusal) g) (lt-ltb _ _ (if1 .taken)) (new-ref .ensures es (h .tells) .answer));
     }
 
@@ -44,7 +45,7 @@ returns-2 c = λ ls es.
     let r = runningOf (words ls (a .names .now) es (a .state)) in
     record {
       fits = λ h. record { locals = h .locals; tells = new-ref .ensures es (h .tells) .tells };
-      does = λ h. stays (a .state .blurred) (a .state .violation) (a .state .refusal) r (named r (graphIn (new-ref .last .0) es (new-ref .result .graph))) (newRef (a .mutable)) ((c .if2) .left);
+      does = λ h. stays (a .state .blurred) (a .state .violation) (a .state .«borrowed_at» .0) (a .state .refusal) r (named r (graphIn (new-ref .last .0) es (new-ref .result .graph))) (newRef (a .mutable)) ((c .if2) .left);
     }
 
 refuse-requires : tie.Need-refuse-requires

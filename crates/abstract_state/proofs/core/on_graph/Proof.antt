@@ -17,15 +17,16 @@ returns : tie.Need-returns
 returns c = λ ls ns ns′ es es′ f q.
     let a = (c .before .before .before .before .before .args) in
     let v = a .state .violation in
+    let o = a .state .«borrowed_at» .0 in
     let n = a .state .refusal in
     let r = runningOf (words ls ns es (a .state)) in
     let g = graphIn ns′ es′ (a .a .graph) in
     record {
       fits = λ h. record { locals = h .locals; tells = q (h .tells) .answers .tells };
       does = λ h.
-          ap {B = Outcome Running} (λ (b : ℕ). halted b v (a .a .refusal) (record { locals = r .locals; graph = g; next = r .next; root = r .root; blurs = b })) ((c .count-on) .ensures)
-          ∙ answered _ (a .state .blurred) v n r (a .a .refusal) g (counted (a .a .blurred)) ((c .before .if1) .taken)
-          ∙ here (a .state .blurred) v n r (λ s. then (lift (told (a .a .refusal) g)) (λ k. done (counted (a .a .blurred) s k))) (λ s. onGraph s (f (s .graph)))
+          ap {B = Outcome Running} (λ (b : ℕ). halted b v o (a .a .refusal) (record { locals = r .locals; graph = g; next = r .next; root = r .root; blurs = b; offset = r .offset })) ((c .count-on) .ensures)
+          ∙ answered _ (a .state .blurred) v o n r (a .a .refusal) g (counted (a .a .blurred)) ((c .before .if1) .taken)
+          ∙ here (a .state .blurred) v o n r (λ s. then (lift (told (a .a .refusal) g)) (λ k. done (counted (a .a .blurred) s k))) (λ s. onGraph s (f (s .graph)))
           (passed-up r (a .a .refusal) (a .a .blurred) g (f (r .graph)) (q (h .tells) .answers .answer) (q (h .tells) .blurs));
     }
 
@@ -36,7 +37,7 @@ returns-2 c = λ ls ns ns′ es es′ f q.
     record {
       fits = λ h. record { locals = h .locals; tells = q (h .tells) .answers .tells };
       does = λ h.
-          stays (a .state .blurred) (a .state .violation) (a .state .refusal) r (record { locals = r .locals; graph = graphIn ns′ es′ (a .a .graph); next = r .next; root = r .root; blurs = r .blurs })
+          stays (a .state .blurred) (a .state .violation) (a .state .«borrowed_at» .0) (a .state .refusal) r (record { locals = r .locals; graph = graphIn ns′ es′ (a .a .graph); next = r .next; root = r .root; blurs = r .blurs; offset = r .offset })
           (λ s. onGraph s (f (s .graph))) (c .if1 .left);
     }
 

@@ -9,13 +9,13 @@ returns : tie.Need-returns
 returns c = λ ls ns es.
     let a = (c .before .before .before .args) in
     let r = runningOf (words ls ns es (a .state)) in
-    does-here _ ls ns es _ _ refl (heeded (a .state .violation) (a .state .refusal) r (a .t .refusal) (a .t .yes) (c .if1 .taken))
+    does-here _ ls ns es _ _ refl (heeded (a .state .violation) (a .state .«borrowed_at» .0) (a .state .refusal) r (a .t .refusal) (c .if1 .taken) (a .t .yes))
 
 returns-2 : tie.Need-returns-2
 returns-2 c = λ ls ns es.
     let a = (c .before .before .before .args) in
     let r = runningOf (words ls ns es (a .state)) in
-    does-here _ ls ns es _ _ refl (stays (a .state .blurred) (a .state .violation) (a .state .refusal) r r (heeding (toldOf (a .t))) (c .if1 .left))
+    does-here _ ls ns es _ _ refl (stays (a .state .blurred) (a .state .violation) (a .state .«borrowed_at» .0) (a .state .refusal) r r (heeding (toldOf (a .t))) (c .if1 .left))
 
 pub pass-refusal-spec : {M : Type 1} → statement M
 pass-refusal-spec = tie.close (tie.spec returns returns-2)

@@ -25,7 +25,7 @@ returns c = λ ns es s.
     let r = runningOf (words ls ns es s) in
     record {
       fits = λ h. record { locals = simp length-set (h .locals); tells = h .tells };
-      does = λ h. relocated (s .blurred) (s .violation) (s .refusal) r (a .i .0) (localOf (a .x)) _
+      does = λ h. relocated (s .blurred) (s .violation) (s .«borrowed_at» .0) (s .refusal) r (a .i .0) (localOf (a .x)) _
           (local-set ls (s .«num_locals») (a .i .0) ((c .before .local-word) .result) (localOf (a .x)) ((c .before .local-word) .ensures .0));
     }
 
@@ -36,7 +36,7 @@ returns-2 c = λ ns es s.
     let r = runningOf (words ls ns es s) in
     record {
       fits = λ h. h;
-      does = λ h. relocated (s .blurred) (s .violation) (s .refusal) r (a .i .0) (localOf (a .x)) _
+      does = λ h. relocated (s .blurred) (s .violation) (s .«borrowed_at» .0) (s .refusal) r (a .i .0) (localOf (a .x)) _
           (local-unset ls (s .«num_locals») (a .i .0) (localOf (a .x)) (omega (arith, h .locals)));
     }
 

@@ -3,8 +3,9 @@ use mathlib.Core.List.{List}
 use Rattle.meaning.specs.BorrowGraph.{Change, nameAfter, renamed}
 use Rattle.borrow_graph.specs.Models.{graphIn}
 use Rattle.abstract_state.specs.Models.{words, runningOf, stateOf}
+use Rattle.abstract_state.specs.ModelLaws.{stays}
 use Rattle.abstract_state_join.specs.Models.{canonicalEnd}
-use Rattle.abstract_state_join.specs.CanonicalLaws.{stays, canonical-16, canonical-ok, end-16, end-ok}
+use Rattle.abstract_state_join.specs.CanonicalLaws.{canonical-16, canonical-ok, end-16, end-ok}
 use borrow.Author.Needs.{needs}
 use Rattle.abstract_state_join.proofs.canonical.construct_canonical_state.Statement.{
   statement,
@@ -21,7 +22,7 @@ returns c =
     let before = words (a .locals .now) (a .names .now) (a .edges .now) s in
     record {
       fits = λ f. record { locals = f .locals; tells = f .tells };
-      does = λ f. end-16 (s .blurred) (s .violation) (s .refusal) (runningOf before) (runningOf before) ((c .before .before .before .if1) .taken) (canonical-16 (s .«num_locals») (stateOf before) (sym ((c .before .crosses) .ensures (f .locals)) ∙ (c .if2) .taken));
+      does = λ f. end-16 (s .blurred) (s .violation) (s .«borrowed_at» .0) (s .refusal) (runningOf before) (runningOf before) ((c .before .before .before .if1) .taken) (canonical-16 (s .«num_locals») (stateOf before) (sym ((c .before .crosses) .ensures (f .locals)) ∙ (c .if2) .taken));
     }
 
 cast-t16 : tie.Need-cast-t16
@@ -53,7 +54,7 @@ returns-2 c =
     let before = words (a .locals .now) (a .names .now) (a .edges .now) s in
     record {
       fits = λ f. record { locals = own-names .ensures (f .locals) .1; tells = (c .renamed) .ensures (f .tells) .1 };
-      does = λ f. end-ok (s .blurred) (s .violation) (s .refusal) (runningOf before) _ _ (if1 .taken)
+      does = λ f. end-ok (s .blurred) (s .violation) (s .«borrowed_at» .0) (s .refusal) (runningOf before) _ _ (if1 .taken)
           (canonical-ok (s .«num_locals») (stateOf before) _ _ (sym (crosses .ensures (f .locals)) ∙ if2 .left) (own-names .ensures (f .locals) .0)
           ((c .renamed) .ensures (f .tells) .0 ∙ ap (λ (ms : List Change). renamed (nameAfter ms) (graphIn (a .names .now) (a .edges .now) (s .«borrow_graph»))) ((c .before .before .before .before .before .before .id-map) .ensures (f .locals))));
     }
@@ -62,9 +63,10 @@ returns-3 : tie.Need-returns-3
 returns-3 c =
     let a = (c .before .before .before .args) in
     let s = a .state in
+    let r = runningOf (words (a .locals .now) (a .names .now) (a .edges .now) s) in
     record {
       fits = λ f. f;
-      does = λ f. stays (s .blurred) (s .violation) (s .refusal) (runningOf (words (a .locals .now) (a .names .now) (a .edges .now) s)) canonicalEnd ((c .if1) .left);
+      does = λ f. stays (s .blurred) (s .violation) (s .«borrowed_at» .0) (s .refusal) r r canonicalEnd ((c .if1) .left);
     }
 
 pub construct-canonical-state-spec : {M : Type 1} → statement M

@@ -22,14 +22,14 @@ first-locals-requires c κs = search needs
 first-names-requires : tie.Need-first-names-requires
 first-names-requires c κs = search needs
 
-cast-t12 : tie.Need-cast-t12
-cast-t12 c = search needs
-
-add-t13 : tie.Need-add-t13
-add-t13 c = search needs
-
 cast-t14 : tie.Need-cast-t14
 cast-t14 c = search needs
+
+add-t15 : tie.Need-add-t15
+add-t15 c = search needs
+
+cast-t16 : tie.Need-cast-t16
+cast-t16 c = search needs
 
 returns : tie.Need-returns
 unfolding edgesIn
@@ -58,7 +58,7 @@ new-spec =
     count-requires
     first-locals-requires
     first-names-requires
-    cast-t12
-    add-t13
     cast-t14
+    add-t15
+    cast-t16
     returns)

@@ -35,7 +35,7 @@ returns c = λ fa fb.
         left = sym (ap (leaves s) e);
         fits = fa;
         rest = refl;
-        stop = (refl, refl);
+        stop = (refl, refl, refl);
       },
       sym (ap (changedBy s) e),
       m .1,

@@ -23,7 +23,7 @@ returns c = λ fa fb.
         answer = told-no n _ ((c .if1) .taken) ∙ sym (join-early s o n early);
         fits = λ z. absurd ((c .if1) .taken z);
         rest = refl;
-        stop = (refl, refl);
+        stop = (refl, refl, refl);
       },
       j .theirs .words,
       j .theirs .rows,
@@ -48,7 +48,7 @@ returns-2 c = λ fa fb.
         answer = told-no n _ ((c .if2) .taken) ∙ sym (join-late s o _ _ first then);
         fits = λ z. absurd ((c .if2) .taken z);
         rest = refl;
-        stop = (refl, refl);
+        stop = (refl, refl, refl);
       },
       j .theirs .words,
       j .theirs .rows,
@@ -78,7 +78,7 @@ returns-3 c = λ fa fb.
         answer = sym (join-late s o _ _ first then);
         fits = λ z. record { locals = j .locals; tells = b .answers .tells };
         rest = refl;
-        stop = (refl, refl);
+        stop = (refl, refl, refl);
       },
       j .theirs .words,
       j .theirs .rows,

@@ -1,7 +1,7 @@
 use mathlib.Core.Path.{_≡_, sym, ap, _∙_}
 use mathlib.Core.Bool.{true, false, _&&_}
 use Rattle.meaning.specs.Answers.{Ans, ok}
-use Rattle.meaning.specs.BorrowGraph.{wellFormed, held, isMutable, fullyBorrowed, borrowed, mutablyBorrowed, Borrows, borrowedBy}
+use Rattle.meaning.specs.BorrowGraph.{wellFormed, held, isMutable, Borrows, borrowedBy}
 use Rattle.borrow_graph.specs.Models.{graphIn}
 use Rattle.borrow_graph.specs.Folds.{borrowsIn}
 use borrow.Author.Needs.{needs}
@@ -15,7 +15,7 @@ borrows-requires : tie.Need-borrows-requires
 borrows-requires c κs = search needs
 
 returns : tie.Need-returns
-unfolding borrowedBy borrowsIn fullyBorrowed borrowed mutablyBorrowed isMutable
+unfolding borrowedBy borrowsIn isMutable
 returns c = λ t.
     let a = (c .before .before .before .before .args) in
     let g = graphIn (a .names .now) (a .edges .now) (a .g) in

@@ -1,15 +1,14 @@
 use mathlib.Core.Path.{_≡_, refl, sym, ap, _∙_}
-use mathlib.Core.Bool.{_||_, false}
+use mathlib.Core.Option.{Option, none, some}
 use mathlib.Core.List.{List, []}
-use Prim.Native.Nat.{_+_, _-_}
+use Prim.Native.Nat.{ℕ, _+_, _-_}
 use borrow.Author.Tests.{eq-eqb, ne-eqb}
 use lib.ListN.{length, drop}
-use Rattle.meaning.specs.Laws.Base.{or-false}
-use Rattle.meaning.specs.BorrowGraph.{GEdge, Borrows}
+use Rattle.meaning.specs.BorrowGraph.{GEdge, lowestOf, Borrows}
 use Rattle.references.specs.Models.{namesIn, edgesIn, filterOf}
 use Rattle.references.specs.ModelLaws.{edges-step, edges-end, edges-size}
 use Rattle.borrow_graph.specs.Models.{borrowsOf}
-use Rattle.borrow_graph.specs.Folds.{noBorrows, borrowsIn, borrow-hit, borrow-miss}
+use Rattle.borrow_graph.specs.Folds.{lowerBoth, noBorrows, borrowsIn, borrow-hit, borrow-miss}
 use native.Mathlib.Omega.{arith}
 use borrow.Author.Needs.{needs}
 use Rattle.borrow_graph.proofs.lookups.borrows.Statement.{statement}
@@ -23,8 +22,12 @@ abbrev μ-loop : tie.MeasureT-loop
 μ-loop names n edges m id at k found₀ i₀ found i = k - i
 
 -- nothing remains
-none-left : (s : Borrows) → s ≡ record { full = s .full || false; consistent = s .consistent || false; mutable = s .mutable || false }
-none-left s = λ i. record { full = sym (or-false (s .full)) i; consistent = sym (or-false (s .consistent)) i; mutable = sym (or-false (s .mutable)) i }
+none-left : (s : Borrows) → s ≡ record { full = lowerBoth (s .full) none; consistent = lowerBoth (s .consistent) none; mutable = lowerBoth (s .mutable) none }
+none-left s = λ i. record { full = same (s .full) i; consistent = same (s .consistent) i; mutable = same (s .mutable) i }
+  where
+    same : (l : Option ℕ) → l ≡ lowerBoth l none
+    same none = refl
+    same (some o) = refl
 
 lesser-requires : tie.Need-lesser-requires Inv-loop μ-loop
 lesser-requires c κs = search needs
@@ -92,7 +95,7 @@ loop-again-2 c =
     )
 
 returns : tie.Need-returns Inv-loop μ-loop
-unfolding borrowsIn
+unfolding borrowsIn lowestOf
 returns c =
     let a = (c .before .before .before .args) in
     let l = (c .before .loop) in

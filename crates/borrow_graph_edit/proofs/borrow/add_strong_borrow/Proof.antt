@@ -29,7 +29,7 @@ returns c =
     let k = a .child .0 in
     λ t.
     let y = test-yes (a .g .formed) (pair-ok .result) (a .g .edges) (wellFormed g) (pairOk (g .names) p k) (t .formed) (pair-ok .ensures (t .words)) ((c .before .before .if1) .taken) in
-    answers-edits (borrowStrong g p path k) ns es (a .g) t ((c .factor) .last .0) ((c .factor) .result) ((c .factor) .ensures .0) (λ h e. borrowStrong-law g p path k h e .formed)
+    answers-edits (borrowStrong g p path k (a .loc .0)) ns es (a .g) t ((c .factor) .last .0) ((c .factor) .result) ((c .factor) .ensures .0) (λ h e. borrowStrong-law g p path k (a .loc .0) h e .formed)
     (and-l (wellFormed g) (pairOk (g .names) p k) y) ((c .factor) .ensures .1 (t .rows) (g .names) y)
 
 returns-2 : tie.Need-returns-2
@@ -42,7 +42,7 @@ returns-2 c =
     let p = a .parent .0 in
     let path = pathAt (a .path) in
     let k = a .child .0 in
-    λ t. answers-9 (borrowStrong g p path k) ns es (a .g) t (strong-names (g .names) (g .edges) p path k
+    λ t. answers-9 (borrowStrong g p path k (a .loc .0)) ns es (a .g) t (strong-names (g .names) (g .edges) p path k (a .loc .0)
     (test-no (a .g .formed) (pair-ok .result) (a .g .edges) (wellFormed g) (pairOk (g .names) p k) (t .formed) (pair-ok .ensures (t .words)) (t .edges) ((c .if1) .left)))
 
 pub add-strong-borrow-spec : {M : Type 1} → statement M

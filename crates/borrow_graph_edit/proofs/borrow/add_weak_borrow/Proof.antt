@@ -38,9 +38,9 @@ returns c =
     let y = test-yes (a .g .formed) (pair-ok .result) (a .g .edges) (wellFormed g) (pairOk (g .names) p k) (t .formed) (pair-ok .ensures (t .words)) ((c .before .before .before .if1) .taken) in
     let w = and-l (wellFormed g) (pairOk (g .names) p k) y in
     let d = subst (λ (x : GEdge). Added x es (a .g .edges) ((c .add-edge) .last .0) ((c .add-edge) .result)) ((c .before .before .edge) .ensures) ((c .add-edge) .ensures .1 (t .rows) (wf-neat g w)) in
-    let u = added-edits (between p (record { strong = false; path = path }) k) es (a .g .edges) ((c .add-edge) .last .0) ((c .add-edge) .result) d (g .names) in
-    answers-edits (borrowWeak g p path k) ns es (a .g) t ((c .add-edge) .last .0) ((c .add-edge) .result) ((c .add-edge) .ensures .0) (λ h e. borrowWeak-law g p path k h e .formed) w
-    (u .0 ∙ weak-ok g p path k w (and-r (wellFormed g) (pairOk (g .names) p k) y), u .1, u .2, u .3)
+    let u = added-edits (between p (record { strong = false; path = path; offset = a .loc .0 }) k) es (a .g .edges) ((c .add-edge) .last .0) ((c .add-edge) .result) d (g .names) in
+    answers-edits (borrowWeak g p path k (a .loc .0)) ns es (a .g) t ((c .add-edge) .last .0) ((c .add-edge) .result) ((c .add-edge) .ensures .0) (λ h e. borrowWeak-law g p path k (a .loc .0) h e .formed) w
+    (u .0 ∙ weak-ok g p path k (a .loc .0) w (and-r (wellFormed g) (pairOk (g .names) p k) y), u .1, u .2, u .3)
 
 returns-2 : tie.Need-returns-2
 returns-2 c =
@@ -52,7 +52,7 @@ returns-2 c =
     let p = a .parent .0 in
     let path = pathAt (a .path) in
     let k = a .child .0 in
-    λ t. answers-9 (borrowWeak g p path k) ns es (a .g) t (sym (weak-9 g p path k
+    λ t. answers-9 (borrowWeak g p path k (a .loc .0)) ns es (a .g) t (sym (weak-9 g p path k (a .loc .0)
     (test-no (a .g .formed) (pair-ok .result) (a .g .edges) (wellFormed g) (pairOk (g .names) p k) (t .formed) (pair-ok .ensures (t .words)) (t .edges) ((c .if1) .left))))
 
 pub add-weak-borrow-spec : {M : Type 1} → statement M

@@ -33,9 +33,9 @@ returns-2 c =
           let w = and-l (wellFormed (graphWith ns es)) (pairOk ns (a .parent .0) (a .child .0)) t in
           let d = subst (λ (x : GEdge). Added x (a .edges .now) (a .m) ((c .add-edge) .last .0) ((c .add-edge) .result)) ((c .before .before .edge) .ensures)
           ((c .add-edge) .ensures .1 e (wf-neat (graphWith ns es) w)) in
-          let u = added-edits (strong ns es (a .parent .0) (pathAt (a .path)) (a .child .0)) (a .edges .now) (a .m) ((c .add-edge) .last .0) ((c .add-edge) .result) d ns in
+          let u = added-edits (strong ns es (a .parent .0) (pathAt (a .path)) (a .child .0) (a .loc .0)) (a .edges .now) (a .m) ((c .add-edge) .last .0) ((c .add-edge) .result) d ns in
           let idle = sym ((c .before .before .before .before .any-moves) .ensures e) ∙ (c .before .before .before .if1) .left in
-          (u .0 ∙ sym (strong-idle ns es (a .parent .0) (pathAt (a .path)) (a .child .0) t idle), u .1, u .2, u .3),
+          (u .0 ∙ sym (strong-idle ns es (a .parent .0) (pathAt (a .path)) (a .child .0) (a .loc .0) t idle), u .1, u .2, u .3),
     )
 
 pub factor-spec : {M : Type 1} → statement M

@@ -23,7 +23,7 @@ last : (c : tie.After-add-edge) →
     let r = (c .add-edge) .result in
     let fs = edgesIn ((c .add-edge) .last .0) (r .edges) in
     length (a .edges .now) ≡ maxEdges → (ns : List Name) → wellFormed (graphWith ns es) && pairOk ns (a .parent .0) (a .child .0) ≡ true
-    → (told (r .refusal) (graphWith ns fs) ≡ borrowStrong (graphWith ns es) (a .parent .0) (pathAt (a .path)) (a .child .0)) × (length ((c .add-edge) .last .0) ≡ maxEdges)
+    → (told (r .refusal) (graphWith ns fs) ≡ borrowStrong (graphWith ns es) (a .parent .0) (pathAt (a .path)) (a .child .0) (a .loc .0)) × (length ((c .add-edge) .last .0) ≡ maxEdges)
 last c =
     let pre = (c .before .before .before .before .before .before .before .before .before .before .before .before .pre) in
     let none-ends-at = (c .before .before .before .before .before .before .before .before .before .before .none-ends-at) in
@@ -41,13 +41,13 @@ last c =
     let o = take-out .ensures .1 e in
     let fs = edgesIn (take-out .last .0) (take-out .result) in
     let n : length fs ≡ take-out .result = edges-count (take-out .last .0) (take-out .result) (omega (arith, o .0, take-out .ensures .0, pre)) in
-    let v = add-moved .ensures .1 (o .0) e ns (staying-formed ns es p path k t s few fs (o .1))
-    (moving-fits ns es p path k t s few (take-out .result) fs n (o .1)) (moving-pairs ns es p path k t s few) in
+    let v = add-moved .ensures .1 (o .0) e ns (staying-formed ns es p path k (a .loc .0) t s few fs (o .1))
+    (moving-fits ns es p path k (a .loc .0) t s few (take-out .result) fs n (o .1)) (moving-pairs ns es p path k (a .loc .0) t s few) in
     let hs = edgesIn (add-moved .last .0) (add-moved .result) in
     let d = subst (λ (x : GEdge). Added x (add-moved .last .0) (add-moved .result) ((c .add-edge) .last .0) ((c .add-edge) .result)) ((c .before .before .edge) .ensures)
     ((c .add-edge) .ensures .1 (v .0) (wf-neat (graphWith ns hs) (v .1 .formed))) in
-    let u = added-edits (strong ns es p path k) (add-moved .last .0) (add-moved .result) ((c .add-edge) .last .0) ((c .add-edge) .result) d ns in
-    (u .0 ∙ sym (strong-moved ns es p path k t s few fs hs (o .1) (v .1)), u .2)
+    let u = added-edits (strong ns es p path k (a .loc .0)) (add-moved .last .0) (add-moved .result) ((c .add-edge) .last .0) ((c .add-edge) .result) d ns in
+    (u .0 ∙ sym (strong-moved ns es p path k (a .loc .0) t s few fs hs (o .1) (v .1)), u .2)
 
 none-ends-at-requires : tie.Need-none-ends-at-requires
 none-ends-at-requires c κs = search needs
@@ -99,7 +99,7 @@ returns-3 c =
       (c .before .before .before .pre),
       λ e ns t.
           let ends = sym ((c .before .none-ends-at) .ensures e) ∙ (c .if1) .left in
-          (sym (strong-ends ns (edgesIn (a .edges .now) (a .m)) (a .parent .0) (pathAt (a .path)) (a .child .0) ends), λ y. (refl, refl), e, sym (newly-self (edgesIn (a .edges .now) (a .m)))),
+          (sym (strong-ends ns (edgesIn (a .edges .now) (a .m)) (a .parent .0) (pathAt (a .path)) (a .child .0) (a .loc .0) ends), λ y. (refl, refl), e, sym (newly-self (edgesIn (a .edges .now) (a .m)))),
     )
 
 pub factor-below-spec : {M : Type 1} → statement M

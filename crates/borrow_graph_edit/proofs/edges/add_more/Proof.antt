@@ -4,7 +4,7 @@ use Prim.Native.Nat.{_+_, _-_}
 use lib.ListN.{length, take, drop}
 use Rattle.meaning.specs.Limits.{maxEdges, maxSetSize}
 use Rattle.meaning.specs.Answers.{ok}
-use Rattle.meaning.specs.References.{EdgeSet, insert, offer, report, offerReport}
+use Rattle.meaning.specs.References.{EdgeSet, fits, insert, offer, report, offerReport}
 use Rattle.meaning.specs.Lists.{keep}
 use Rattle.meaning.specs.BorrowGraph.{isBefore, setAt}
 use Rattle.meaning.specs.BorrowGraph as G
@@ -44,14 +44,14 @@ found c e w =
     let g = b .1 (neat-few es (parent′ .result .0) (child′ .result .0) w) in
     let s = g .0 ∙ (λ i. setAt (parent′ .ensures i) (child′ .ensures i) es) in
     let t = insert′ .ensures (b .0) in
-    let told-set = t .0 ∙ ap (λ (u : EdgeSet). offer u (ok (x .edge))) s in
+    let told-set = t .0 ∙ ap (λ (u : EdgeSet). offer u (fits (x .edge))) s in
     let k = set-count (between .last .1 .1 .1 .1 .0) (between .result .set .len) (b .0) in (
       t .1,
       taken-in (setAt (x .parent) (x .child) es) (setIn (insert′ .last .0) (insert′ .result .set)) (x .edge) (insert′ .result .refusal) (row-short (a .t3)) told-set,
       g .1 ∙ (λ i. length (keep (isBefore (parent′ .ensures i) (child′ .ensures i)) es)),
       omega (arith, k, between .ensures .1, ap (λ (u : EdgeSet). length (u .edges)) s),
       reported (setAt (x .parent) (x .child) es) (setIn (insert′ .last .0) (insert′ .result .set)) (x .edge) (insert′ .result .refusal) (reportOf (insert′ .result .report)) (row-short (a .t3)) told-set
-          (t .4 ∙ ap (λ (u : EdgeSet). offerReport u (ok (x .edge))) s),
+          (t .4 ∙ ap (λ (u : EdgeSet). offerReport u (fits (x .edge))) s),
     )
 
 parent-requires : tie.Need-parent-requires

@@ -2,8 +2,7 @@ use mathlib.Core.List.{List, [], map}
 use Prim.Native.Nat.{_-_, _≤_}
 use lib.ListN.{getD, length, drop}
 use Rattle.meaning.specs.Limits.{maxSetSize}
-use Rattle.meaning.specs.Answers.{Ans}
-use Rattle.meaning.specs.References.{Edge, offer}
+use Rattle.meaning.specs.References.{Edge, Offered, offer}
 use Rattle.meaning.specs.Laws.Pass.{offer-fitting}
 use Rattle.references.specs.ModelLaws.{set-step, set-end, set-count, told-on, told-off}
 use Rattle.borrow_graph_edit.specs.RowLaws.{set-cut, one-turn, insert-end}
@@ -69,7 +68,7 @@ loop-again c =
           let g = set-step rows n [] (l .i) (omega (arith, set-count rows n k, loop-test .taken, len′ .ensures)) in (
             w .1,
             told-on (insert .result .refusal) (setIn (insert .last .0) (insert .result .set)) _ _ _
-                (w .0 ∙ ap (λ (a : Ans Edge). offer s a) ((c .before .before .before .before .before .splice) .ensures .0) ∙ offer-fitting s (splice d x))
+                (w .0 ∙ ap (λ (a : Offered). offer s a) ((c .before .before .before .before .before .splice) .ensures .0) ∙ offer-fitting s (splice d x))
                 (one-turn d _ _ x g s _ (v .1)) ((c .before .if1) .taken),
           ),
     )
@@ -93,7 +92,7 @@ returns c =
     let g = set-step rows n [] (l .i) (omega (arith, set-count rows n k, loop-test .taken, len′ .ensures)) in (
       w .1,
       told-off (insert .result .refusal) u _ _ _
-          (w .0 ∙ ap (λ (a : Ans Edge). offer s a) ((c .before .before .before .before .splice) .ensures .0) ∙ offer-fitting s (splice d x))
+          (w .0 ∙ ap (λ (a : Offered). offer s a) ((c .before .before .before .before .splice) .ensures .0) ∙ offer-fitting s (splice d x))
           (one-turn d _ _ x g s _ (v .1)) ((c .if1) .left) (setIn (insert .last .0) (l .t))
           ∙ ap (λ (r : List Edge). insertAll (map (splice d) r) (setIn (a′ .set .now) (a′ .s))) (set-cut rows (a′ .cs .len) n k (len′ .ensures)),
     )

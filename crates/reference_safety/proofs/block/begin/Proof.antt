@@ -13,7 +13,7 @@ add-s : tie.Need-add-s
 add-s c = search needs
 
 returns : tie.Need-returns
-returns c = (refl, refl, refl, refl, λ ls ns es. ap {B = Running} (λ (n : ℕ). record { locals = localsIn ls ((c .args) .locals); graph = graphIn ns es ((c .args) .state .«borrow_graph»); next = n; root = (c .args) .locals; blurs = 0 }) (add-one ((c .args) .locals)))
+returns c = (refl, refl, refl, refl, λ ls ns es. ap {B = Running} (λ (n : ℕ). record { locals = localsIn ls ((c .args) .locals); graph = graphIn ns es ((c .args) .state .«borrow_graph»); next = n; root = (c .args) .locals; blurs = 0; offset = 0 }) (add-one ((c .args) .locals)))
 
 pub begin-spec : {M : Type 1} → statement M
 begin-spec = tie.close (tie.spec add-s returns)

@@ -9,7 +9,7 @@ use Rattle.operand_stack.specs.Models.{stackIn}
 use Rattle.operand_stack.specs.StackLaws.{stack-length}
 use Rattle.abstract_state_join.specs.Models.{canonicalEnd}
 use Rattle.reference_safety.specs.Models.{placed}
-use Rattle.reference_safety.specs.MachineLaws.{goes}
+use Rattle.abstract_state.specs.ModelLaws.{goes}
 use Rattle.reference_safety.specs.BlockLaws.{not-halted, finish-left, finish-none, finish-some}
 use native.Mathlib.Omega.{arith}
 use borrow.Author.Needs.{needs}
@@ -28,7 +28,7 @@ returns c = λ ws l.
     record {
       fits = d .fits;
       ends = λ h.
-          ap (λ (o : Outcome Running). placed (blockOf (a .b) .successors) (a .b .exit .0) o) (d .does h ∙ sym (goes (s .blurred) (s .violation) (s .refusal) r (λ q. halted 0 0 14 q) ((c .before .before .before .before .before .pre))))
+          ap (λ (o : Outcome Running). placed (blockOf (a .b) .successors) (a .b .exit .0) o) (d .does h ∙ sym (goes (s .blurred) (s .violation) (s .«borrowed_at» .0) (s .refusal) r (λ q. halted 0 0 0 14 q) ((c .before .before .before .before .before .pre))))
           ∙ finish-left (a .b .entry .0) (a .b .exit .0) (a .b .count) (a .b .first .0) (a .b .second .0) r (stackIn ws (a .m .depth)) (λ z. (c .before .if1) .taken (omega (arith, stack-length ws (a .m .depth))));
     }
 
@@ -41,7 +41,7 @@ returns-2 c = λ ws l.
     record {
       fits = λ h. h;
       ends = λ h.
-          ap (λ (o : Outcome Running). placed (blockOf (a .b) .successors) (a .b .exit .0) o) (not-halted (s .blurred) (s .violation) (s .refusal) r ((c .before .before .before .before .before .before .pre)))
+          ap (λ (o : Outcome Running). placed (blockOf (a .b) .successors) (a .b .exit .0) o) (not-halted (s .blurred) (s .violation) (s .«borrowed_at» .0) (s .refusal) r ((c .before .before .before .before .before .before .pre)))
           ∙ finish-none (a .b .entry .0) (a .b .exit .0) (a .b .count) (a .b .first .0) (a .b .second .0) r (stackIn ws (a .m .depth)) z ((c .if2) .taken);
     }
 
@@ -58,7 +58,7 @@ returns-3 c = λ ws l.
     record {
       fits = d .fits;
       ends = λ h.
-          ap (λ (o : Outcome Running). placed (blockOf (a .b) .successors) (a .b .exit .0) o) (d .does h ∙ sym (goes (s .blurred) (s .violation) (s .refusal) r canonicalEnd ((c .before .before .before .before .before .before .before .before .before .before .pre))))
+          ap (λ (o : Outcome Running). placed (blockOf (a .b) .successors) (a .b .exit .0) o) (d .does h ∙ sym (goes (s .blurred) (s .violation) (s .«borrowed_at» .0) (s .refusal) r canonicalEnd ((c .before .before .before .before .before .before .before .before .before .before .pre))))
           ∙ finish-some (a .b .entry .0) (a .b .exit .0) (a .b .count) (a .b .first .0) (a .b .second .0) r (stackIn ws (a .m .depth)) z ((c .before .before .before .before .if2) .left);
     }
 

@@ -6,7 +6,7 @@ use Rattle.meaning.specs.Blocks.{runBlock}
 use Rattle.listing.specs.Models.{decodedAt, decodedOf, blockOf, routineOf}
 use Rattle.abstract_state.specs.Models.{words, stateOf}
 use Rattle.reference_safety.specs.Models.{board, stateIn}
-use Rattle.reference_safety.specs.BlockLaws.{Going, going, next-instr, code-length, begins, turns, stops, finishes, begun}
+use Rattle.reference_safety.specs.BlockLaws.{Going, going, next-instr, code-length, begins, at-step, turns, stops, finishes, begun}
 use native.Mathlib.Omega.{arith}
 use borrow.Author.Needs.{needs}
 use Rattle.reference_safety.proofs.block.run_block.Statement.{statement}
@@ -57,14 +57,24 @@ element-copy-out-decode c = omega arith
 decode-requires : tie.Need-decode-requires Inv-loop μ-loop
 decode-requires c κs = search needs
 
+cast-t23 : tie.Need-cast-t23 Inv-loop μ-loop
+cast-t23 c =
+    let code-len = (c .before .before .before .before .before .before .before .code-len) in
+    let lesser = (c .before .before .before .before .before .lesser) in
+    let loop-test = (c .before .before .loop-test) in
+    omega (arith, loop-test .taken, code-len .ensures .0, lesser .ensures)
+
+at-offset-requires : tie.Need-at-offset-requires Inv-loop μ-loop
+at-offset-requires c κs = search needs
+
 execute-requires : tie.Need-execute-requires Inv-loop μ-loop
 execute-requires c κs = search needs
 
 add-k : tie.Need-add-k Inv-loop μ-loop
 add-k c =
-    let code-len = (c .before .before .before .before .before .before .before .before .before .before .before .before .before .before .before .before .code-len) in
-    let lesser = (c .before .before .before .before .before .before .before .before .before .before .before .before .before .before .lesser) in
-    let loop-test = (c .before .before .before .before .before .before .before .before .before .before .before .loop-test) in
+    let code-len = (c .before .before .before .before .before .before .before .before .before .before .before .before .before .before .before .before .before .code-len) in
+    let lesser = (c .before .before .before .before .before .before .before .before .before .before .before .before .before .before .before .lesser) in
+    let loop-test = (c .before .before .before .before .before .before .before .before .before .before .before .before .loop-test) in
     omega (arith, loop-test .taken, code-len .ensures .0, lesser .ensures)
 
 loop-less : tie.Need-loop-less Inv-loop μ-loop
@@ -72,38 +82,40 @@ loop-less c = omega arith
 
 loop-again : tie.Need-loop-again Inv-loop μ-loop
 loop-again c =
-    let code-len = (c .before .before .before .before .before .before .before .before .before .before .before .before .before .before .before .before .code-len) in
-    let lesser = (c .before .before .before .before .before .before .before .before .before .before .before .before .before .before .lesser) in
-    let loop = (c .before .before .before .before .before .before .before .before .before .before .before .before .loop) in
-    let loop-test = (c .before .before .before .before .before .before .before .before .before .before .before .loop-test) in
-    let decode = (c .before .before .before .before .before .before .before .before .before .decode) in
-    let a = (c .before .before .before .before .before .before .before .before .before .before .before .before .before .before .before .before .before .before .before .before .args) in
+    let code-len = (c .before .before .before .before .before .before .before .before .before .before .before .before .before .before .before .before .before .code-len) in
+    let lesser = (c .before .before .before .before .before .before .before .before .before .before .before .before .before .before .before .lesser) in
+    let loop = (c .before .before .before .before .before .before .before .before .before .before .before .before .before .loop) in
+    let loop-test = (c .before .before .before .before .before .before .before .before .before .before .before .before .loop-test) in
+    let decode = (c .before .before .before .before .before .before .before .before .before .before .decode) in
+    let a = (c .before .before .before .before .before .before .before .before .before .before .before .before .before .before .before .before .before .before .before .before .before .args) in
+    let at-offset = (c .before .before .before .before .before .before .before .before .before .at-offset) in
     let k = loop .k in
     turns (decodedAt (a .listing .now) (getD (a .code .now) k 0)) (decodedOf (decode .result))
     (next-instr (decodedAt (a .listing .now)) (a .code .now) (a .routine .«code_count») (lesser .result) k (loop-test .taken) (omega (arith, code-len .ensures .1, code-length (decodedAt (a .listing .now)) (a .code .now) (a .routine .«code_count»), code-len .ensures .0, lesser .ensures)))
-    (decode .ensures) ((c .before .before .before .before .execute) .ensures) (loop .inv) ((c .if1) .taken)
+    (decode .ensures) (at-step k _ (at-offset .ensures .1 _ _ _ _) ((c .before .before .before .before .execute) .ensures)) (loop .inv) ((c .if1) .taken)
 
-cast-t30 : tie.Need-cast-t30 Inv-loop μ-loop
-cast-t30 c =
-    let code-len = (c .before .before .before .before .before .before .before .before .before .before .before .before .before .before .before .before .code-len) in
-    let lesser = (c .before .before .before .before .before .before .before .before .before .before .before .before .before .before .lesser) in
-    let loop-test = (c .before .before .before .before .before .before .before .before .before .before .before .loop-test) in
+cast-t31 : tie.Need-cast-t31 Inv-loop μ-loop
+cast-t31 c =
+    let code-len = (c .before .before .before .before .before .before .before .before .before .before .before .before .before .before .before .before .before .code-len) in
+    let lesser = (c .before .before .before .before .before .before .before .before .before .before .before .before .before .before .before .lesser) in
+    let loop-test = (c .before .before .before .before .before .before .before .before .before .before .before .before .loop-test) in
     omega (arith, loop-test .taken, code-len .ensures .0, lesser .ensures)
 
 returns : tie.Need-returns Inv-loop μ-loop
 returns c =
-    let code-len = (c .before .before .before .before .before .before .before .before .before .before .before .before .before .before .before .before .code-len) in
-    let lesser = (c .before .before .before .before .before .before .before .before .before .before .before .before .before .before .lesser) in
-    let loop = (c .before .before .before .before .before .before .before .before .before .before .before .before .loop) in
-    let loop-test = (c .before .before .before .before .before .before .before .before .before .before .before .loop-test) in
-    let decode = (c .before .before .before .before .before .before .before .before .before .decode) in
-    let a = (c .before .before .before .before .before .before .before .before .before .before .before .before .before .before .before .before .before .before .before .before .args) in
-    let m = (c .before .before .before .before .before .before .before .before .before .before .before .before .before .before .before .before .before .before .begin) in
+    let code-len = (c .before .before .before .before .before .before .before .before .before .before .before .before .before .before .before .before .before .code-len) in
+    let lesser = (c .before .before .before .before .before .before .before .before .before .before .before .before .before .before .before .lesser) in
+    let loop = (c .before .before .before .before .before .before .before .before .before .before .before .before .before .loop) in
+    let loop-test = (c .before .before .before .before .before .before .before .before .before .before .before .before .loop-test) in
+    let decode = (c .before .before .before .before .before .before .before .before .before .before .decode) in
+    let a = (c .before .before .before .before .before .before .before .before .before .before .before .before .before .before .before .before .before .before .before .before .before .args) in
+    let m = (c .before .before .before .before .before .before .before .before .before .before .before .before .before .before .before .before .before .before .before .begin) in
+    let at-offset = (c .before .before .before .before .before .before .before .before .before .at-offset) in
     let k = loop .k in
     begun (routineOf (a .listing .now) (a .code .now) (a .routine)) (blockOf (a .b)) (a .locals .now) (a .names .now) (a .edges .now) (a .state) (m .result .state) (m .ensures .3) (m .ensures .4 (a .locals .now) (a .names .now) (a .edges .now))
     (stops (decodedAt (a .listing .now) (getD (a .code .now) k 0)) (decodedOf (decode .result))
     (next-instr (decodedAt (a .listing .now)) (a .code .now) (a .routine .«code_count») (lesser .result) k (loop-test .taken) (omega (arith, code-len .ensures .1, code-length (decodedAt (a .listing .now)) (a .code .now) (a .routine .«code_count»), code-len .ensures .0, lesser .ensures)))
-    (decode .ensures) ((c .before .before .before .before .execute) .ensures) (loop .inv) ((c .if1) .left))
+    (decode .ensures) (at-step k _ (at-offset .ensures .1 _ _ _ _) ((c .before .before .before .before .execute) .ensures)) (loop .inv) ((c .if1) .left))
 
 finish-requires : tie.Need-finish-requires Inv-loop μ-loop
 finish-requires c κs = (c .before .before .before .before .loop) .inv .goes
@@ -131,11 +143,13 @@ run-block-spec =
     mul-decode
     element-copy-out-decode
     decode-requires
+    cast-t23
+    at-offset-requires
     execute-requires
     add-k
     loop-less
     loop-again
-    cast-t30
+    cast-t31
     returns
     finish-requires
     returns-2)

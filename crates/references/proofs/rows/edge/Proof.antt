@@ -34,7 +34,7 @@ returns c =
     let len-of = (c .before .before .len-of) in
     let marks = (c .before .marks) in
     let r : List ℕ = ends .result ∷ marks .result ∷ (c .number-of) .result ∷ 0 ∷ 0 ∷ 0 ∷ 0 ∷ 0 ∷ 0 ∷ 0 ∷ [] in
-    row-made r _ _ (len-of .result) _ _ _ (ends .ensures .0) (ends .ensures .1) (marks .ensures) (omega (arith, len-of .ensures))
+    row-made r _ _ _ (len-of .result) _ _ _ (ends .ensures .0) (ends .ensures .1) (marks .ensures) (omega (arith, len-of .ensures))
     (path-one ((c .before .before .before .before .args) .path) r (len-of .result) ((c .number-of) .result) (len-of .ensures .0) ((c .number-of) .ensures .0) ((c .number-of) .ensures .1) refl)
 
 pub edge-spec : {M : Type 1} → statement M

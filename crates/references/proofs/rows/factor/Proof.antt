@@ -21,17 +21,30 @@ lesser-requires c κs = search needs
 child-requires : tie.Need-child-requires
 child-requires c κs = search needs
 
+offset-requires : tie.Need-offset-requires
+offset-requires c κs = search needs
+
 remade-requires : tie.Need-remade-requires
-remade-requires c κs = omega (arith, (c .before .lesser) .ensures, (c .before .before .labels) .ensures .0, path-length ((c .before .before .before .before .args) .y .now) (countIn ((c .before .before .before .before .args) .y .now)))
+remade-requires c κs =
+    let y = (c .before .before .before .before .before .args) .y .now in
+    omega (arith, (c .before .before .lesser) .ensures, (c .before .before .before .labels) .ensures .0, path-length y (countIn y))
 
 returns : tie.Need-returns
 returns c =
-    let a = (c .before .before .before .before .before .args) in
-    let lesser = (c .before .before .lesser) in
+    let a = (c .before .before .before .before .before .before .args) in
+    let lesser = (c .before .before .before .lesser) in
+    let labels = (c .before .before .before .before .labels) in
+    let len-of = (c .before .before .before .before .before .len-of) in
     let y = a .y .now in
-    let k : lesser .result ≡ min (length (pathAt (a .path))) (countIn y) = omega (arith, lesser .ensures, (c .before .before .before .before .len-of) .ensures, (c .before .before .before .labels) .ensures .0, path-length y (countIn y)) in
+    let k : lesser .result ≡ min (length (pathAt (a .path))) (countIn y) = omega (arith, lesser .ensures, len-of .ensures, labels .ensures .0, path-length y (countIn y)) in
     let p = ap (λ (j : ℕ). drop j (pathIn y (countIn y))) k ∙ drop-within y (length (pathAt (a .path))) (countIn y) in
-    (c .remade) .ensures .0 ∙ (λ i. record { parent = a .child .0; child = (c .before .child) .ensures i; blurred = false; edge = record { strong = rowOf y .edge .strong; path = p i } })
+    (c .remade) .ensures .0
+    ∙ (λ i. record {
+      parent = a .child .0;
+      child = (c .before .before .child) .ensures i;
+      blurred = false;
+      edge = record { strong = rowOf y .edge .strong; path = p i; offset = (c .before .offset) .ensures i };
+    })
 
 pub factor-spec : {M : Type 1} → statement M
 factor-spec =
@@ -41,5 +54,6 @@ factor-spec =
     labels-requires
     lesser-requires
     child-requires
+    offset-requires
     remade-requires
     returns)

@@ -46,8 +46,8 @@ returns c =
     let e : n ≡ countIn x = labels .ensures .0 ∙ path-length x _ in
     let z : n - a .k ≡ 0 + (n - a .k) = omega arith in
     let q : pathIn r (n - a .k) ≡ drop (a .k) (pathIn x (countIn x)) = ap (pathIn r) z ∙ copy-labels .ensures .0 ∙ ap (λ (l : List ℕ). l ++ drop (a .k) (pathIn x n)) (path-none (replicate 10 0)) ∙ ap (λ (m : ℕ). drop (a .k) (pathIn x m)) e in (
-      row-tagged r (ends .result) ((c .marks) .result) _ _ (n - a .k) _ _ _ (omega (arith, copy-labels .ensures .2)) (ends .ensures .0) (ends .ensures .1)
-          ((c .marks) .ensures ∙ ap (λ (s : Bool). bit (a .blurred) * 32 + bit s * 16 + (n - a .k)) ((c .before .is-strong) .ensures)) (omega (arith, labels .ensures .1)) q,
+      row-tagged r (ends .result) ((c .marks) .result) _ _ _ (n - a .k) _ _ _ (omega (arith, copy-labels .ensures .2)) (ends .ensures .0) (ends .ensures .1)
+          ((c .marks) .ensures ∙ ap (λ (s : Bool). a .loc .0 * 65536 + bit (a .blurred) * 32 + bit s * 16 + (n - a .k)) ((c .before .is-strong) .ensures)) (omega (arith, labels .ensures .1)) q,
       simp length-set
           (copy-labels .ensures .2),
     )

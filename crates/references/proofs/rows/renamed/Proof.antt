@@ -1,6 +1,4 @@
-use mathlib.Core.Path.{ap, _∙_}
-use mathlib.Core.Bool.{Bool}
-use Rattle.meaning.specs.BorrowGraph.{GEdge}
+use mathlib.Core.Path.{_∙_}
 use Rattle.references.specs.Models.{rowOf}
 use borrow.Author.Needs.{needs}
 use Rattle.references.proofs.rows.renamed.Statement.{statement}
@@ -9,11 +7,23 @@ use Rattle.references.proofs.rows.renamed.Tie as tie
 is-blurred-requires : tie.Need-is-blurred-requires
 is-blurred-requires c κs = search needs
 
+offset-requires : tie.Need-offset-requires
+offset-requires c κs = search needs
+
 remade-requires : tie.Need-remade-requires
 remade-requires c κs = search needs
 
 returns : tie.Need-returns
-returns c = (c .remade) .ensures .0 ∙ ap {B = GEdge} (λ (b : Bool). record { parent = (c .before .before .args) .parent .0; child = (c .before .before .args) .child .0; blurred = b; edge = rowOf ((c .before .before .args) .x .now) .edge }) ((c .before .is-blurred) .ensures)
+returns c =
+    let a = (c .before .before .before .args) in
+    let x = rowOf (a .x .now) in
+    (c .remade) .ensures .0
+    ∙ (λ i. record {
+      parent = a .parent .0;
+      child = a .child .0;
+      blurred = (c .before .before .is-blurred) .ensures i;
+      edge = record { strong = x .edge .strong; path = x .edge .path; offset = (c .before .offset) .ensures i };
+    })
 
 pub renamed-spec : {M : Type 1} → statement M
-renamed-spec = tie.close (tie.spec is-blurred-requires remade-requires returns)
+renamed-spec = tie.close (tie.spec is-blurred-requires offset-requires remade-requires returns)

@@ -1,4 +1,0 @@
-pub mod Today
-pub mod DroppedStep
-pub mod Dropped
-pub mod Theorems
