@@ -10,15 +10,16 @@ use native.Mathlib.Omega.{arith}
 use borrow.Author.Tests.{ne-eqb, le-ltb}
 use lib.Dec.{eqb, ltb}
 use lib.ListN.{length, getD, set}
-use Rattle.meaning.specs.Answers.{Ans, ok, refuse, guard, Outcome, done, violated, refused, then, lift, failsAt}
+use Rattle.meaning.specs.Answers.{Ans, ok, refuse, guard, Outcome, done, violated, refused, then, lift, needs, failsAt}
 use Rattle.meaning.specs.Laws.Base.{ok-inj, refuse≢ok}
-use Rattle.meaning.specs.BorrowGraph.{Graph, blursBy, Borrows, wellFormed, held, newName, borrowsFully, borrows, borrowsMutably, lowestOf, borrowedBy}
+use Rattle.meaning.specs.Laws.Lowest.{lowest-guard}
+use Rattle.meaning.specs.BorrowGraph.{Graph, GEdge, blursBy, Borrows, wellFormed, held, isMutable, newName, borrowsFully, borrows, borrowsMutably, lowestOf, borrowedBy}
 use Rattle.meaning.specs.BorrowGraph as L
 use Rattle.meaning.specs.AbstractState as S
 use Rattle.meaning.specs.AbstractState.{Operand, nonRef, reference}
 use Rattle.meaning.specs.Area.{localAs, localIn}
 use Rattle.meaning.specs.EntryPoints as R
-use Rattle.meaning.specs.EntryPoints.{Running, Answer, countOn, onGraph, newRef}
+use Rattle.meaning.specs.EntryPoints.{Running, Answer, countOn, onGraph, needsName, newRef}
 use Rattle.references.specs.Models.{told}
 use Rattle.borrow_graph.specs.Models.{lowIn}
 use Rattle.abstract_state.specs.Models.{Words, words, Fits, Does, Gives, runningOf, outcomeOf, halted, heeding, failing, needing, localsIn}
@@ -73,6 +74,15 @@ pub then-then : {A B C : Type 0} (o : Outcome A) (f : A → Outcome B) (g : B �
 then-then (done a) f g = refl
 then-then (violated k c o) f g = refl
 then-then (refused n) f g = refl
+
+pub under : {A B : Type 0} (o : Outcome A) (f g : A → Outcome B) → ((a : A) → f a ≡ g a) → then o f ≡ then o g
+under (done a) f g e = e a
+under (violated k c o) f g e = refl
+under (refused n) f g e = refl
+
+-- a state with something beside it
+pub beside : {A B C : Type 0} (j v o n : ℕ) (a : A) (f : A → B) (k : B → Outcome C) → then (halted j v o n (f a)) k ≡ then (halted j v o n a) (λ x. k (f x))
+beside {A} {B} {C} j v o n a f k = ap (λ (x : Outcome B). then x k) (halted-then j v o n a f) ∙ then-then (halted j v o n a) (λ x. done (f x)) k
 
 pub does-then : (f g : Running → Outcome Running) (a b c : Words) → Does f a b → Does g b c → Does (λ s. then (f s) g) a c
 does-then f g a b c p q = record {
@@ -222,6 +232,15 @@ module _ {A B C : Type 0} (g : Graph) (n : ℕ) where
       go true false e = absurd (refuse≢ok e)
       go false q e = refl
 
+-- only a mutable reference is barred: the code's answer, of two look-ups
+pub barred : (g : Graph) (n m k j : ℕ) (y : Bool) (w o : ℕ) (p : GEdge → Bool) → told m y ≡ L.ofName g n (isMutable g n)
+    → told k (lowIn w) ≡ L.ofName g n (lowestOf p (g .edges)) → (j ≡ k) × (lowIn o ≡ cond y (lowIn w) none)
+    → told j (lowIn o) ≡ L.ofName g n (lowestOf (λ x. isMutable g n && p x) (g .edges))
+barred g n m k j y w o p a b e =
+    (λ i. told (e .0 i) (e .1 i))
+    ∙ told-both g n m k y (isMutable g n) (lowIn w) (lowestOf p (g .edges)) (λ z l. cond z l none) a b
+    ∙ ap (L.ofName g n) (sym (lowest-guard (isMutable g n) p (g .edges)))
+
 -- one of the three answers of a look-up
 pub asked : (g : Graph) (n : ℕ) (at : Option ℕ) (m : ℕ) (b : Borrows) (f : Borrows → Option ℕ) → told m b ≡ borrowedBy g n at
     → told m (f b) ≡ L.ofName g n (f (record { full = lowestOf (borrowsFully n) (g .edges); consistent = lowestOf (borrows n at) (g .edges); mutable = lowestOf (borrowsMutably g n at) (g .edges) }))
@@ -323,3 +342,43 @@ pub relocated : (k v o n : ℕ) (r : Running) (i : ℕ) (x : S.Local) (l : List 
 relocated k v o n r i x l e =
     ap {B = Outcome Running} (λ (y : List S.Local). halted k v o n (record { locals = y; graph = r .graph; next = r .next; root = r .root; blurs = r .blurs; offset = r .offset })) e
     ∙ halted-then {B = Running} k v o n r (λ s. R.withLocal s i x)
+
+-- ---- what comes after a question, on the state that was asked
+
+pub heed-at : {A : Type 0} (g : Graph) (n : ℕ) (b : Bool) (r : Running) (k : Running → Outcome A) → then (heeding (L.ofName g n b) r) k ≡ needsName g n (k r)
+heed-at g n b r k = go (wellFormed g && held g n)
+  where
+    go : (x : Bool) → then (heeding (guard x 9 (ok b)) r) k ≡ needs x 9 (k r)
+    go true = refl
+    go false = refl
+
+-- a test on edges, whose lowest is l
+pub fail-at : {A : Type 0} (g : Graph) (n : ℕ) (l : Option ℕ) (r : Running) (k : Running → Outcome A) (c : ℕ) → eqb c 0 ≡ false
+    → then (failing (L.ofName g n l) c r) k ≡ needsName g n (failsAt (r .blurs) l c (k r))
+fail-at {A} g n l r k c z = go (wellFormed g && held g n) l
+  where
+    go : (x : Bool) (m : Option ℕ) → then (failing (guard x 9 (ok m)) c r) k ≡ needs x 9 (failsAt (r .blurs) m c (k r))
+    go true none = rw z refl
+    go true (some o) = rw z refl
+    go false m = refl
+
+pub known-then : {A B : Type 0} (g : Graph) (n : ℕ) (k : Outcome A) (f : A → Outcome B) → then (needsName g n k) f ≡ needsName g n (then k f)
+known-then g n k f = go (wellFormed g && held g n)
+  where
+    go : (x : Bool) → then (needs x 9 k) f ≡ needs x 9 (then k f)
+    go true = refl
+    go false = refl
+
+pub fails-then : {A B : Type 0} (j : ℕ) (l : Option ℕ) (c : ℕ) (k : Outcome A) (f : A → Outcome B) → then (failsAt j l c k) f ≡ failsAt j l c (then k f)
+fails-then j none c k f = refl
+fails-then j (some o) c k f = refl
+
+-- the name that the code foresees is the one that a new reference gets
+pub made : {A : Type 0} (m : Bool) (r : Running) (x : ℕ) (k : ℕ → Running → Outcome A) → x ≡ cond (ltb (r .next) 65536) (r .next) 0 → then (newRef m r) (k x) ≡ then (newRef m r) (k (r .next))
+unfolding newRef
+made {A} m r x k e = ap (λ (y : ℕ). then (newRef m r) (k y)) e ∙ go (ltb (r .next) 65536)
+  where
+    go : (b : Bool) → then (needs b 9 (then (lift (newName (r .graph) (r .next) m)) (λ g. done (record { locals = r .locals; graph = g; next = suc (r .next); root = r .root; blurs = r .blurs; offset = r .offset })))) (k (cond b (r .next) 0))
+        ≡ then (needs b 9 (then (lift (newName (r .graph) (r .next) m)) (λ g. done (record { locals = r .locals; graph = g; next = suc (r .next); root = r .root; blurs = r .blurs; offset = r .offset })))) (k (r .next))
+    go true = refl
+    go false = refl

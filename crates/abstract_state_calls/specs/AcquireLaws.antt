@@ -13,11 +13,11 @@ use Rattle.meaning.specs.Answers.{Outcome, done, failsAt, needs}
 use Rattle.meaning.specs.BorrowGraph.{GEdge, wellFormed, held, borrows, lowerOf, lowestOf}
 use Rattle.meaning.specs.BorrowGraph as L
 use Rattle.meaning.specs.AbstractState.{count1}
-use Rattle.meaning.specs.EntryPoints.{Running, putNumber, ascend, noneBorrowed, notAcquired}
-use Rattle.meaning.specs.Laws.Base.{decide, eqb-eq, eqb-self}
+use Rattle.meaning.specs.EntryPoints.{Running, ascend, noneBorrowed, notAcquired}
+use Rattle.meaning.specs.Laws.Base.{decide, eqb-self}
 use Rattle.meaning.specs.Laws.Own.{times, count-yes}
 use Rattle.meaning.specs.Laws.InTurn.{Sorted, ascend-sorted}
-use Rattle.meaning.specs.Laws.Tests.{isSome, lowest-some}
+use Rattle.meaning.specs.Laws.Tests.{isSome, lowest-some, gather-ascend}
 use Rattle.references.specs.Models.{told}
 use Rattle.borrow_graph.specs.Models.{lowIn}
 use Rattle.borrow_graph.specs.Folds.{lowerIf}
@@ -60,31 +60,22 @@ alone (some i) = i ∷ []
 
 module _ (r : Running) where
   -- order and repeats do not matter to which is the lowest
-  lowest-put : (n : ℕ) (ms : List ℕ) → lowestBorrowed r (putNumber n ms) ≡ lowerIf (isBorrowed r n) n (lowestBorrowed r ms)
-  unfolding putNumber lowestBorrowed
-  lowest-put n [] = refl
-  lowest-put n (m ∷ ms) =
-      decide (ltb n m)
-      (λ a. rw a refl)
-      (λ a. decide (eqb n m)
-      (λ b. let e : n ≡ m = eqb-eq b in rw (a, b, e) (again (isBorrowed r m) (lowestBorrowed r ms)))
-      (λ b. rw (a, b, lowest-put n ms) (swap (isBorrowed r m) (isBorrowed r n) (lowestBorrowed r ms))))
-    where
-      again : (b : Bool) (l : Option ℕ) → lowerIf b m l ≡ lowerIf b m (lowerIf b m l)
-      again false l = refl
-      again true none = let e : m ≡ min m m = omega arith in ap some e
-      again true (some a) = let e : min m a ≡ min m (min m a) = omega arith in ap some e
-
-      swap : (a b : Bool) (l : Option ℕ) → lowerIf a m (lowerIf b n l) ≡ lowerIf b n (lowerIf a m l)
-      swap false b l = refl
-      swap true false l = refl
-      swap true true none = let e : min m n ≡ min n m = omega arith in ap some e
-      swap true true (some a) = let e : min m (min n a) ≡ min n (min m a) = omega arith in ap some e
-
   lowest-ascend : (is : List ℕ) → lowestBorrowed r (ascend is) ≡ lowestBorrowed r is
-  unfolding ascend lowestBorrowed
-  lowest-ascend [] = refl
-  lowest-ascend (i ∷ is) = lowest-put i (ascend is) ∙ ap (λ (l : Option ℕ). lowerIf (isBorrowed r i) i l) (lowest-ascend is)
+  unfolding lowestBorrowed
+  lowest-ascend =
+      gather-ascend (lowestBorrowed r) (λ n l. lowerIf (isBorrowed r n) n l) (λ n ns. refl) (λ n. again n (isBorrowed r n))
+      (λ m n. swap m n (isBorrowed r m) (isBorrowed r n))
+    where
+      again : (n : ℕ) (b : Bool) (l : Option ℕ) → lowerIf b n (lowerIf b n l) ≡ lowerIf b n l
+      again n false l = refl
+      again n true none = let e : min n n ≡ n = omega arith in ap some e
+      again n true (some a) = let e : min n (min n a) ≡ min n a = omega arith in ap some e
+
+      swap : (m n : ℕ) (a b : Bool) (l : Option ℕ) → lowerIf a m (lowerIf b n l) ≡ lowerIf b n (lowerIf a m l)
+      swap m n false b l = refl
+      swap m n true false l = refl
+      swap m n true true none = let e : min m n ≡ min n m = omega arith in ap some e
+      swap m n true true (some a) = let e : min m (min n a) ≡ min n (min m a) = omega arith in ap some e
 
   -- a number below all others
   lower-all : (n : ℕ) (ns : List ℕ) → ((m : ℕ) → 1 ≤ times m ns → n < m) → lowerOf n (lowestBorrowed r ns) ≡ n

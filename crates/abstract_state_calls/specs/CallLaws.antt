@@ -1,5 +1,5 @@
 -- Call and Ret as the code makes them.
-use Prim.Native.Nat.{ℕ, suc, _+_}
+use Prim.Native.Nat.{ℕ, _+_}
 use mathlib.Core.Path.{_≡_, refl, sym, ap, _∙_}
 use mathlib.Core.Bool.{Bool, true, false, _&&_, cond}
 use mathlib.Core.List.{List, [], _∷_, _++_, append-assoc, append-nil}
@@ -10,31 +10,21 @@ use Rattle.meaning.specs.Limits.{GLOBAL-REFERENCE, CALL-BORROWED-MUTABLE-REFERE
 use Rattle.meaning.specs.Lists.{keep}
 use Rattle.meaning.specs.Laws.Base.{and-l}
 use Rattle.meaning.specs.Labels.{globalLabel}
-use Rattle.meaning.specs.BorrowGraph.{wellFormed, held, isMutable, borrows, lowestOf, newName}
+use Rattle.meaning.specs.BorrowGraph.{wellFormed, held, isMutable, borrows, lowestOf}
 use Rattle.meaning.specs.BorrowGraph as L
-use Rattle.meaning.specs.Answers.{Outcome, done, violated, refused, then, lift, failsAt, needs}
+use Rattle.meaning.specs.Answers.{Outcome, done, violated, refused, then, failsAt, needs}
 use Rattle.meaning.specs.EntryPoints.{needsName, fails, Running, Answer, Answers, answer, barsHandingOver, newRef, operandNames, localNames, ascend, releaseAll, borrowFrom, handOver, noneBorrowed, notAcquired, parentsOf, returnValues, call, ret}
 use Rattle.meaning.specs.AbstractState.{Token, ofValue, ofRef, Operand, nonRef, reference}
 use Rattle.abstract_state.specs.Models.{Words, Fits, Does, Gives, operandOf, halted, failing, runningOf, outcomeOf}
-use Rattle.abstract_state.specs.ModelLaws.{here, halted-then, then-done, then-then}
+use Rattle.abstract_state.specs.ModelLaws.{here, halted-then, then-done, then-then, under, beside, known-then, fails-then, made}
 use Rattle.abstract_state_calls.specs.Models.{Calls, answersOf, acquiring, handing, framed, knownMutable}
 use Rattle.abstract_state_calls.specs.IdLaws.{mutable-known}
-use Rattle.abstract_state_calls.specs.LoopLaws.{under, beside, failing-at, fails-then, known-then, known-fails-then, each-turn, each-done}
+use Rattle.abstract_state_calls.specs.LoopLaws.{failing-at, known-fails-then, each-turn, each-done}
 
--- ---- calls in a row, and the name that a new reference gets
+-- ---- calls in a row
 
 link : {A B C : Type 0} (h : Outcome A) (o : Outcome B) (p : Outcome C) (f : A → Outcome B) (g : B → Outcome C) → o ≡ then h f → p ≡ then o g → p ≡ then h (λ s. then (f s) g)
 link {A} {B} {C} h o p f g d e = e ∙ ap (λ (x : Outcome B). then x g) d ∙ then-then h f g
-
--- the name that the code foresees is the one that a new reference gets
-made : {A : Type 0} (m : Bool) (r : Running) (x : ℕ) (k : ℕ → Running → Outcome A) → x ≡ cond (ltb (r .next) 65536) (r .next) 0 → then (newRef m r) (k x) ≡ then (newRef m r) (k (r .next))
-unfolding newRef
-made {A} m r x k e = ap (λ (y : ℕ). then (newRef m r) (k y)) e ∙ go (ltb (r .next) 65536)
-  where
-    go : (b : Bool) → then (needs b 9 (then (lift (newName (r .graph) (r .next) m)) (λ g. done (record { locals = r .locals; graph = g; next = suc (r .next); root = r .root; blurs = r .blurs; offset = r .offset })))) (k (cond b (r .next) 0))
-        ≡ then (needs b 9 (then (lift (newName (r .graph) (r .next) m)) (λ g. done (record { locals = r .locals; graph = g; next = suc (r .next); root = r .root; blurs = r .blurs; offset = r .offset })))) (k (r .next))
-    go true = refl
-    go false = refl
 
 -- ---- the steps of each loop
 

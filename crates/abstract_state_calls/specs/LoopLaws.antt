@@ -1,54 +1,26 @@
 -- Calls in a row, each on the state that the last one left.
 use Prim.Native.Nat.{ℕ, _+_}
 use mathlib.Core.Path.{_≡_, refl, sym, ap, _∙_}
-use mathlib.Core.Bool.{Bool, true, false, _&&_}
+use mathlib.Core.Bool.{Bool, false}
 use mathlib.Core.List.{List, [], _∷_}
-use mathlib.Core.Option.{Option, none, some}
+use mathlib.Core.Option.{Option}
 use lib.Dec.{eqb}
 use lib.ListN.{drop}
-use Rattle.meaning.specs.Answers.{ok, guard, Outcome, done, violated, refused, then, failsAt, needs}
-use Rattle.meaning.specs.BorrowGraph.{Graph, wellFormed, held}
+use Rattle.meaning.specs.Answers.{Outcome, done, then, failsAt}
+use Rattle.meaning.specs.BorrowGraph.{Graph}
 use Rattle.meaning.specs.BorrowGraph as L
 use Rattle.meaning.specs.EntryPoints.{needsName, Running}
-use Rattle.abstract_state.specs.Models.{Words, Fits, Does, outcomeOf, halted, heeding, failing}
-use Rattle.abstract_state.specs.ModelLaws.{halted-then, then-then}
-
-pub under : {A B : Type 0} (o : Outcome A) (f g : A → Outcome B) → ((a : A) → f a ≡ g a) → then o f ≡ then o g
-under (done a) f g h = h a
-under (violated k c o) f g h = refl
-under (refused n) f g h = refl
-
--- a state with something beside it
-pub beside : {A B C : Type 0} (j v o n : ℕ) (a : A) (f : A → B) (k : B → Outcome C) → then (halted j v o n (f a)) k ≡ then (halted j v o n a) (λ x. k (f x))
-beside {A} {B} {C} j v o n a f k = ap (λ (x : Outcome B). then x k) (halted-then j v o n a f) ∙ then-then (halted j v o n a) (λ x. done (f x)) k
+use Rattle.abstract_state.specs.Models.{Words, Fits, Does, outcomeOf, heeding, failing}
+use Rattle.abstract_state.specs.ModelLaws.{then-then, then-done, under, heed-at, fail-at, known-then, fails-then}
 
 -- ---- questions of a name
 
 module _ (g : Graph) (n : ℕ) (r : Running) where
   pub heeding-at : (b : Bool) → heeding (L.ofName g n b) r ≡ needsName g n (done r)
-  heeding-at b = go (wellFormed g && held g n)
-    where
-      go : (x : Bool) → heeding (guard x 9 (ok b)) r ≡ needs x 9 (done r)
-      go true = refl
-      go false = refl
+  heeding-at b = then-done (heeding (L.ofName g n b) r) ∙ heed-at g n b r done
 
   pub failing-at : (l : Option ℕ) (c : ℕ) → eqb c 0 ≡ false → failing (L.ofName g n l) c r ≡ needsName g n (failsAt (r .blurs) l c (done r))
-  failing-at l c z = go (wellFormed g && held g n)
-    where
-      go : (x : Bool) → failing (guard x 9 (ok l)) c r ≡ needs x 9 (failsAt (r .blurs) l c (done r))
-      go true = rw z refl
-      go false = refl
-
-pub fails-then : {A B : Type 0} (j : ℕ) (l : Option ℕ) (c : ℕ) (o : Outcome A) (k : A → Outcome B) → then (failsAt j l c o) k ≡ failsAt j l c (then o k)
-fails-then j none c o k = refl
-fails-then j (some a) c o k = refl
-
-pub known-then : {A B : Type 0} (g : Graph) (n : ℕ) (o : Outcome A) (k : A → Outcome B) → then (needsName g n o) k ≡ needsName g n (then o k)
-known-then {A} {B} g n o k = go (wellFormed g && held g n)
-  where
-    go : (x : Bool) → then (needs x 9 o) k ≡ needs x 9 (then o k)
-    go true = refl
-    go false = refl
+  failing-at l c z = then-done (failing (L.ofName g n l) c r) ∙ fail-at g n l r done c z
 
 pub known-fails-then : {A B : Type 0} (g : Graph) (n j : ℕ) (l : Option ℕ) (c : ℕ) (o : Outcome A) (k : A → Outcome B) → then (needsName g n (failsAt j l c o)) k ≡ needsName g n (failsAt j l c (then o k))
 known-fails-then {A} {B} g n j l c o k = known-then g n (failsAt j l c o) k ∙ ap (λ (x : Outcome B). needsName g n x) (fails-then j l c o k)

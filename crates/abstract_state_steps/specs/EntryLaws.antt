@@ -1,14 +1,14 @@
 -- The entry points as the code makes them: one call after the other, each on the state that the last one left.
-use Prim.Native.Nat.{ℕ, suc}
+use Prim.Native.Nat.{ℕ}
 use mathlib.Core.Path.{_≡_, refl, sym, ap, _∙_}
 use mathlib.Core.Bool.{Bool, true, false, _&&_, cond}
 use mathlib.Core.Option.{Option, none, some}
 use lib.Dec.{eqb, ltb}
 use lib.ListN.{getD}
-use Rattle.meaning.specs.Answers.{Ans, ok, refuse, guard, Outcome, done, refused, then, lift, failsAt, needs}
+use Rattle.meaning.specs.Answers.{Ans, ok, refuse, guard, Outcome, done, refused, then, failsAt, needs}
 use Rattle.meaning.specs.Laws.Base.{ok-inj, refuse≢ok}
 use Rattle.meaning.specs.Labels.{localLabel, globalLabel}
-use Rattle.meaning.specs.BorrowGraph.{Graph, GEdge, wellFormed, held, isMutable, borrows, borrowsMutably, lowestOf, newName}
+use Rattle.meaning.specs.BorrowGraph.{Graph, GEdge, wellFormed, held, isMutable, borrows, borrowsMutably, lowestOf}
 use Rattle.meaning.specs.BorrowGraph as L
 use Rattle.meaning.specs.AbstractState.{Local, absent, value, ref, Operand, nonRef, reference, ofRef}
 use Rattle.meaning.specs.EntryPoints.{needsName, Running, Answer, answer, withLocal, fails, barsReading, barsLocalBorrow, barsFieldBorrow, barsResourceBorrow, newRef, addCopy, addBorrow, addFieldBorrow}
@@ -20,18 +20,11 @@ use Rattle.abstract_state.specs.Models as M
 use Rattle.abstract_state.specs.Models.{heeding, failing, needing, operandOf}
 use Rattle.abstract_state.specs.declared.state.AbstractValue.{AbstractValue}
 use Rattle.abstract_state.specs.declared.state.Local as D
-use Rattle.abstract_state.specs.ModelLaws.{then-done}
+use Rattle.abstract_state.specs.ModelLaws.{then-done, under, heed-at, fail-at, known-then, fails-then, made}
 
 -- ---- questions of a name, on the state that was asked
 
 module _ {A : Type 0} (g : Graph) (n : ℕ) (b : Bool) (r : Running) (k : Running → Outcome A) where
-  pub heed-at : then (heeding (L.ofName g n b) r) k ≡ needsName g n (k r)
-  heed-at = go (wellFormed g && held g n)
-    where
-      go : (x : Bool) → then (heeding (guard x 9 (ok b)) r) k ≡ needs x 9 (k r)
-      go true = refl
-      go false = refl
-
   pub need-at : (c : ℕ) → eqb c 0 ≡ false → then (needing (L.ofName g n b) c r) k ≡ needsName g n (needs b c (k r))
   need-at c z = go (wellFormed g && held g n) b
     where
@@ -39,16 +32,6 @@ module _ {A : Type 0} (g : Graph) (n : ℕ) (b : Bool) (r : Running) (k : Runnin
       go true true = refl
       go true false = rw z refl
       go false y = refl
-
--- a test on edges, whose lowest is l
-pub fail-at : {A : Type 0} (g : Graph) (n : ℕ) (l : Option ℕ) (r : Running) (k : Running → Outcome A) (c : ℕ) → eqb c 0 ≡ false
-    → then (failing (L.ofName g n l) c r) k ≡ needsName g n (failsAt (r .blurs) l c (k r))
-fail-at {A} g n l r k c z = go (wellFormed g && held g n) l
-  where
-    go : (x : Bool) (m : Option ℕ) → then (failing (guard x 9 (ok m)) c r) k ≡ needs x 9 (failsAt (r .blurs) m c (k r))
-    go true none = rw z refl
-    go true (some o) = rw z refl
-    go false m = refl
 
 abbrev number : {A : Type 0} → Ans A → ℕ
 number (ok a) = 0
@@ -76,17 +59,6 @@ module _ {A : Type 0} (g : Graph) (n : ℕ) where
   pub known-under : (k l : Outcome A) → k ≡ l → needsName g n k ≡ needsName g n l
   known-under k l e = ap (λ (o : Outcome A). needsName g n o) e
 
-  pub known-then : {B : Type 0} (k : Outcome A) (f : A → Outcome B) → then (needsName g n k) f ≡ needsName g n (then k f)
-  known-then k f = go (wellFormed g && held g n)
-    where
-      go : (x : Bool) → then (needs x 9 k) f ≡ needs x 9 (then k f)
-      go true = refl
-      go false = refl
-
-pub fails-then : {A B : Type 0} (j : ℕ) (l : Option ℕ) (c : ℕ) (k : Outcome A) (f : A → Outcome B) → then (failsAt j l c k) f ≡ failsAt j l c (then k f)
-fails-then j none c k f = refl
-fails-then j (some o) c k f = refl
-
 pub vector-then : {A B : Type 0} (m : Bool) (r : Running) (n c : ℕ) (k : Outcome A) (f : A → Outcome B) → then (vectorTest m r n c k) f ≡ vectorTest m r n c (then k f)
 vector-then {A} {B} true r n c k f = go (isMutable (r .graph) n) (lowestOf (borrows n none) (r .graph .edges))
   where
@@ -102,16 +74,6 @@ pub needs-under : {A : Type 0} (b : Bool) (c : ℕ) (k l : Outcome A) → k ≡ 
 needs-under {A} b c k l e = ap (λ (o : Outcome A). needs b c o) e
 
 -- ---- a new name, and what is done with it
-
--- the name that the code foresees is the one that a new reference gets
-pub made : {A : Type 0} (m : Bool) (r : Running) (x : ℕ) (k : ℕ → Running → Outcome A) → x ≡ cond (ltb (r .next) 65536) (r .next) 0 → then (newRef m r) (k x) ≡ then (newRef m r) (k (r .next))
-unfolding newRef
-made {A} m r x k e = ap (λ (y : ℕ). then (newRef m r) (k y)) e ∙ go (ltb (r .next) 65536)
-  where
-    go : (b : Bool) → then (needs b 9 (then (lift (newName (r .graph) (r .next) m)) (λ g. done (record { locals = r .locals; graph = g; next = suc (r .next); root = r .root; blurs = r .blurs; offset = r .offset })))) (k (cond b (r .next) 0))
-        ≡ then (needs b 9 (then (lift (newName (r .graph) (r .next) m)) (λ g. done (record { locals = r .locals; graph = g; next = suc (r .next); root = r .root; blurs = r .blurs; offset = r .offset })))) (k (r .next))
-    go true = refl
-    go false = refl
 
 -- a new reference x borrows as `f` says, and is the answer
 abbrev pub lend : (ℕ → Running → Outcome Running) → ℕ → Running → Outcome Answer
@@ -265,12 +227,8 @@ module _ (r : Running) where
   pub vector-mutable : (k c : ℕ) (t : Ans Bool) (u : Ans (Option ℕ)) → eqb c 0 ≡ false → t ≡ L.ofName (r .graph) k (isMutable (r .graph) k)
       → u ≡ L.ofName (r .graph) k (lowestOf (borrows k none) (r .graph .edges))
       → then (needing t 13 r) (failing u c) ≡ needsName (r .graph) k (vectorTest true r k c (done r))
-  vector-mutable k c t u z e h = under (needing t 13 r) ∙ writable-then k c t u done z e h
-    where
-      under : (o : Outcome Running) → then o (failing u c) ≡ then o (λ s. then (failing u c s) done)
-      under (done s) = then-done (failing u c s)
-      under (Outcome.violated j n o) = refl
-      under (refused n) = refl
+  vector-mutable k c t u z e h =
+      under (needing t 13 r) (failing u c) (λ s. then (failing u c s) done) (λ s. then-done (failing u c s)) ∙ writable-then k c t u done z e h
 
   pub heed-alone : (k : ℕ) (b : Bool) (t : Ans Bool) → t ≡ L.ofName (r .graph) k b → heeding t r ≡ needsName (r .graph) k (done r)
   heed-alone k b t e = rw e (then-done (heeding (L.ofName (r .graph) k b) r) ∙ heed-at (r .graph) k b r done)

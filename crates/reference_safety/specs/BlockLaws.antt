@@ -16,7 +16,7 @@ use Rattle.meaning.specs.Steps.{Instr, Machine, stepOn, step}
 use Rattle.meaning.specs.Loop.{Result, Block}
 use Rattle.meaning.specs.Blocks.{Routine, instrsOf, startWith, startMachine, renamedEnd, finish, settle, runFrom, runBlock, machineAt}
 use Rattle.borrow_graph.specs.Models.{Tells}
-use Rattle.abstract_state.specs.ModelLaws.{then-then, goes}
+use Rattle.abstract_state.specs.ModelLaws.{then-done, then-then, goes}
 use Rattle.abstract_state.specs.Models.{Words, words, Fits, halted, runningOf, stateOf}
 use Rattle.abstract_state.specs.declared.state.AbstractState.{AbstractState}
 use Rattle.listing.specs.Models.{withParts, decodedOf}
@@ -46,12 +46,7 @@ going v n e f = ap (λ (x : ℕ). eqb x 0 && eqb n 0) e ∙ ap (λ (x : ℕ). eq
 
 -- a state without a number goes on
 pub not-halted : {A : Type 0} (k v o n : ℕ) (a : A) → (eqb v 0 && eqb n 0) ≡ true → halted k v o n a ≡ done a
-not-halted {A} k v o n a e = go (eqb v 0) (eqb n 0) e
-  where
-    go : (x y : Bool) → (x && y) ≡ true → cond x (cond y (done a) (refused n)) (violated k v o) ≡ done a
-    go true true z = refl
-    go true false z = absurd (true≢false (sym z))
-    go false y z = absurd (true≢false (sym z))
+not-halted k v o n a e = then-done (halted k v o n a) ∙ sym (goes k v o n a done e)
 
 module _ {A : Type 0} where
   take-min : (xs : List A) (m : ℕ) → take (min (length xs) m) xs ≡ take m xs

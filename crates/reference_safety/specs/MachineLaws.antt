@@ -10,7 +10,7 @@ use Rattle.meaning.specs.AbstractState.{Operand, nonRef, Token}
 use Rattle.meaning.specs.EntryPoints.{Running, Answer, Answers, valueFor}
 use Rattle.meaning.specs.Steps.{Machine, pop, popRef, popValues, popMany, push, pushed, pushAll, pushNew, unchanged}
 use Rattle.abstract_state.specs.Models.{Words, Fits, Does, Gives, halted, outcomeOf, runningOf, operandOf, operandsOf}
-use Rattle.abstract_state.specs.ModelLaws.{then-then, stays, halted-then}
+use Rattle.abstract_state.specs.ModelLaws.{then-then, stays, halted-then, under, beside}
 use Rattle.operand_stack.specs.declared.Popped.{Popped}
 use Rattle.operand_stack.specs.declared.PoppedRef.{PoppedRef}
 use Rattle.operand_stack.specs.declared.PoppedMany.{PoppedMany}
@@ -21,19 +21,9 @@ use Rattle.reference_safety.specs.Models.{with, Board, Ready, Steps, Run
 
 -- ---- states that stop
 
-pub under : {A B : Type 0} (h : Outcome A) (f g : A → Outcome B) → ((a : A) → f a ≡ g a) → then h f ≡ then h g
-under (done a) f g e = e a
-under (violated k c o) f g e = refl
-under (refused n) f g e = refl
-
 -- a machine, and its parts
 pub apart : (k v o n : ℕ) (r : Running) (vs : List Operand) (f : List Operand → Running → Outcome Machine) → then (halted k v o n r) (f vs) ≡ then (halted k v o n (with vs r)) (λ m. f (m .stack) (m .state))
-apart k v o n r vs f = go (eqb v 0) (eqb n 0)
-  where
-    go : (a b : Bool) → then (cond a (cond b (done r) (refused n)) (violated k v o)) (f vs) ≡ then (cond a (cond b (done (with vs r)) (refused n)) (violated k v o)) (λ m. f (m .stack) (m .state))
-    go true true = refl
-    go true false = refl
-    go false b = refl
+apart k v o n r vs f = sym (beside k v o n r (with vs) (λ m. f (m .stack) (m .state)))
 
 -- ---- an answer of the stack, with its refusal k, which stops the state; then what is done with it
 
@@ -114,16 +104,13 @@ module _ {a b : Words} where
     ready = λ h l. q .ready (p h) l;
     runs = λ h l.
         q .runs (p h) l
-        ∙ go (eqb (b .state .violation) 0) (eqb (b .state .refusal) 0)
-        ∙ ap (λ (o : Outcome Answers). then o (λ x. pushAll vs (x .operands) (x .state))) (e h)
-        ∙ then-then (outcomeOf a) f (λ x. pushAll vs (x .operands) (x .state));
+        ∙ sym (beside (b .state .blurred) (b .state .violation) (b .state .«borrowed_at» .0) (b .state .refusal) (runningOf b) (λ s. record { state = s; operands = us }) push)
+        ∙ ap (λ (o : Outcome Answers). then o push) (e h)
+        ∙ then-then (outcomeOf a) f push;
   }
     where
-      go : (x y : Bool) → then (cond x (cond y (done (runningOf b)) (refused (b .state .refusal))) (violated (b .state .blurred) (b .state .violation) (b .state .«borrowed_at» .0))) (pushAll vs us)
-          ≡ then {A = Answers} (cond x (cond y (done (record { state = runningOf b; operands = us })) (refused (b .state .refusal))) (violated (b .state .blurred) (b .state .violation) (b .state .«borrowed_at» .0))) (λ z. pushAll vs (z .operands) (z .state))
-      go true true = refl
-      go true false = refl
-      go false y = refl
+      push : Answers → Outcome Machine
+      push x = pushAll vs (x .operands) (x .state)
 
 -- ---- pushes
 

@@ -32,12 +32,15 @@ borrowedWord (refusal number place) = 0 ∷ []
 abbrev pub wordsOf : Answered → List ℕ
 wordsOf a = rulingWords (a .verdict) (a .visits) ++ blurredWords (a .blurred) ++ borrowedWord (a .verdict)
 
--- whether there is room for the seven words
+abbrev pub answerWords : ℕ
+answerWords = 7
+
+-- whether there is room for them
 abbrev pub fits : List ℕ → Bool
-fits ws = leb 7 (length ws)
+fits ws = leb answerWords (length ws)
 
 abbrev pub putWords : List ℕ → List ℕ → List ℕ
-putWords xs ws = xs ++ drop 7 ws
+putWords xs ws = xs ++ drop answerWords ws
 
 -- the answer's words after the call, and the area's: without room nothing is written
 abbrev pub written : Answered → List ℕ → List ℕ

@@ -10,7 +10,7 @@ ghost use lib.ListN.{length};
 ghost use Rattle.meaning.specs.Laws.Answer.{Low};
 ghost use Rattle.meaning.specs.Verify as Whole;
 ghost use Rattle.absint.specs.Models.{rulingOf, verdictOf};
-ghost use Rattle.reference_safety_lib.specs.Words.{fits, written, areaAfter, putWords, wordsOf};
+ghost use Rattle.reference_safety_lib.specs.Words.{answerWords, fits, written, areaAfter, putWords, wordsOf};
 ghost use Rattle.reference_safety_lib.specs.Models.{wordsIn};
 
 pub(crate) const ANSWER_WORDS: usize = 7;
@@ -86,7 +86,7 @@ pub(crate) fn verdict_words(v: Verdict) -> Words
 }
 
 pub(crate) fn put_words(w: Words, answer: &mut [u32])
-    requires { ⌜ 7 ≤ length (now answer) ⌝ }
+    requires { ⌜ answerWords ≤ length (now answer) ⌝ }
     ensures { λ _. ⌜ now (answer .exit) ≡ putWords (wordsIn w) (now (answer .entry)) ⌝ }
 {
     answer[0] = w.kind;

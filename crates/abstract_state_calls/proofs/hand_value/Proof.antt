@@ -1,18 +1,15 @@
-use mathlib.Core.Path.{sym, ap, _∙_}
-use mathlib.Core.Bool.{cond}
+use mathlib.Core.Path.{ap, _∙_}
 use mathlib.Core.List.{[], _∷_}
 use mathlib.Core.Option.{Option, none}
 use Prim.Native.Nat.{ℕ}
 use borrow.Author.Tests.{ne-eqb}
 use Rattle.meaning.specs.Answers.{Ans}
 use Rattle.meaning.specs.AbstractState.{reference}
-use Rattle.meaning.specs.BorrowGraph.{ofName, isMutable, borrows, lowestOf}
+use Rattle.meaning.specs.BorrowGraph.{borrows}
 use Rattle.meaning.specs.EntryPoints.{handOver}
-use Rattle.meaning.specs.Laws.Lowest.{lowest-guard}
-use Rattle.references.specs.Models.{told}
-use Rattle.borrow_graph.specs.Models.{graphIn, lowIn, lowOf}
+use Rattle.borrow_graph.specs.Models.{graphIn, lowOf}
 use Rattle.abstract_state.specs.Models.{words, runningOf, failing}
-use Rattle.abstract_state.specs.ModelLaws.{does-as, does-nothing, told-both}
+use Rattle.abstract_state.specs.ModelLaws.{does-as, does-nothing, barred}
 use Rattle.abstract_state_calls.specs.Models.{handing}
 use Rattle.abstract_state_calls.specs.CallLaws.{hand-one}
 use borrow.Author.Needs.{needs}
@@ -51,10 +48,8 @@ returns c =
     rw (v .given .1)
     (does-as (failing (lowOf (o .result)) (a .code)) (handing (a .code) (reference n ∷ [])) w _
     (λ h. ap (λ (t : Ans (Option ℕ)). failing t (a .code) (runningOf w))
-    ((λ i. told (o .ensures .0 i) (o .ensures .1 i))
-    ∙ told-both g n (m .result .refusal) (b .result .refusal) (m .result .yes) (isMutable g n) (lowIn (b .result .offset)) (lowestOf (borrows n none) (g .edges)) (λ y l. cond y l none)
-    (m .ensures ls _ h) (b .ensures ls h)
-    ∙ ap (ofName g n) (sym (lowest-guard (isMutable g n) (borrows n none) (g .edges))))
+    (barred g n (m .result .refusal) (b .result .refusal) (o .result .refusal) (m .result .yes) (b .result .offset) (o .result .offset)
+    (borrows n none) (m .ensures ls _ h) (b .ensures ls h) (o .ensures))
     ∙ hand-one n (a .code) (runningOf w) (ne-eqb _ _ (start .pre)))
     ((c .violate-if) .ensures ls _ _))
 

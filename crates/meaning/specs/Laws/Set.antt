@@ -67,7 +67,7 @@ weakest-covers o e = or-r (eqEdge (weakest o) e) refl
 
 -- ---- put
 
-or-swap : (a b c : Bool) → a || (b || c) ≡ b || (a || c)
+pub or-swap : (a b c : Bool) → a || (b || c) ≡ b || (a || c)
 or-swap true true c = refl
 or-swap true false c = refl
 or-swap false true c = refl

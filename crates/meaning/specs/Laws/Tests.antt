@@ -14,6 +14,7 @@ use Rattle.meaning.specs.Labels.{localLabel, globalLabel, fieldLabel}
 use Rattle.meaning.specs.BorrowGraph.{Graph, GEdge, isMutable, meetsLabel, emptyPath, borrowsFully, borrows, borrowsMutably, lowerOf, lowestOf}
 use Rattle.meaning.specs.EntryPoints.{Running, fails, barsReading, barsHandingOver, barsLocalBorrow, barsFieldBorrow, barsResourceBorrow, putNumber, ascend, noneBorrowed}
 use Rattle.meaning.specs.Laws.Base.{decide, and-i, or-l, or-r, or-none, not-false, eqb-eq, leb-le, le-leb, leb-gt, all-imp}
+use Rattle.meaning.specs.Laws.Set.{or-swap}
 
 -- ---- the lowest offset among the edges that pass
 
@@ -36,9 +37,6 @@ abbrev pub Found : (GEdge → Bool) → List GEdge → Option ℕ → Type 0
 Found p es none = any p es ≡ false
 Found p es (some o) = Lowest p es o
 
-not-above : (a b : ℕ) → a ≤ b → leb a b ≡ true
-not-above a b h = le-leb h
-
 module _ (p : GEdge → Bool) where
   -- no edge passes, so every edge is fine
   vacant : (o : ℕ) (es : List GEdge) → any p es ≡ false → all (λ y. not (p y) || leb o (y .edge .offset)) es ≡ true
@@ -52,7 +50,7 @@ module _ (p : GEdge → Bool) where
     where
       step : (b : Bool) (n : ℕ) → b || leb a n ≡ true → b || leb o n ≡ true
       step true n e = refl
-      step false n e = let k : a ≤ n = leb-le e in not-above o n (omega arith)
+      step false n e = let k : a ≤ n = leb-le e in le-leb {m = o} {n = n} (omega arith)
 
   -- the search, of one more edge
   more-found : (x : GEdge) (xs : List GEdge) (m : Option ℕ) → Found p xs m → (b : Bool) → p x ≡ b
@@ -70,7 +68,7 @@ module _ (p : GEdge → Bool) where
       }
   more-found x xs none h true e =
       let o : ℕ = x .edge .offset in
-      let least = and-i (or-r (not (p x)) (not-above o o (omega arith))) (vacant o xs h) in
+      let least = and-i (or-r (not (p x)) (le-leb {m = o} {n = o} (omega arith))) (vacant o xs h) in
       record { before = []; edge = x; after = xs; among = refl; passes = e; its = refl; least = least }
   more-found x xs (some a) h true e =
       decide (leb (x .edge .offset) a)
@@ -90,7 +88,7 @@ module _ (p : GEdge → Bool) where
       least : all (λ y. not (p y) || leb (min (x .edge .offset) a) (y .edge .offset)) (x ∷ xs) ≡ true
       least =
           let o : ℕ = min (x .edge .offset) a in
-          and-i (or-r (not (p x)) (not-above o (x .edge .offset) (omega arith))) (further o a xs (omega arith) (h .least))
+          and-i (or-r (not (p x)) (le-leb {m = o} {n = x .edge .offset} (omega arith))) (further o a xs (omega arith) (h .least))
 
   pub lowest-found : (es : List GEdge) → Found p es (lowestOf p es)
   unfolding lowestOf
@@ -228,30 +226,30 @@ tests-stay g n = record {
 
 -- ---- the resources of a call
 
--- "ascending" and "repeats allowed": the order and the repeats do not matter to whether some number passes
-any-put : (p : ℕ → Bool) (n : ℕ) (ms : List ℕ) → any p (putNumber n ms) ≡ p n || any p ms
-unfolding putNumber
-any-put p n [] = refl
-any-put p n (m ∷ ms) =
-    decide (ltb n m)
-    (λ a. rw a)
-    (λ a. decide (eqb n m)
-    (λ b. let e : n ≡ m = eqb-eq b in rw (a, b, e) (same (p m) (any p ms)))
-    (λ b. rw (a, b, any-put p n ms) (swap (p m) (p n) (any p ms))))
-  where
-    same : (a b : Bool) → a || b ≡ a || (a || b)
-    same true b = refl
-    same false b = refl
+-- "ascending" and "repeats allowed": what h gathers number by number, by f, is the same where neither order nor repeats matter to f
+module _ {B : Type 0} (h : List ℕ → B) (f : ℕ → B → B) (on : (n : ℕ) (ns : List ℕ) → h (n ∷ ns) ≡ f n (h ns))
+    (again : (n : ℕ) (b : B) → f n (f n b) ≡ f n b) (swap : (m n : ℕ) (b : B) → f m (f n b) ≡ f n (f m b)) where
+  gather-put : (n : ℕ) (ms : List ℕ) → h (putNumber n ms) ≡ f n (h ms)
+  unfolding putNumber
+  gather-put n [] = on n []
+  gather-put n (m ∷ ms) =
+      decide (ltb n m)
+      (λ a. rw a (on n (m ∷ ms)))
+      (λ a. decide (eqb n m)
+      (λ b. let e : n ≡ m = eqb-eq b in rw (a, b, e) (on m ms ∙ sym (again m (h ms)) ∙ ap (f m) (sym (on m ms))))
+      (λ b. rw (a, b) (on m (putNumber n ms) ∙ ap (f m) (gather-put n ms) ∙ swap m n (h ms) ∙ ap (f n) (sym (on m ms)))))
 
-    swap : (a b c : Bool) → a || (b || c) ≡ b || (a || c)
-    swap true true c = refl
-    swap true false c = refl
-    swap false b c = refl
+  pub gather-ascend : (ns : List ℕ) → h (ascend ns) ≡ h ns
+  unfolding ascend
+  gather-ascend [] = refl
+  gather-ascend (n ∷ ns) = gather-put n (ascend ns) ∙ ap (f n) (gather-ascend ns) ∙ sym (on n ns)
 
 any-ascend : (p : ℕ → Bool) (ns : List ℕ) → any p (ascend ns) ≡ any p ns
-unfolding ascend
-any-ascend p [] = refl
-any-ascend p (n ∷ ns) = any-put p n (ascend ns) ∙ ap (λ (b : Bool). p n || b) (any-ascend p ns)
+any-ascend p = gather-ascend (any p) (λ n b. p n || b) (λ n ns. refl) (λ n. again (p n)) (λ m n. or-swap (p m) (p n))
+  where
+    again : (a b : Bool) → a || (a || b) ≡ a || b
+    again true b = refl
+    again false b = refl
 
 -- a call is a violation where one of its resources is borrowed, and else goes on
 pub record Acquires {A : Type 0} (is : List ℕ) (r : Running) (k x : Outcome A) : Type 0 where

@@ -1,7 +1,7 @@
 -- `reference_safety_lib::put_words` meets its contract. Assumes nothing.
 use native.Mathlib.Omega.{arith}
 use lib.ListN.{length-set}
-use Rattle.reference_safety_lib.specs.WordLaws.{put-seven}
+use Rattle.reference_safety_lib.specs.WordLaws.{put-words}
 use borrow.Author.Needs.{needs}
 use Rattle.reference_safety_lib.proofs.put_words.Statement.{statement}
 use Rattle.reference_safety_lib.proofs.put_words.Tie as tie
@@ -31,7 +31,7 @@ same-length : tie.Need-same-length
 same-length c = search needs
 
 returns : tie.Need-returns
-returns c = put-seven (c .args .answer .now) _ _ _ _ _ _ _ (c .pre)
+returns c = put-words (c .args .answer .now) _ _ _ _ _ _ _ (c .pre)
 
 pub put-words-spec : {M : Type 1} → statement M
 put-words-spec =

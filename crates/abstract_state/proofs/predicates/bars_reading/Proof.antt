@@ -1,11 +1,7 @@
-use mathlib.Core.Path.{sym, ap, _∙_}
-use mathlib.Core.Bool.{cond}
-use mathlib.Core.Option.{none}
-use Rattle.meaning.specs.BorrowGraph.{ofName, isMutable, borrowsMutably, lowestOf}
-use Rattle.meaning.specs.Laws.Lowest.{lowest-guard}
-use Rattle.references.specs.Models.{filterOf, told}
-use Rattle.borrow_graph.specs.Models.{graphIn, lowIn}
-use Rattle.abstract_state.specs.ModelLaws.{told-both}
+use Rattle.meaning.specs.BorrowGraph.{borrowsMutably}
+use Rattle.references.specs.Models.{filterOf}
+use Rattle.borrow_graph.specs.Models.{graphIn}
+use Rattle.abstract_state.specs.ModelLaws.{barred}
 use borrow.Author.Needs.{needs}
 use Rattle.abstract_state.proofs.predicates.bars_reading.Statement.{statement}
 use Rattle.abstract_state.proofs.predicates.bars_reading.Tie as tie
@@ -27,11 +23,8 @@ returns c = λ ls h.
     let m = (c .before .before .is-mutable) in
     let b = (c .before .has-consistent-mutable-borrows) in
     let o = (c .only-if) in
-    let p = borrowsMutably g n (filterOf (a .at)) in
-    (λ i. told (o .ensures .0 i) (o .ensures .1 i))
-    ∙ told-both g n (m .result .refusal) (b .result .refusal) (m .result .yes) (isMutable g n) (lowIn (b .result .offset)) (lowestOf p (g .edges)) (λ y l. cond y l none)
-    (m .ensures ls _ h) (b .ensures ls h)
-    ∙ ap (ofName g n) (sym (lowest-guard (isMutable g n) p (g .edges)))
+    barred g n (m .result .refusal) (b .result .refusal) (o .result .refusal) (m .result .yes) (b .result .offset) (o .result .offset)
+    (borrowsMutably g n (filterOf (a .at))) (m .ensures ls _ h) (b .ensures ls h) (o .ensures)
 
 pub bars-reading-spec : {M : Type 1} → statement M
 bars-reading-spec =
