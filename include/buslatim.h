@@ -13,8 +13,8 @@
 extern "C" {
 #endif
 
-#define BUSLATIM_VERSION "3.0.0"
-#define BUSLATIM_VERSION_MAJOR 3
+#define BUSLATIM_VERSION "4.0.0"
+#define BUSLATIM_VERSION_MAJOR 4
 #define BUSLATIM_VERSION_MINOR 0
 #define BUSLATIM_VERSION_PATCH 0
 
@@ -29,7 +29,7 @@ extern "C" {
 /*
  * What a call needs besides the area: this many bytes of stack below the caller's frame. The deepest path of calls in the machine code takes
  * 43,560 bytes, and what memcpy takes comes on top; the code neither recurses nor calls by pointer, so no listing takes more. On a painted
- * stack 4,313 listings took up to 43,384 bytes. bench/stack/run measures both again; another kit may compile to other frames.
+ * stack 4,384 listings took up to 43,384 bytes. bench/stack/run measures both again; another kit may compile to other frames.
  */
 #define BUSLATIM_STACK_BYTES 49152
 
@@ -65,14 +65,13 @@ enum {
     BUSLATIM_REFUSED_TOO_LARGE = 6,    /* too long or too many; answer[2] is 65,536 for the length */
     /* the caller; answer[2] is 0 */
     BUSLATIM_REFUSED_AREA = 7, /* the area has fewer than BUSLATIM_AREA_WORDS words */
-    /* the routine; answer[2] is the instruction's offset, for 14 to 16 the exit of the block just run */
+    /* the routine; answer[2] is the instruction's offset, for 14 and 15 the exit of the block just run */
     BUSLATIM_REFUSED_EMPTY_STACK = 10,        /* an operand is taken from an empty stack */
     BUSLATIM_REFUSED_VALUE_OR_REFERENCE = 11, /* a value where a reference is needed, or the reverse */
     BUSLATIM_REFUSED_ABSENT_LOCAL = 12,       /* an absent local is copied or moved */
     BUSLATIM_REFUSED_IMMUTABLE = 13,          /* a write, freeze or mutable vector step on an immutable reference */
     BUSLATIM_REFUSED_OPERANDS_LEFT = 14,      /* operands are left at a block's end */
     BUSLATIM_REFUSED_JOINED_LOCAL = 15,       /* a local is a value in one joined state and a reference in the other */
-    BUSLATIM_REFUSED_NAMES_CROSS = 16,        /* a rename would give two references one name */
     /* the controller's sizes; answer[2] is the instruction's offset, in a join the exit of the block just run */
     BUSLATIM_REFUSED_STACK_FULL = 20, /* a push onto 16 operands */
     BUSLATIM_REFUSED_EDGES = 21,      /* more than 96 edges in a borrow graph */

@@ -136,9 +136,9 @@ def cases():
     yield [REF], 1, 0, [LOAD, move(0), element(0)], (11, 2)
     yield [], 0, 0, [LOAD, LOAD, element(0)], (11, 2)
     yield [], 0, 0, [LOAD, element(0)], (10, 1)
-    # the end of a block: 14, then 16
+    # the end of a block: 14, or names changed, also those of references that were exchanged
     yield [], 0, 0, [LOAD], (14, 0)
-    yield [MUT, MUT], 2, 0, [move(0), move(1), store(0), store(1)], (16, 3), True
+    yield [MUT, MUT], 2, 0, [move(0), move(1), store(0), store(1)], 0, True
     yield [MUT, MUT], 2, 0, [LOAD, move(0), move(1), store(0), store(1)], (14, 4), True
     yield [MUT, MUT], 2, 0, [move(0), move(1), store(0), store(1)], 0
     yield [MUT], 2, 0, [move(0), store(1)], 0, True

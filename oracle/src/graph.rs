@@ -4,6 +4,8 @@
 //! The Rust's edges carry a `loc`, of any type; abstract_state.rs has the empty one there. Here it is the offset of the
 //! instruction that runs (request A9), and what becomes of it is left to the Rust's graph. `borrowed_by`, by which every
 //! test sees the edges that leave a name, tells a watched run what was tested.
+//!
+//! Where a watched run finds a crossing, all names are changed together (request A2), by two renames of the Rust's.
 
 use crate::{file_format::CodeOffset, kept, panics::Thrown, references::RefID, rust_graph};
 use std::{
@@ -18,6 +20,7 @@ use std::{
 
 thread_local! {
     pub static WATCHING: Cell<bool> = const { Cell::new(false) };
+    static CROSSING: Cell<bool> = const { Cell::new(false) };
     static TESTS: RefCell<Tests> = const { RefCell::new(Tests::NONE) };
     /// Of the visit or join that goes on.
     static BLURRED: Cell<Blurred> = const { Cell::new(Blurred::NONE) };
@@ -114,6 +117,16 @@ pub fn tried(trial: Trial, again: impl FnOnce() -> bool) -> (bool, usize) {
     (fails, last_test().0)
 }
 
+/// Ends a block, whose names may cross.
+pub fn renaming<T>(crosses: bool, end: impl FnOnce() -> T) -> T {
+    CROSSING.set(crosses);
+    let ended = end();
+    CROSSING.set(false);
+    ended
+}
+
+/// Above all names of a run.
+const FREE: usize = 65_536;
 const MOST_EDGES: usize = 96;
 const MOST_LABELS: usize = 8;
 const MOST_IN_SET: usize = 10;
@@ -201,8 +214,15 @@ impl<Lbl: Clone + Ord + Debug> BorrowGraph<(), Lbl> {
         self.0.leq(&other.0)
     }
 
+    /// One name after the other, as the Rust does; at a crossing that would overwrite a name, so there each goes by a name
+    /// that nothing has.
     pub fn remap_refs(&mut self, id_map: &BTreeMap<RefID, RefID>) {
-        self.0.remap_refs(id_map)
+        if !CROSSING.get() {
+            return self.0.remap_refs(id_map);
+        }
+        let free = |old: &RefID| RefID::new(FREE + old.number());
+        self.0.remap_refs(&id_map.keys().map(|old| (*old, free(old))).collect());
+        self.0.remap_refs(&id_map.iter().map(|(old, new)| (free(old), *new)).collect())
     }
 
     pub fn join(&self, other: &Self) -> Self {

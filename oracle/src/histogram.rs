@@ -13,6 +13,7 @@ pub struct Histogram {
     /// Runs of the compared domain by visits: 0, 1, 2-3, 4-7, and so on.
     visits: BTreeMap<u32, u64>,
     leftovers: u64,
+    crossings: u64,
     vanished: u64,
     blurred: Blurring,
     /// Compared violations that edges of different offsets would each alone give.
@@ -42,7 +43,7 @@ impl Blurring {
 
 impl Histogram {
     pub fn add(&mut self, judged: &Judged) {
-        let Judged { answer, source, leftovers, vanished, blurred, several } = judged;
+        let Judged { answer, source, leftovers, crossed, vanished, blurred, several } = judged;
         let column = match source {
             Source::Rust => 0,
             Source::Reader => 1,
@@ -57,6 +58,7 @@ impl Histogram {
             self.several += *several as u64
         }
         self.leftovers += *leftovers as u64;
+        self.crossings += *crossed as u64;
         self.vanished += *vanished as u64;
         self.all += 1
     }
@@ -84,10 +86,11 @@ impl fmt::Display for Histogram {
         }
         writeln!(
             f,
-            "{} listings, {} compared, {} with leftovers",
+            "{} listings, {} compared, {} with leftovers, {} with crossings",
             self.all,
             self.compared(),
-            self.leftovers
+            self.leftovers,
+            self.crossings
         )?;
         writeln!(f, "{} accepted though the last run of a block failed", self.vanished)?;
         let Blurring { accepted, vanished, most, by: Blurred { borrow, release, join } } = self.blurred;

@@ -15,7 +15,7 @@ pub enum Source {
     Rust,
     /// An exporter's refusal, by our reading of document 01.
     Reader,
-    /// The Rust's steps and loop, with 16, 20 to 22 and the empty stack of document 01.
+    /// The Rust's steps and loop, with 20 to 22, the empty stack and the names changed together.
     Watched,
 }
 
@@ -25,6 +25,8 @@ pub struct Judged {
     pub source: Source,
     /// A visit began with operands that a failed block had left.
     pub leftovers: bool,
+    /// Names crossed at a block's end.
+    pub crossed: bool,
     /// Accepted, though the last run of some block failed.
     pub vanished: bool,
     /// By which calls sets were blurred.
@@ -37,7 +39,7 @@ pub struct Judged {
 #[derive(Clone, Copy, Debug, Eq, PartialEq)]
 pub struct Ending {
     pub answer: Answer,
-    /// 16 or 20 to 22.
+    /// 20 to 22.
     pub thrown: bool,
     pub blurred: Blurred,
     pub several: bool,
@@ -46,6 +48,7 @@ pub struct Ending {
 pub(crate) struct Watched {
     pub ending: Ending,
     pub leftovers: bool,
+    pub crossed: bool,
     pub vanished: bool,
     /// The kept states by entry, where asked for and where the run ended without a refusal.
     pub kept: Vec<(u16, kept::State)>,
@@ -94,19 +97,26 @@ pub fn judge(listing: &[u8]) -> Judged {
         Ok(routine) => routine,
         Err(listing::Refusal { number, place }) => {
             let answer = Answer { kind: 2, number, place, visits: 0, blurred: 0, borrowed_at: 0 };
-            let (source, blurred) = (Source::Reader, Blurred::default());
-            return Judged { answer, source, leftovers: false, vanished: false, blurred, several: false };
+            return Judged {
+                answer,
+                source: Source::Reader,
+                leftovers: false,
+                crossed: false,
+                vanished: false,
+                blurred: Blurred::default(),
+                several: false,
+            };
         }
     };
     let adapted = Adapted::new(&routine);
-    let Watched { ending, leftovers, vanished, .. } = adapted.watched(false);
+    let Watched { ending, leftovers, crossed, vanished, .. } = adapted.watched(false);
     let Ending { answer, thrown, blurred, several } = ending;
-    if leftovers || thrown {
-        return Judged { answer, source: Source::Watched, leftovers, vanished, blurred, several };
+    if leftovers || crossed || thrown {
+        return Judged { answer, source: Source::Watched, leftovers, crossed, vanished, blurred, several };
     }
     let Ending { answer: rust, blurred, .. } = plain(&adapted);
     assert_eq!(rust, Answer { borrowed_at: 0, ..answer }, "watching changed the run of {}", hex(listing));
-    Judged { answer, source: Source::Rust, leftovers, vanished, blurred, several }
+    Judged { answer, source: Source::Rust, leftovers, crossed, vanished, blurred, several }
 }
 
 /// The kept states by entry, if the listing is read and its run ends without a refusal.

@@ -12,7 +12,7 @@ pub struct Thrown(pub u32);
 pub enum Caught {
     /// Refusals 10 to 15.
     Panic(u32),
-    /// Refusals 16 and 20 to 22, in watched runs only.
+    /// Refusals 20 to 22, in watched runs only.
     Thrown(u32),
     /// A panic that document 01 does not know of.
     Unknown(String),

@@ -30,21 +30,20 @@ pub fn entry(listing: Vec<u8>) -> Entry {
     judged(listing).0
 }
 
-/// Also whether several borrows would each give the violation.
-fn judged(listing: Vec<u8>) -> (Entry, bool) {
-    let Judged { answer, source, several, .. } = judge(&listing);
-    (Entry { listing, source: number(source), answer }, several)
+fn judged(listing: Vec<u8>) -> (Entry, Judged) {
+    let judged = judge(&listing);
+    (Entry { listing, source: number(judged.source), answer: judged.answer }, judged)
 }
 
 const LONGEST: usize = 450;
 /// It takes many blocks to blur a set.
 const LONGEST_BLURRING: usize = 700;
 
-/// From each family so many of each outcome, of each scale of visits and of blurred sets, with one borrow and with several;
-/// more where nothing of that varies.
+/// From each family so many of each outcome, of each scale of visits and of blurred sets, with one borrow and with several,
+/// with and without crossings; more where nothing of that varies.
 fn of_each(answer: &Answer) -> u32 {
     match answer {
-        Answer { kind: 2, number: 1..=6 | 16, .. } => 30,
+        Answer { kind: 2, number: 1..=6, .. } => 30,
         _ => 5,
     }
 }
@@ -61,13 +60,13 @@ pub fn choose(seed: u64, generated: u64) -> Vec<Entry> {
         if listing.len() > LONGEST_BLURRING {
             continue;
         }
-        let (entry, several) = judged(listing);
+        let (entry, Judged { several, crossed, .. }) = judged(listing);
         if entry.answer.blurred == 0 && entry.listing.len() > LONGEST {
             continue;
         }
         let Answer { kind, number, visits, blurred, .. } = entry.answer;
         let scales = (visits.checked_ilog2(), blurred.checked_ilog2());
-        let sort = (family, entry.source, kind, number, scales, several);
+        let sort = (family, entry.source, kind, number, scales, several, crossed);
         let count = taken.entry(sort).or_insert(0);
         *count += 1;
         if *count <= of_each(&entry.answer) {

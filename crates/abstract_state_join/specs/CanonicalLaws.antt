@@ -3,15 +3,14 @@ use Prim.Native.Nat.{ℕ, suc, _+_}
 use native.Mathlib.Omega.{arith}
 use native.Mathlib.Numerals.{add-one}
 use mathlib.Core.Path.{_≡_, refl, sym, ap, _∙_}
-use mathlib.Core.Bool.{Bool, true, false, _&&_, _||_, cond}
+use mathlib.Core.Bool.{true, _&&_, cond}
 use mathlib.Core.List.{List, [], _∷_}
-use lib.Dec.{eqb, ltb}
-use Rattle.meaning.specs.Answers.{ok, refuse, then}
-use Rattle.meaning.specs.Lists.{any}
+use lib.Dec.{eqb}
+use Rattle.meaning.specs.Answers.{then}
 use Rattle.meaning.specs.Laws.Base.{decide, and-l, and-r, eqb-eq, eqb-self, eqb-no, eqb-ne}
 use Rattle.meaning.specs.BorrowGraph.{Graph, renamed, nameAfter}
 use Rattle.meaning.specs.AbstractState as S
-use Rattle.meaning.specs.AbstractState.{State, absent, value, ref, eqLocal, localHolding, newNameOf, ownNames, crossed, crosses, canonical, nonRef, reference}
+use Rattle.meaning.specs.AbstractState.{State, absent, value, ref, localHolding, newNameOf, ownNames, canonical, nonRef, reference}
 use Rattle.meaning.specs.EntryPoints.{Running}
 use Rattle.abstract_state.specs.Models.{halted}
 use Rattle.abstract_state_join.specs.Models.{heldBy, ownName, renames, canonicalEnd}
@@ -28,26 +27,10 @@ own-none absent i e = refl
 own-none value i e = refl
 own-none (ref m) i e = let w : _≡_ {A = ℕ} 0 1 = cc in absurd (omega arith)
 
-pub is-ref : (x : S.Local) (n : ℕ) → reference n ≡ heldBy x → x ≡ ref n
+is-ref : (x : S.Local) (n : ℕ) → reference n ≡ heldBy x → x ≡ ref n
 is-ref absent n e = let w : _≡_ {A = ℕ} 0 1 = cc in absurd (omega arith)
 is-ref value n e = let w : _≡_ {A = ℕ} 0 1 = cc in absurd (omega arith)
 is-ref (ref m) n e = let z : m ≡ n = cc in ap ref z
-
-pub named-held : (x : S.Local) (m n : ℕ) (b : Bool) → reference m ≡ heldBy x → eqb m n ≡ b → eqLocal x (ref n) ≡ b
-named-held x m n b e h = ap (λ (y : S.Local). eqLocal y (ref n)) (is-ref x m e) ∙ h
-
-pub named-none : (x : S.Local) (n : ℕ) → nonRef ≡ heldBy x → eqLocal x (ref n) ≡ false
-named-none absent n e = refl
-named-none value n e = refl
-named-none (ref m) n e = let w : _≡_ {A = ℕ} 0 1 = cc in absurd (omega arith)
-
-pub crossed-none : (ys : List S.Local) (i : ℕ) (x : S.Local) → nonRef ≡ heldBy x → false ≡ crossed ys i x
-crossed-none ys i absent e = refl
-crossed-none ys i value e = refl
-crossed-none ys i (ref m) e = let w : _≡_ {A = ℕ} 0 1 = cc in absurd (omega arith)
-
-pub crossed-held : (ys : List S.Local) (i : ℕ) (x : S.Local) (n : ℕ) (b : Bool) → reference n ≡ heldBy x → ltb n i ≡ b → b && any (λ y. eqLocal y (ref i)) ys ≡ crossed ys i x
-crossed-held ys i x n b e l = (λ j. sym l j && any (λ y. eqLocal y (ref i)) ys) ∙ sym (ap (λ (z : S.Local). crossed ys i z) (is-ref x n e))
 
 -- ---- steps of the loops
 
@@ -60,14 +43,6 @@ own-step i (ref n) xs = rw (add-one i)
 pub own-end : (i : ℕ) → ownNames i [] ≡ []
 unfolding ownNames
 own-end i = refl
-
-pub crosses-step : (ys : List S.Local) (i : ℕ) (x : S.Local) (xs : List S.Local) → crosses ys i (x ∷ xs) ≡ crossed ys i x || crosses ys (i + 1) xs
-unfolding crosses
-crosses-step ys i x xs = rw (add-one i)
-
-pub crosses-end : (ys : List S.Local) (i : ℕ) → crosses ys i [] ≡ false
-unfolding crosses
-crosses-end ys i = refl
 
 pub renames-held : (i : ℕ) (x : S.Local) (n : ℕ) (xs : List S.Local) → reference n ≡ heldBy x → renames i (x ∷ xs) ≡ record { old = n; new = i } ∷ renames (i + 1) xs
 unfolding renames
@@ -104,24 +79,15 @@ new-name l xs n = ap (λ (k : ℕ). cond (eqb n l) l k) (renamed-to n 0 xs)
 
 -- ---- the end
 
-module _ (l : ℕ) (s : State) where
-  pub canonical-16 : crosses (s .locals) 0 (s .locals) ≡ true → canonical l s ≡ refuse 16
-  unfolding canonical
-  canonical-16 e = rw e
+pub canonical-as : (l : ℕ) (s : State) (xs : List S.Local) (g : Graph) → xs ≡ ownNames 0 (s .locals) → g ≡ renamed (nameAfter (record { old = l; new = l } ∷ renames 0 (s .locals))) (s .graph)
+    → canonical l s ≡ record { locals = xs; graph = g }
+unfolding canonical
+canonical-as l s xs g p q =
+    let r : renamed (newNameOf l (s .locals)) (s .graph) ≡ g = sym (q ∙ (λ i. renamed (λ n. new-name l (s .locals) n i) (s .graph))) in
+    λ i. record { locals = sym p i; graph = r i }
 
-  pub canonical-ok : (xs : List S.Local) (g : Graph) → crosses (s .locals) 0 (s .locals) ≡ false → xs ≡ ownNames 0 (s .locals) → g ≡ renamed (nameAfter (record { old = l; new = l } ∷ renames 0 (s .locals))) (s .graph)
-      → canonical l s ≡ ok (record { locals = xs; graph = g })
-  unfolding canonical
-  canonical-ok xs g e p q =
-      let r : renamed (newNameOf l (s .locals)) (s .graph) ≡ g = sym (q ∙ (λ i. renamed (λ n. new-name l (s .locals) n i) (s .graph))) in
-      rw e (λ i. ok (record { locals = sym p i; graph = r i }))
-
--- a state that goes on: refused with 16, or renamed
-pub end-16 : (b v o n : ℕ) (r q : Running) → eqb v 0 && eqb n 0 ≡ true → canonical (r .root) (record { locals = r .locals; graph = r .graph }) ≡ refuse 16 → halted b v o 16 q ≡ then (halted b v o n r) canonicalEnd
-unfolding canonicalEnd
-end-16 b v o n r q e k = rw (and-l (eqb v 0) (eqb n 0) e, and-r (eqb v 0) (eqb n 0) e, k)
-
-pub end-ok : (b v o n : ℕ) (r : Running) (xs : List S.Local) (g : Graph) → eqb v 0 && eqb n 0 ≡ true → canonical (r .root) (record { locals = r .locals; graph = r .graph }) ≡ ok (record { locals = xs; graph = g })
+-- a state that goes on is renamed
+pub end-goes : (b v o n : ℕ) (r : Running) (xs : List S.Local) (g : Graph) → eqb v 0 && eqb n 0 ≡ true → canonical (r .root) (record { locals = r .locals; graph = r .graph }) ≡ record { locals = xs; graph = g }
     → halted b v o n (record { locals = xs; graph = g; next = r .root + 1; root = r .root; blurs = r .blurs; offset = r .offset }) ≡ then (halted b v o n r) canonicalEnd
 unfolding canonicalEnd
-end-ok b v o n r xs g e k = rw (and-l (eqb v 0) (eqb n 0) e, and-r (eqb v 0) (eqb n 0) e, k, add-one (r .root))
+end-goes b v o n r xs g e k = rw (and-l (eqb v 0) (eqb n 0) e, and-r (eqb v 0) (eqb n 0) e, k, add-one (r .root))

@@ -5,7 +5,7 @@ use mathlib.Core.Bool.{Bool, false, cond}
 use mathlib.Core.List.{List, [], _∷_}
 use lib.ListN.{length}
 use Rattle.meaning.specs.Limits.{maxLocals}
-use Rattle.meaning.specs.Answers.{Ans, ok, refuse, andThen, Outcome, done, then, lift, leaves}
+use Rattle.meaning.specs.Answers.{Ans, ok, refuse, andThen, Outcome, done, leaves}
 use Rattle.meaning.specs.BorrowGraph.{Graph, blursTo, release, Change}
 use Rattle.meaning.specs.AbstractState as S
 use Rattle.meaning.specs.AbstractState.{State, Step, absent, value, ref, joinLocals, join, changed, canonical, Operand, nonRef, reference, Token, ofValue, ofRef, firstState}
@@ -39,9 +39,9 @@ firstAt i (ofRef m ∷ ts) = ref i
 
 -- ---- the end of a block
 
--- where names are changed, fresh names start at L + 1 again; the sets blurred so far still count, and the offset stays
+-- names are changed, and fresh names start at L + 1 again; the sets blurred so far still count, and the offset stays
 unfoldable pub canonicalEnd : Running → Outcome Running
-canonicalEnd r = then (lift (canonical (r .root) (record { locals = r .locals; graph = r .graph }))) (λ s. done (startWith (r .blurs) (r .offset) (r .root) s))
+canonicalEnd r = done (startWith (r .blurs) (r .offset) (r .root) (canonical (r .root) (record { locals = r .locals; graph = r .graph })))
 
 abbrev pub ownName : ℕ → S.Local → S.Local
 ownName i absent = absent

@@ -5,7 +5,6 @@
 //   construct_canonical_state   584 `construct_canonical_state`
 //   id_map                      its `id_map`, 585 to 602
 //   own_names, own_name         its `locals`, 587 to 602
-//   crosses, crossed            whether `remap_refs` would overwrite a name: the refusal 16
 use crate::locals::count;
 use crate::locals::value_of;
 use abstract_state::state::AbstractState;
@@ -26,70 +25,10 @@ ghost use mathlib.Core.List.{_∷_};
 ghost use Prim.Native.Nat.{_<_};
 ghost use lib.ListN.{length};
 ghost use Rattle.meaning.specs.Limits.{maxLocals};
-ghost use Rattle.meaning.specs.Lists.{any};
-ghost use Rattle.meaning.specs.AbstractState as S;
-ghost use Rattle.meaning.specs.AbstractState.{eqLocal, ownNames};
+ghost use Rattle.meaning.specs.AbstractState.{ownNames};
 ghost use Rattle.borrow_graph.specs.Models.{mapOf};
 ghost use Rattle.abstract_state.specs.Models.{localOf, localsIn, words, Does};
 ghost use Rattle.abstract_state_join.specs.Models.{canonicalEnd, ownName, renames};
-
-// Whether some local holds the name.
-fn is_named(locals: &[u32; LOCALS], n: u8, id: RefID) -> bool
-    ensures { λ r. ⌜ (length (now (locals .entry)) ≡ maxLocals → r ≡ any (λ y. eqLocal y (S.Local.ref (id .0))) (localsIn (now (locals .entry)) n)) ⌝ }
-{
-    let k = count(n);
-    let mut i: usize = 0;
-    while i < k {
-        let x = local_of(locals[i]);
-        let v = value_of(x);
-        match v {
-            AbstractValue::Reference(held) => {
-                if held.0 == id.0 {
-                    return true;
-                }
-                i += 1;
-            }
-            AbstractValue::NonReference => {
-                i += 1;
-            }
-        }
-    }
-    false
-}
-
-// The local at the index holds a name below the index, and some local holds the index as its name.
-fn crossed(locals: &[u32; LOCALS], n: u8, x: Local, i: usize) -> bool
-    requires { ⌜ i < maxLocals ⌝ }
-    ensures { λ r. ⌜ (length (now (locals .entry)) ≡ maxLocals → r ≡ S.crossed (localsIn (now (locals .entry)) n) i (localOf x)) ⌝ }
-{
-    let v = value_of(x);
-    match v {
-        AbstractValue::Reference(held) => {
-            let below = (held.0 as usize) < i;
-            if below {
-                return is_named(locals, n, RefID(i as u16));
-            }
-            false
-        }
-        AbstractValue::NonReference => false,
-    }
-}
-
-// The test for 16.
-fn crosses(locals: &[u32; LOCALS], n: u8) -> bool
-    ensures { λ r. ⌜ (length (now (locals .entry)) ≡ maxLocals → r ≡ S.crosses (localsIn (now (locals .entry)) n) 0 (localsIn (now (locals .entry)) n)) ⌝ }
-{
-    let k = count(n);
-    let mut i: usize = 0;
-    while i < k {
-        let x = local_of(locals[i]);
-        if crossed(locals, n, x, i) {
-            return true;
-        }
-        i += 1;
-    }
-    false
-}
 
 // The root keeps its name; a local's reference gets the local's index.
 fn id_map(locals: &[u32; LOCALS], n: u8, root: RefID) -> IdMap
@@ -156,7 +95,7 @@ fn own_names(locals: &mut [u32; LOCALS], n: u8)
     }
 }
 
-// 16 where renaming one by one would overwrite a name. Fresh names start behind the root's again.
+// All names are changed together, so that references exchanged in the block simply are exchanged. Fresh names start behind the root's again.
 pub fn construct_canonical_state(
     locals: &mut [u32; LOCALS],
     names: &mut [u32; MAX_NAMES],
@@ -168,10 +107,6 @@ pub fn construct_canonical_state(
     if (state.violation == 0) & (state.refusal == 0) {
         let mut s = state;
         let n = state.num_locals;
-        if crosses(locals, n) {
-            s.refusal = 16;
-            return s;
-        }
         let map = id_map(locals, n, RefID(n as u16));
         own_names(locals, n);
         let g = state.borrow_graph;

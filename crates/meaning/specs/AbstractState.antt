@@ -1,14 +1,13 @@
 -- Abstract states (abstract_state.rs): their join, what a join changes, the form of the kept states, the first state, and the end of a block,
 -- where each local's reference takes the local's index for its name.
 use Prim.Native.Nat.{ℕ, _+_, zero, suc}
-use mathlib.Core.Bool.{Bool, true, false, _&&_, Bool·beq, not, cond, _||_}
+use mathlib.Core.Bool.{Bool, true, false, _&&_, Bool·beq, not, cond}
 use mathlib.Core.List.{List, [], _∷_, _++_}
 use mathlib.Core.Logic.{_⊎_}
 use mathlib.Core.Path.{_≡_}
-use lib.Dec.{eqb, ltb}
+use lib.Dec.{eqb}
 use lib.ListN.{length, getD}
 use Rattle.meaning.specs.Answers.{Ans, ok, refuse, andThen, guard, leaves}
-use Rattle.meaning.specs.Lists.{any}
 use Rattle.meaning.specs.References.{Edge, eqEdge, EdgeSet}
 use Rattle.meaning.specs.BorrowGraph.{Graph, release, joinGraphs, newlyBlurred, blursTo, setAt, onPairs, held, wellFormed, Name, renamed}
 
@@ -201,19 +200,8 @@ ownNames i (absent ∷ xs) = absent ∷ ownNames (suc i) xs
 ownNames i (value ∷ xs) = value ∷ ownNames (suc i) xs
 ownNames i (ref n ∷ xs) = ref i ∷ ownNames (suc i) xs
 
--- "local a holds a name below a and some local holds name a"
-abbrev pub crossed : List Local → ℕ → Local → Bool
-crossed ys a absent = false
-crossed ys a value = false
-crossed ys a (ref n) = ltb n a && any (λ y. eqLocal y (ref a)) ys
-
-unfoldable pub crosses : List Local → ℕ → List Local → Bool
-crosses ys a [] = false
-crosses ys a (x ∷ xs) = crossed ys a x || crosses ys (suc a) xs
-
--- "16: at the end of a block with successors, local a holds a name below a and some local holds name a." Else all names are changed together.
-unfoldable pub canonical : ℕ → State → Ans State
-unfolding renamed newNameOf ownNames crosses
-canonical l s =
-    guard (not (crosses (s .locals) 0 (s .locals))) 16
-    (ok (record { locals = ownNames 0 (s .locals); graph = renamed (newNameOf l (s .locals)) (s .graph) }))
+-- The end of a block. A2: "All names are to be changed together, each by its old value, so an exchange is simply an exchange. Number 16 no longer
+-- occurs at a block's end".
+unfoldable pub canonical : ℕ → State → State
+unfolding renamed newNameOf ownNames
+canonical l s = record { locals = ownNames 0 (s .locals); graph = renamed (newNameOf l (s .locals)) (s .graph) }

@@ -2,7 +2,7 @@
 use Prim.Native.Nat.{ℕ, suc, _-_}
 use mathlib.Core.List.{List, [], _∷_}
 use lib.ListN.{take, drop, getD}
-use Rattle.meaning.specs.Answers.{Ans, ok, refuse, Outcome, done, violated, refused}
+use Rattle.meaning.specs.Answers.{Outcome, done, violated, refused}
 use Rattle.meaning.specs.AbstractState.{Token, State, canonical, Operand}
 use Rattle.meaning.specs.EntryPoints.{Running}
 use Rattle.meaning.specs.Steps.{Instr, Machine, step}
@@ -29,17 +29,12 @@ startWith k o l s = record { locals = s .locals; graph = s .graph; next = suc l;
 abbrev pub startMachine : ℕ → State → Machine
 startMachine l s = record { state = startWith 0 0 l s; stack = [] }
 
--- 16 has the "exit of the block just run" for its place; k sets were blurred in the visit
-abbrev pub renamedEnd : ℕ → ℕ → Ans State → Result State
-renamedEnd k exit (ok t) = Result.ended k t
-renamedEnd k exit (refuse n) = Result.refused n exit
-
 -- "its end state, renamed, goes to its successors": nothing is renamed where there is none
 abbrev pub endOf : Block → List ℕ → Running → Result State
 endOf b [] r = Result.returned (r .blurs)
-endOf b (e ∷ es) r = renamedEnd (r .blurs) (b .exit) (canonical (r .root) (record { locals = r .locals; graph = r .graph }))
+endOf b (e ∷ es) r = Result.ended (r .blurs) (canonical (r .root) (record { locals = r .locals; graph = r .graph }))
 
--- "14: operands left at block end", before 16
+-- "14: operands left at block end", at the "exit of the block just run"
 abbrev pub finish : Block → Running → List Operand → Result State
 finish b r [] = endOf b (b .successors) r
 finish b r (v ∷ vs) = Result.refused 14 (b .exit)

@@ -259,7 +259,7 @@ unfolding putName
 renameNames f [] = []
 renameNames f (a ∷ ns) = putName (withId f a) (renameNames f ns)
 
--- all names changed together
+-- A2: "All names are to be changed together, each by its old value"
 unfoldable pub renamed : (ℕ → ℕ) → Graph → Graph
 unfolding renameEdges renameNames
 renamed f g = record { names = renameNames f (g .names); edges = renameEdges f (g .edges) }
@@ -278,21 +278,20 @@ nameAfter (m ∷ ms) n = cond (eqb n (m .old)) (m .new) (nameAfter ms n)
 unfoldable pub isOld : List Change → ℕ → Bool
 isOld ms n = any (λ m. eqb n (m .old)) ms
 
--- "two pairs have the same old or the same new name"
+-- "the same old or the same new name"
 abbrev pub alike : Change → Change → Bool
 alike m k = eqb (m .old) (k .old) || eqb (m .new) (k .new)
 
--- "two pairs have the same old or the same new name", in the whole map
+-- "two pairs with the same old or the same new name", in the whole map
 unfoldable pub twice : List Change → Bool
 twice [] = false
 twice (m ∷ ms) = any (alike m) ms || twice ms
 
--- "a new name, not its own old one, is a greater old name or is held outside the old names"
+-- "a new name held outside the old names"
 abbrev pub collides : List Name → List Change → Change → Bool
-collides ns ms m = not (eqb (m .new) (m .old)) && ((isOld ms (m .new) && ltb (m .old) (m .new)) || (holds ns (m .new) && not (isOld ms (m .new))))
+collides ns ms m = holds ns (m .new) && not (isOld ms (m .new))
 
--- "A direct rename also gives 16 if two pairs have the same old or the same new name, or a new name, not its own old one, is a greater old
--- name or is held outside the old names."
+-- A2: "a direct rename still gives it for two pairs with the same old or the same new name, or a new name held outside the old names."
 unfoldable pub clash : List Name → List Change → Bool
 unfolding twice isOld holds
 clash ns ms = twice ms || any (collides ns ms) ms

@@ -1,9 +1,9 @@
 -- The headline statements about the definitions, in one file. The proofs are in Laws.
 use Prim.Native.Nat.{ℕ, _≤_, _<_, _*_}
 use native.Mathlib.Omega.{arith}
-use mathlib.Core.Bool.{true}
-use mathlib.Core.List.{List}
-use mathlib.Core.Logic.{_≢_}
+use mathlib.Core.Bool.{true, false}
+use mathlib.Core.List.{List, _∷_}
+use mathlib.Core.Logic.{_⊎_, _≢_}
 use mathlib.Core.Option.{some}
 use mathlib.Core.Path.{_≡_}
 use lib.Dec.{ltb}
@@ -11,16 +11,22 @@ use lib.ListN.{length, getD}
 use Rattle.meaning.specs.Answers.{ok}
 use Rattle.meaning.specs.Lists.{all}
 use Rattle.meaning.specs.References.{covered}
-use Rattle.meaning.specs.BorrowGraph.{Graph, setAt}
-use Rattle.meaning.specs.AbstractState.{State, Form, Parts, joinLocals, join, changed, changes, joinBlurs}
+use Rattle.meaning.specs.BorrowGraph.{Graph, setAt, held, wellFormed, Change, nameAfter, remap}
+use Rattle.meaning.specs.AbstractState.{State, Form, Parts, joinLocals, join, changed, changes, joinBlurs, newNameOf, canonical}
 use Rattle.meaning.specs.Blocks.{Routine, exec}
-use Rattle.meaning.specs.Loop.{mostChanges, mostVisits, visits, passedUp, blank, hasEnded, violation, refusal}
+use Rattle.meaning.specs.Loop.{mostChanges, mostVisits, visits, passedUp, blank, hasEnded, ended, stopped, violation, refusal}
 use Rattle.meaning.specs.Listing.{read, readListing}
 use Rattle.meaning.specs.Verify.{runWith, runOf, verify}
 use Rattle.meaning.specs.Marked as Marked
+use Rattle.meaning.specs.Laws.Block.{Ended, exec-hands}
+use Rattle.meaning.specs.Laws.Exchange.{Carried, Exchanged, Stepwise}
+use Rattle.meaning.specs.Laws.Exchange as Exchange
 use Rattle.meaning.specs.Laws.Few.{exec-few}
+use Rattle.meaning.specs.Laws.Forms.{Settled}
+use Rattle.meaning.specs.Laws.InTurnRun.{run-in-turn}
 use Rattle.meaning.specs.Laws.Listing.{accepted-promised}
 use Rattle.meaning.specs.Laws.Offsets as Offsets
+use Rattle.meaning.specs.Laws.Own.{times}
 use Rattle.meaning.specs.Laws.Promised.{promised}
 use Rattle.meaning.specs.Laws.RedateRun.{redateAnswered, forget, undated, verifyBy}
 use Rattle.meaning.specs.Laws.RedateRun as Redates
@@ -29,6 +35,7 @@ use Rattle.meaning.specs.Laws.State as States
 use Rattle.meaning.specs.Laws.Run as Runs
 use Rattle.meaning.specs.Laws.Tests.{Stays}
 use Rattle.meaning.specs.Laws.Tests as Tests
+use Rattle.meaning.specs.Refinement.InTurn.{runInTurn}
 
 -- ---- the marked cases
 
@@ -63,8 +70,8 @@ pub record Bounded (s : List ℕ) (q : Routine) : Type 0 where
   pub few-blurs : (budget j : ℕ) (k : State) → getD (runWith q budget .slots) j blank .kept ≡ some k → passedUp (exec q j k) ≤ 512 * (144 * 96)
   -- the visits that are answered, for an area of any length
   pub answered : (words : ℕ) → verify words s .visits ≤ mostVisits (length (q .blocks)) (q .locals)
-  -- the caller's refusals 8, 9 and 23 never come out
-  pub refused : (words n p : ℕ) → verify words s .verdict ≡ refusal n p → (n ≢ 8) × (n ≢ 9) × (n ≢ 23)
+  -- the caller's refusals 8, 9 and 23 never come out, nor does 16, which by A2 only a direct rename gives
+  pub refused : (words n p : ℕ) → verify words s .verdict ≡ refusal n p → (n ≢ 8) × (n ≢ 9) × (n ≢ 16) × (n ≢ 23)
 
 pub demand3 : (s : List ℕ) (q : Routine) → readListing s ≡ read q → Bounded s q
 unfolding runOf
@@ -104,3 +111,35 @@ pub borrowed-at : (s : List ℕ) (q : Routine) → readListing s ≡ read q
     × ((budget j : ℕ) (k : State) → getD (runWith q budget .slots) j blank .kept ≡ some k
     → all (λ x. ltb (x .edge .offset) (length (q .code))) (k .graph .edges) ≡ true)
 borrowed-at s q e = (Redates.dated s q e .borrowed-at, Redates.dated s q e .kept-at)
+
+-- ---- A2: names changed together
+
+-- What a block of a run hands on to its successors is a settled state with its names changed.
+pub hands-on : (s : List ℕ) (q : Routine) → readListing s ≡ read q → (budget j n : ℕ) (k t : State) → getD (runWith q budget .slots) j blank .kept ≡ some k
+    → exec q j k ≡ ended n t → Ended (q .locals) t
+hands-on s q e f j n k t h r = exec-hands q (accepted-promised s q e) j n k t r (Runs.kept-strong q (accepted-promised s q e) f j k h)
+
+-- "All names are to be changed together, each by its old value, so an exchange is simply an exchange." From a settled state s: each local's reference
+-- has the local's index for its name and keeps its mutability and its edges; no name and no edge is lost, and none is made up.
+pub exchanged : (l : ℕ) (s : State) → Settled l s
+    → (Exchanged s (canonical l s)) × (Carried (newNameOf l (s .locals)) (s .graph) (canonical l s .graph))
+exchanged l s h = (Exchange.exchanged l s h, Exchange.canonical-carries l s (h .opened))
+
+-- "a direct rename": where it is not refused, the same holds of it
+pub renamed-whole : (g h : Graph) (ms : List Change) → remap g ms ≡ ok h → Carried (nameAfter ms) g h
+renamed-whole = Exchange.remap-carries
+
+-- A cycle of any length, from a by the different names bs back to a, is never refused; a chain from a by bs to z is not, where z is not held.
+pub cycles : (g : Graph) (a : ℕ) (bs : List ℕ) → wellFormed g ≡ true → ((n : ℕ) → times n (a ∷ bs) ≤ 1) → Stepwise g a bs a
+cycles = Exchange.cycle
+
+pub chains : (g : Graph) (a : ℕ) (bs : List ℕ) → wellFormed g ≡ true → ((n : ℕ) → times n (a ∷ bs) ≤ 1) → (z : ℕ) → times z bs ≡ 0 → held g z ≡ false
+    → Stepwise g a bs z
+chains = Exchange.chain
+
+-- "Nothing crosses where 01's condition for 16 at a block's end never holds; there the kept states equal the Rust's." `runInTurn` is document 01's
+-- run: it renames one by one as the Rust does and is refused with 16 where names cross. Where it is not, it is the run, with kept states, visits and
+-- all.
+pub one-by-one : (s : List ℕ) (q : Routine) → readListing s ≡ read q → (budget : ℕ)
+    → (runWith q budget ≡ runInTurn q budget) ⊎ ((p : ℕ) × (runInTurn q budget .next ≡ stopped 16 p))
+one-by-one s q e = run-in-turn q (accepted-promised s q e)

@@ -1,3 +1,4 @@
 pub mod Joins
 pub mod Listing
+pub mod Rename
 pub mod Step

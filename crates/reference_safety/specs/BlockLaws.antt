@@ -8,13 +8,13 @@ use native.Mathlib.Omega.{arith}
 use lib.Dec.{eqb}
 use lib.ListN.{length, take, drop, getD, length-drop, length-map, length-take}
 use lib.Seq.{take-nil}
-use Rattle.meaning.specs.Answers.{Ans, ok, refuse, Outcome, done, violated, refused, then, lift}
-use Rattle.meaning.specs.AbstractState.{State, canonical, Operand}
+use Rattle.meaning.specs.Answers.{Outcome, done, violated, refused, then}
+use Rattle.meaning.specs.AbstractState.{State, Operand}
 use Rattle.meaning.specs.Laws.Array.{front-map-step}
 use Rattle.meaning.specs.EntryPoints.{Running}
 use Rattle.meaning.specs.Steps.{Instr, Machine, stepOn, step}
 use Rattle.meaning.specs.Loop.{Result, Block}
-use Rattle.meaning.specs.Blocks.{Routine, instrsOf, startWith, startMachine, renamedEnd, finish, settle, runFrom, runBlock, machineAt}
+use Rattle.meaning.specs.Blocks.{Routine, instrsOf, startMachine, finish, settle, runFrom, runBlock, machineAt}
 use Rattle.borrow_graph.specs.Models.{Tells}
 use Rattle.abstract_state.specs.ModelLaws.{then-done, then-then, goes}
 use Rattle.abstract_state.specs.Models.{Words, words, Fits, halted, runningOf, stateOf}
@@ -142,13 +142,9 @@ module _ (entry exit n a c : ℕ) (r : Running) (vs : List Operand) where
     unfolding canonicalEnd
     finish-some e = go n e ∙ nothing (finish block r)
       where
-        named : (es : List ℕ) (t : Ans State) → placed (a ∷ es) exit (then (lift t) (λ x. done (startWith (r .blurs) (r .offset) (r .root) x))) ≡ renamedEnd (r .blurs) exit t
-        named es (ok t) = refl
-        named es (refuse k) = refl
-
         go : (k : ℕ) → (k ≡ 0 → ⊥) → placed (take k (a ∷ c ∷ [])) exit (canonicalEnd r) ≡ finish (record { entry = entry; exit = exit; successors = take k (a ∷ c ∷ []) }) r []
         go zero e = absurd (e refl)
-        go (suc k) e = named (take k (c ∷ [])) (canonical (r .root) (record { locals = r .locals; graph = r .graph }))
+        go (suc k) e = refl
 
 -- ---- the run, on its arrays
 

@@ -162,7 +162,7 @@ fn at_offset(m: Machine, offset: CodeOffset) -> Machine
     }
 }
 
-// The end of a block whose instructions are done: 14, then, with successors, 16 or the names changed.
+// The end of a block whose instructions are done: 14, or, with successors, the names changed.
 fn finish(
     b: Block,
     locals: &mut [u32; LOCALS],

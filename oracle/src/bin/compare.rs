@@ -93,14 +93,20 @@ mod ours {
     /// What differed in the compared domain, and outside it from document 01 as we read it.
     #[derive(Default)]
     pub struct Differing {
-        within: Vec<Vec<u8>>,
-        outside: Vec<Vec<u8>>,
+        within: Side,
+        outside: Side,
         number: u64,
+    }
+
+    #[derive(Default)]
+    struct Side {
+        listings: Vec<Vec<u8>>,
         /// How many runs had their kept states compared.
         kept: u64,
     }
 
-    /// The Rust shows its kept states slowly.
+    /// The Rust shows its kept states slowly. Outside the domain those of every run with crossings that ends without a
+    /// refusal are compared.
     const KEPT_EVERY: u64 = 4;
 
     const SHORT: Answer = Answer { kind: 2, number: 7, place: 0, visits: 0, blurred: 0, borrowed_at: 0 };
@@ -117,43 +123,42 @@ mod ours {
     impl Differing {
         pub fn compare(&mut self, listing: &[u8], judged: &Judged) {
             self.number += 1;
+            let (side, shown) = match judged.source {
+                Source::Rust => (&mut self.within, self.number % KEPT_EVERY == 0),
+                _ => (&mut self.outside, judged.crossed),
+            };
             if differs(listing, judged) {
-                match judged.source {
-                    Source::Rust => self.within.push(listing.to_vec()),
-                    _ => self.outside.push(listing.to_vec()),
-                }
+                side.listings.push(listing.to_vec())
             }
-            if self.number % KEPT_EVERY == 0 && judged.source == Source::Rust && judged.answer.kind < 2 {
-                self.kept += 1;
+            if shown && judged.answer.kind < 2 {
+                side.kept += 1;
                 if kept_differ(listing) {
-                    self.within.push(listing.to_vec())
+                    side.listings.push(listing.to_vec())
                 }
             }
             if self.number % 100 == 0 && ours::verify_short(listing) != Ok(SHORT) {
-                self.outside.push(listing.to_vec())
+                self.outside.listings.push(listing.to_vec())
             }
         }
 
         pub fn close(&self, compared: u64) {
-            println!(
-                "{compared} compared, of {} the kept states too; {} differ; outside {} differ",
-                self.kept,
-                self.within.len(),
-                self.outside.len()
-            );
-            for (name, found, domain) in [("compared", &self.within, true), ("outside", &self.outside, false)]
-            {
-                let Some(smallest) = found.iter().min_by_key(|l| l.len()) else { continue };
+            let Differing { within, outside, .. } = self;
+            let count = |side: &Side| side.listings.len();
+            println!("{compared} compared, of {} the kept states too; {} differ", within.kept, count(within));
+            let kept = format!("with the kept states of {} runs with crossings", outside.kept);
+            println!("outside, {kept}: {} differ", count(outside));
+            for (name, side, domain) in [("compared", within, true), ("outside", outside, false)] {
+                let Some(smallest) = side.listings.iter().min_by_key(|l| l.len()) else { continue };
                 let smallest = shrink(smallest, |l| {
                     let judged = judge(l);
                     (judged.source == Source::Rust) == domain
-                        && (differs(l, &judged) || domain && kept_differ(l))
+                        && (differs(l, &judged) || (domain || judged.crossed) && kept_differ(l))
                 });
                 println!("smallest ({name}): {}", hex(&smallest));
                 println!("  the oracle: {:?}", judge(&smallest));
                 println!("  ours: {:?}", ours::verify(&smallest))
             }
-            if !self.within.is_empty() || !self.outside.is_empty() {
+            if count(within) + count(outside) > 0 {
                 std::process::exit(1)
             }
         }

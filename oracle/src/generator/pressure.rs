@@ -505,7 +505,47 @@ pub fn exchange(rng: &mut Rng) -> Draft {
         let lent = rng.below(references) as u8;
         parts[0].code.splice(0..0, [CopyLoc(lent), field(2, true), StLoc(locals as u8 - 1)]);
     }
-    Draft { parameters: vec![2; references], locals: locals as u8, returns: vec![], parts }
+    let mut held: Vec<Option<usize>> = (0..locals).map(|l| (l < references).then_some(l)).collect();
+    from[..moved].iter().for_each(|l| held[*l] = None);
+    to.iter().zip(from[..moved].iter().rev()).for_each(|(l, name)| held[*l] = Some(*name));
+    let below = |l: usize| held[l].is_some_and(|name| name < l);
+    let crosses = (0..locals).any(|l| below(l) && held.contains(&Some(l)));
+    let mut draft = Draft { parameters: vec![2; references], locals: locals as u8, returns: vec![], parts };
+    if crosses && !draft.parts[0].successors.is_empty() {
+        let present: Vec<u8> = (0..locals).filter(|l| held[*l].is_some()).map(|l| l as u8).collect();
+        crossing(rng, &mut draft, &present)
+    }
+    draft
+}
+
+/// What a crossing does to mutability and edges shows in the answer: references of both kinds, a part before that lends
+/// fields of some to others, and uses in the part after. No step before the crossing fails, so the run comes to it.
+fn crossing(rng: &mut Rng, draft: &mut Draft, present: &[u8]) {
+    let references = draft.parameters.len();
+    draft.parameters.iter_mut().for_each(|token| *token = rng.pick(&[1, 2, 2]));
+    let after = &mut draft.parts[1];
+    after.code = (0..rng.between(1, 3)).flat_map(|_| used(rng, present)).collect();
+    after.code.push(if after.successors.is_empty() { Ret } else { NOTHING });
+    let lend = |number: usize| {
+        let from = rng.below(references);
+        let to = (from + rng.between(1, references - 1)) % references;
+        [CopyLoc(from as u8), field(number, rng.percent(60)), StLoc(to as u8)]
+    };
+    let before: Vec<Instruction> = (1..=3).flat_map(lend).collect();
+    draft.parts.iter_mut().flat_map(|part| &mut part.successors).for_each(|to| *to += 1);
+    draft.parts.insert(0, part(before, if rng.percent(30) { &[1, 2] } else { &[1] }))
+}
+
+fn used(rng: &mut Rng, present: &[u8]) -> Vec<Instruction> {
+    let l = rng.pick(present);
+    match rng.below(8) {
+        0..=2 => vec![LOAD, CopyLoc(l), WriteRef],
+        3 => vec![CopyLoc(l), ReadRef, Pop],
+        4 => vec![CopyLoc(l), FreezeRef, Pop],
+        5 => vec![CopyLoc(l), field(rng.between(1, 3), rng.percent(50)), Pop],
+        6 => vec![MoveLoc(l), call(1, &[], &[2]), StLoc(l)],
+        _ => vec![MoveLoc(l), Pop],
+    }
 }
 
 fn shuffle(rng: &mut Rng, items: &mut [usize]) {

@@ -1,5 +1,5 @@
 //! Stand-in for move-borrow-graph's shared.rs, which document 000 lacks. Pairs are taken one by one, ascending by
-//! old name; where document 01 gives no 16 every order and the simultaneous change agree.
+//! old name, as in graph.rs; without a crossing (document 01's condition) this changes all names together.
 
 use std::collections::{BTreeMap, BTreeSet};
 

@@ -11,10 +11,10 @@ use lib.ListN.{getD, length, take, drop, length-take, length-drop}
 use Rattle.meaning.specs.Limits.{areaWords}
 use Rattle.meaning.specs.Answers.{Ans, ok, refuse, Outcome, done, violated, refused}
 use Rattle.meaning.specs.Lists.{empty}
-use Rattle.meaning.specs.AbstractState.{State, Operand, canonical, join, changed, joinBlurs}
+use Rattle.meaning.specs.AbstractState.{State, Operand, join, changed, joinBlurs}
 use Rattle.meaning.specs.EntryPoints.{Running}
 use Rattle.meaning.specs.Steps.{Instr, Machine, step}
-use Rattle.meaning.specs.Blocks.{Routine, machineAt, runFrom, finish, settle, endOf, renamedEnd, exec, runBlock, instrsOf, startMachine}
+use Rattle.meaning.specs.Blocks.{Routine, machineAt, runFrom, finish, settle, endOf, exec, runBlock, instrsOf, startMachine}
 use Rattle.meaning.specs.Loop.{mostVisits, Failure, verdictFor, Result, Block, noBlock, Next, at, stopped, Run, Slot, Propagation, propagate, afterChange, afterJoin, toKept, toSuccessor, afterBlock, turnAt, turns, blank, Verdict, accept, violation, refusal, lowest, verdictAt, verdict, run}
 use Rattle.meaning.specs.Listing.{Places, Listed, read, ifFine, ifNot, putAt, fullFor, placesFrom, faultAt, kindAt, nextAt, bodyAt, localsOf, faultyBlock, strayRet, firstOf, ruled, routineAt, afterRecords, noPlaces, readPlaces, readListing}
 use Rattle.meaning.specs.Verify.{runOf, verify, answerTo}
@@ -116,13 +116,9 @@ LowResult m (Result.violated k c o a) = Unit {0}
 LowResult m (Result.refused n p) = p ≤ m
 
 module _ (returns : ℕ) (b : Block) (m : ℕ) (exit : b .exit ≤ m) where
-  low-renamed : (k : ℕ) (a : Ans State) → LowResult m (renamedEnd k (b .exit) a)
-  low-renamed k (ok t) = tt
-  low-renamed k (refuse n) = exit
-
   low-end : (es : List ℕ) (r : Running) → LowResult m (endOf b es r)
   low-end [] r = tt
-  low-end (e ∷ es) r = low-renamed (r .blurs) (canonical (r .root) (record { locals = r .locals; graph = r .graph }))
+  low-end (e ∷ es) r = tt
 
   low-finish : (r : Running) (vs : List Operand) → LowResult m (finish b r vs)
   low-finish r [] = low-end (b .successors) r

@@ -1,4 +1,5 @@
--- A block's run from a state of the strong form ends in one, and is never refused with 8, 9 or 23. So the loop's theorems hold for the blocks of a routine.
+-- A block's run from a state of the strong form ends in one, and is never refused with 8, 9, 16 or 23. So the loop's theorems hold for the blocks of a
+-- routine.
 use Prim.Native.Nat.{ℕ, zero, suc, _≤_, _<_, zero-le, _+_, _*_, _-_}
 use native.Mathlib.Omega.{arith}
 use mathlib.Core.Bool.{true, false, Bool, not, _&&_, _||_, false≢true}
@@ -7,22 +8,23 @@ use mathlib.Core.Logic.{_⊎_, inl, inr, _≢_}
 use mathlib.Core.Path.{_≡_, sym, ap, refl, subst, _∙_}
 use lib.Dec.{eqb, leb, ltb}
 use lib.ListN.{getD, length, List·getD-eq-default, take, drop}
-use Rattle.meaning.specs.Answers.{ok, guard, ordinary, Outcome, Ans, refuse}
+use Rattle.meaning.specs.Answers.{ordinary, Outcome}
 use Rattle.meaning.specs.Lists.{all, empty}
-use Rattle.meaning.specs.BorrowGraph.{held, Graph, renamed}
-use Rattle.meaning.specs.AbstractState.{Local, absent, value, ref, count1, State, Form, canonical, crosses, newNameOf, ownNames, Operand}
+use Rattle.meaning.specs.BorrowGraph.{held, Graph}
+use Rattle.meaning.specs.AbstractState.{Local, absent, value, ref, count1, State, Form, canonical, Operand}
 use Rattle.meaning.specs.EntryPoints.{localNames, Running}
 use Rattle.meaning.specs.Steps.{Machine, Instr, step, isRet}
-use Rattle.meaning.specs.Blocks.{startMachine, machineAt, settle, renamedEnd, endOf, finish, runFrom, instrsOf, Routine, runBlock, exec}
+use Rattle.meaning.specs.Blocks.{startMachine, machineAt, settle, endOf, finish, runFrom, instrsOf, Routine, runBlock, exec}
 use Rattle.meaning.specs.Loop.{Result, Block, noBlock}
 use Rattle.meaning.specs.Laws.Base.{decide, eqb-eq, leb-le, leb-gt, eqb-self, both, eqb-no, and-l, and-r, and-i}
-use Rattle.meaning.specs.Laws.Forms.{Strong, Open}
-use Rattle.meaning.specs.Laws.Own.{times, count-no, count-le, count-yes, Owns, owns-held, owns-root, owns-once, fair}
+use Rattle.meaning.specs.Laws.Forms.{Strong, Open, Settled}
+use Rattle.meaning.specs.Laws.Own.{times, count-no, count-le, count-yes, Owns, owns-held, owns-root, owns-once}
 use Rattle.meaning.specs.Laws.Promised.{withinFrame, retsPlaced, promised}
 use Rattle.meaning.specs.Laws.Rename.{canonical-form, canonical-holds}
 use Rattle.meaning.specs.Laws.Running.{Meets, met, broke, barred}
 use Rattle.meaning.specs.Laws.State.{absent≢ref, value≢ref, ref-inj, name-le}
 use Rattle.meaning.specs.Laws.Step.{local-use, Good, Fine, good-less, step-fine, any-ret}
+use Rattle.meaning.specs.Refinement.InTurn.{runTo}
 
 -- ---- references in locals
 
@@ -137,12 +139,13 @@ owns-open l m ls g next b c o = record { count = c; small = omega arith; formed 
         let d : count1 (held g n) ≡ 1 = count-yes h in
         decide (eqb n l) (λ q. inl (eqb-eq {m = n} {n = l} q)) (λ q. let f : count1 (eqb n l) ≡ 0 = count-no q in inr (local-found ls n (omega arith)))
 
-canonical-strong : (l m : ℕ) (ls : List Local) (g : Graph) (next : ℕ) (t : State) → l ≤ 16 → length ls ≡ l → Owns l g next (localNames ls) m → canonical l (record { locals = ls; graph = g }) ≡ ok t → Strong l t
-canonical-strong l m ls g next t b c o e =
-    let s : State = record { locals = ls; graph = g } in
-    let op : Open l s = owns-open l m ls g next b c o in
-    let z = canonical-holds l s t op e (owns-root l g next (localNames ls) m o) inUse (λ i j n p q. local-unique ls n (once n) i j p q) in
-    record { form = canonical-form l s t op e; root = z .0; refs = z .1 }
+pub owns-settled : (l m : ℕ) (ls : List Local) (g : Graph) (next : ℕ) → l ≤ 16 → length ls ≡ l → Owns l g next (localNames ls) m → Settled l (record { locals = ls; graph = g })
+owns-settled l m ls g next b c o = record {
+  opened = owns-open l m ls g next b c o;
+  root = owns-root l g next (localNames ls) m o;
+  refs = inUse;
+  once = λ i j n p q. local-unique ls n (once n) i j p q;
+}
   where
     once : (n : ℕ) → times n (localNames ls) ≤ 1
     once n = let a : times n (l ∷ localNames ls) ≤ 1 = owns-once l g next (localNames ls) m o n in omega arith
@@ -153,71 +156,96 @@ canonical-strong l m ls g next t b c o e =
         let a : times n (l ∷ localNames ls) ≤ 1 = owns-once l g next (localNames ls) m o n in
         ((λ w. let d : count1 (eqb n l) ≡ 1 = count-yes (subst (λ (k : ℕ). eqb n k ≡ true) w (eqb-self n)) in omega arith), owns-held l g next (localNames ls) m o n (omega arith))
 
-canonical-fair : (l : ℕ) (s : State) → fair (canonical l s) ≡ true
-unfolding canonical
-canonical-fair l s = go (not (crosses (s .locals) 0 (s .locals))) (record { locals = ownNames 0 (s .locals); graph = renamed (newNameOf l (s .locals)) (s .graph) })
-  where
-    go : (b : Bool) (t : State) → fair (guard b 16 (ok t)) ≡ true
-    go true t = refl
-    go false t = refl
+canonical-strong : (l : ℕ) (s : State) → Settled l s → Strong l (canonical l s)
+canonical-strong l s h = let z = canonical-holds l s h in record { form = canonical-form l s (h .opened); root = z .0; refs = z .1 }
 
--- the end state has the property; a refusal is not 8, 9 or 23
+-- the end state has the property; a refusal is an ordinary one
 pub data Ends (P : State → Type 0) : Result State → Type 0 where
   ends : {k : ℕ} {t : State} → P t → Ends P (Result.ended k t)
   leaves : {k : ℕ} → Ends P (Result.returned k)
   breaks : {k c o a : ℕ} → Ends P (Result.violated k c o a)
   bars : {n p : ℕ} → ordinary n ≡ true → Ends P (Result.refused n p)
 
-settle-ends : {P : Machine → Type 0} {Q : State → Type 0} (o : ℕ) {a : Outcome Machine} (k : Machine → Result State) → Meets P a → ((x : Machine) → P x → Ends Q (k x)) → Ends Q (settle o a k)
-settle-ends o k (met {a} p) f = f a p
-settle-ends o k broke f = breaks
-settle-ends o k (barred e) f = bars e
+-- Two runs of a block that differ only by its end, x or y: their results are related by R, if its ends are.
+module _ (l : ℕ) (small : l ≤ 16) (returns : ℕ) (b : Block) (x y : Running → List Operand → Result State) (R : Result State → Result State → Type 0)
+    (violates : (k c o a : ℕ) → R (Result.violated k c o a) (Result.violated k c o a)) (refuses : (n o : ℕ) → ordinary n ≡ true → R (Result.refused n o) (Result.refused n o))
+    (at-end : (m : ℕ) (r : Running) (vs : List Operand) → Good l m vs r → R (x r vs) (y r vs))
+    (at-ret : (r : Running) (vs : List Operand) → empty (b .successors) ≡ true → R (x r vs) (y r vs)) where
+  settle-relates : {P : Machine → Type 0} (o : ℕ) {a : Outcome Machine} (k h : Machine → Result State) → Meets P a → ((n : Machine) → P n → R (k n) (h n)) → R (settle o a k) (settle o a h)
+  settle-relates o k h (met {a} p) f = f a p
+  settle-relates o k h (broke {k = n} {c} {o = at}) f = violates n c o at
+  settle-relates o k h (barred {n} e) f = refuses n o e
 
-renamedEnd-ends : {Q : State → Type 0} (k exit : ℕ) (a : Ans State) → fair a ≡ true → ((t : State) → a ≡ ok t → Q t) → Ends Q (renamedEnd k exit a)
-renamedEnd-ends k exit (ok t) f h = ends (h t refl)
-renamedEnd-ends k exit (refuse n) f h = bars f
-
-module _ (l : ℕ) (small : l ≤ 16) (returns : ℕ) (b : Block) where
-  finish-ends : (m : ℕ) (r : Running) (vs : List Operand) → Good l m vs r → Ends (Strong l) (finish b r vs)
-  finish-ends m r (v ∷ vs) h = bars refl
-  finish-ends m r [] h = go (b .successors)
-    where
-      go : (es : List ℕ) → Ends (Strong l) (endOf b es r)
-      go [] = leaves
-      go (e ∷ es) = renamedEnd-ends (r .blurs) (b .exit) (canonical (r .root) (record { locals = r .locals; graph = r .graph })) (canonical-fair (r .root) (record { locals = r .locals; graph = r .graph }))
-          (λ t q. canonical-strong l m (r .locals) (r .graph) (r .next) t small (h .count) (h .keeps .own)
-          (subst (λ (k : ℕ). canonical k (record { locals = r .locals; graph = r .graph }) ≡ ok t) (h .keeps .root) q))
-
-  -- after a return: nothing is left to do, and nobody gets a state
-  after-ret : (o : ℕ) (is : List Instr) (m : Machine) → empty is ≡ true → empty (b .successors) ≡ true → Ends (Strong l) (runFrom returns b o is m)
-  unfolding runFrom
+  -- after a return nothing is left to do, and nobody gets a state
+  after-ret : (o : ℕ) (is : List Instr) (m : Machine) → empty is ≡ true → empty (b .successors) ≡ true → R (runTo x returns o is m) (runTo y returns o is m)
+  unfolding runTo
   after-ret o (i ∷ is) m p q = absurd (false≢true p)
-  after-ret o [] m p q = go (m .stack) (b .successors) q
-    where
-      go₁ : (es : List ℕ) → empty es ≡ true → Ends (Strong l) (endOf b es (m .state))
-      go₁ [] w = leaves
-      go₁ (e ∷ es) w = absurd (false≢true w)
+  after-ret o [] m p q = at-ret (m .state) (m .stack) q
 
-      go : (vs : List Operand) (es : List ℕ) → empty (b .successors) ≡ true → Ends (Strong l) (finish b (m .state) vs)
-      go [] es w = go₁ (b .successors) w
-      go (v ∷ vs) es w = bars refl
-
-  runFrom-ends : (o : ℕ) (is : List Instr) (k : ℕ) (m : Machine) → all (withinFrame l) is ≡ true → retsPlaced (b .successors) is ≡ true → Fine l k m → 17 * length is ≤ k → Ends (Strong l) (runFrom returns b o is m)
-  unfolding runFrom retsPlaced step
-  runFrom-ends o [] k m f p h c = finish-ends k (m .state) (m .stack) (h .good)
-  runFrom-ends o (i ∷ is) k m f p h c =
+  pub run-relates : (o : ℕ) (is : List Instr) (k : ℕ) (m : Machine) → all (withinFrame l) is ≡ true → retsPlaced (b .successors) is ≡ true → Fine l k m → 17 * length is ≤ k
+      → R (runTo x returns o is m) (runTo y returns o is m)
+  unfolding runTo retsPlaced step
+  run-relates o [] k m f p h c = at-end k (m .state) (m .stack) (h .good)
+  run-relates o (i ∷ is) k m f p h c =
       let p₁ : not (isRet i) || (empty is && empty (b .successors)) ≡ true = and-l (not (isRet i) || (empty is && empty (b .successors))) (retsPlaced (b .successors) is) p in
       let p₂ : retsPlaced (b .successors) is ≡ true = and-r (not (isRet i) || (empty is && empty (b .successors))) (retsPlaced (b .successors) is) p in
       let e : length (i ∷ is) ≡ suc (length is) = refl in
       decide (isRet i)
-      (λ q. let w : empty is && empty (b .successors) ≡ true = subst (λ (x : Bool). not x || (empty is && empty (b .successors)) ≡ true) q p₁ in
-      settle-ends o (λ n. runFrom returns b (suc o) is n)
+      (λ q. let w : empty is && empty (b .successors) ≡ true = subst (λ (z : Bool). not z || (empty is && empty (b .successors)) ≡ true) q p₁ in
+      settle-relates o (λ n. runTo x returns (suc o) is n) (λ n. runTo y returns (suc o) is n)
       (any-ret l small returns i q k (m .stack) (machineAt o m .state) (at-good l o k m (h .good)))
       (λ n u. after-ret (suc o) is n (and-l (empty is) (empty (b .successors)) w) (and-r (empty is) (empty (b .successors)) w)))
-      (λ q. settle-ends o (λ n. runFrom returns b (suc o) is n)
+      (λ q. settle-relates o (λ n. runTo x returns (suc o) is n) (λ n. runTo y returns (suc o) is n)
       (step-fine l small returns i (m .stack) (17 * length is) (machineAt o m .state) (and-l (withinFrame l i) (all (withinFrame l) is) f) q
       (good-less l small k (17 * length is + 17) (m .stack) (machineAt o m .state) (at-good l o k m (h .good)) (omega arith)) (h .few))
-      (λ n u. runFrom-ends (suc o) is (17 * length is) n (and-r (withinFrame l i) (all (withinFrame l) is) f) p₂ u (omega arith)))
+      (λ n u. run-relates (suc o) is (17 * length is) n (and-r (withinFrame l i) (all (withinFrame l) is) f) p₂ u (omega arith)))
+
+pub run-to : (returns : ℕ) (b : Block) (o : ℕ) (is : List Instr) (m : Machine) → runFrom returns b o is m ≡ runTo (finish b) returns o is m
+unfolding runFrom runTo
+run-to returns b o [] m = refl
+run-to returns b o (i ∷ is) m = λ j. settle o (step returns i (machineAt o m)) (λ n. run-to returns b (suc o) is n j)
+
+ends-with : {P Q : State → Type 0} {a : Result State} → ((t : State) → P t → Q t) → Ends P a → Ends Q a
+ends-with f (ends {t} p) = ends (f t p)
+ends-with f leaves = leaves
+ends-with f breaks = breaks
+ends-with f (bars e) = bars e
+
+-- a state with its names changed at a block's end
+pub record Ended (l : ℕ) (t : State) : Type 0 where
+  pub before : State
+  pub settled : Settled l before
+  pub renamed : canonical l before ≡ t
+
+module _ (l : ℕ) (small : l ≤ 16) (returns : ℕ) (b : Block) where
+  finish-ends : (m : ℕ) (r : Running) (vs : List Operand) → Good l m vs r → Ends (Ended l) (finish b r vs)
+  finish-ends m r (v ∷ vs) h = bars refl
+  finish-ends m r [] h = go (b .successors)
+    where
+      s : State
+      s = record { locals = r .locals; graph = r .graph }
+
+      go : (es : List ℕ) → Ends (Ended l) (endOf b es r)
+      go [] = leaves
+      go (e ∷ es) = ends (record {
+        before = s;
+        settled = owns-settled l m (r .locals) (r .graph) (r .next) small (h .count) (h .keeps .own);
+        renamed = ap (λ (k : ℕ). canonical k s) (sym (h .keeps .root));
+      })
+
+  -- nobody gets a state
+  return-ends : (r : Running) (vs : List Operand) → empty (b .successors) ≡ true → Ends (Ended l) (finish b r vs)
+  return-ends r (v ∷ vs) w = bars refl
+  return-ends r [] w = go (b .successors) w
+    where
+      go : (es : List ℕ) → empty es ≡ true → Ends (Ended l) (endOf b es r)
+      go [] w = leaves
+      go (e ∷ es) w = absurd (false≢true w)
+
+  runFrom-ends : (o : ℕ) (is : List Instr) (k : ℕ) (m : Machine) → all (withinFrame l) is ≡ true → retsPlaced (b .successors) is ≡ true → Fine l k m → 17 * length is ≤ k → Ends (Ended l) (runFrom returns b o is m)
+  runFrom-ends o is k m f p h c =
+      subst (Ends (Ended l)) (sym (run-to returns b o is m))
+      (run-relates l small returns b (finish b) (finish b) (λ u v. Ends (Ended l) u) (λ n d a e. breaks) (λ n a e. bars e) finish-ends return-ends o is k m f p h c)
 
 -- ---- the blocks of a routine
 
@@ -287,14 +315,19 @@ enters q h i s strong =
       fine = record { good = start-good (q .locals) (17 * length is) s (omega arith) strong; few = zero-le };
     }
 
--- What running a block answers: an end state of the strong form; a violation; or a refusal that is not 8, 9 or 23.
-pub exec-ends : (q : Routine) → promised q ≡ true → (i : ℕ) (s : State) → Strong (q .locals) s → Ends (Strong (q .locals)) (exec q i s)
+-- What running a block answers: a state with its names changed; a violation; or a refusal that is not 8, 9, 16 or 23.
+exec-ended : (q : Routine) → promised q ≡ true → (i : ℕ) (s : State) → Strong (q .locals) s → Ends (Ended (q .locals)) (exec q i s)
 unfolding exec runBlock
-exec-ends q h i s strong =
+exec-ended q h i s strong =
     let b : Block = getD (q .blocks) i noBlock in
     let is : List Instr = instrsOf b (q .code) in
     let e : Enters q b is s = enters q h i s strong in
     runFrom-ends (q .locals) (e .small) (q .returns) b (b .entry) is (17 * length is) (startMachine (q .locals) s) (e .within) (e .placed) (e .fine) (omega arith)
+
+-- such a state has the strong form
+pub exec-ends : (q : Routine) → promised q ≡ true → (i : ℕ) (s : State) → Strong (q .locals) s → Ends (Strong (q .locals)) (exec q i s)
+exec-ends q h i s strong =
+    ends-with (λ t z. subst (Strong (q .locals)) (z .renamed) (canonical-strong (q .locals) (z .before) (z .settled))) (exec-ended q h i s strong)
 
 abbrev isEnded : Result State → Type 0
 isEnded (Result.ended k v) = Unit {0}
@@ -332,7 +365,11 @@ ends-refused leaves n o e = absurd (subst isRefused (sym e) tt)
 ends-refused breaks n o e = absurd (subst isRefused (sym e) tt)
 ends-refused (bars {n = k} w) n o e = subst (λ (j : ℕ). ordinary j ≡ true) (ap (fromRefused n) e) w
 
--- no block's run is refused with 8, 9 or 23
+-- what a block hands on
+pub exec-hands : (q : Routine) → promised q ≡ true → (i k : ℕ) (s t : State) → exec q i s ≡ Result.ended k t → Strong (q .locals) s → Ended (q .locals) t
+exec-hands q h i k s t e f = ends-at (exec-ended q h i s f) k t e
+
+-- no block's run is refused with 8, 9, 16 or 23
 pub exec-refuses : (q : Routine) → promised q ≡ true → (i : ℕ) (s : State) (n o : ℕ) → exec q i s ≡ Result.refused n o → Strong (q .locals) s → ordinary n ≡ true
 exec-refuses q h i s n o e f = ends-refused (exec-ends q h i s f) n o e
 

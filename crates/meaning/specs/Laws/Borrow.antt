@@ -8,7 +8,7 @@ use mathlib.Core.Path.{_≡_, sym, subst, refl, _∙_, ap}
 use lib.Dec.{leb, eqb, ltb}
 use lib.ListN.{length}
 use Rattle.meaning.specs.Answers.{ok, andThen, guard}
-use Rattle.meaning.specs.Lists.{all, keep}
+use Rattle.meaning.specs.Lists.{any, all, keep}
 use Rattle.meaning.specs.References.{Edge, EdgeSet, ordered, emptySet, ltEdge, weakest, eqEdge, isBlur, short, setOk}
 use Rattle.meaning.specs.BorrowGraph.{GEdge, union, one, eqPair, setAt, Graph, pairOk, onPairs, wellFormed, addAll, limit, between, borrowWeak, holds, moves, shift, borrowStrong, Name, putName, ascending, held, newName}
 use Rattle.meaning.specs.Laws.Base.{and-l, and-r, and-i, or-l, or-r, or-cases, decide, leb-le, le-leb, all-keep, andThen-ok, guard-ok, all-append, all-imp, all-and, eqb-ne, leb-gt, ok-inj, not-true}
@@ -182,19 +182,23 @@ borrowStrong-law g p path c o h e =
 
 -- ---- a new name
 
-pub holds-place : (a : Name) (ns : List Name) (k : ℕ) → holds (putName a ns) k ≡ eqb k (a .id) || holds ns k
-unfolding putName holds
-holds-place a [] k = refl
-holds-place a (b ∷ bs) k = go (ltb (a .id) (b .id)) (holds-place a bs k)
+pub any-place : (p : Name → Bool) (a : Name) (ns : List Name) → any p (putName a ns) ≡ p a || any p ns
+unfolding putName
+any-place p a [] = refl
+any-place p a (b ∷ bs) = go (ltb (a .id) (b .id)) (any-place p a bs)
   where
     swap : (x y z : Bool) → x || (y || z) ≡ y || (x || z)
     swap true true z = refl
     swap true false z = refl
     swap false y z = refl
 
-    go : (d : Bool) → holds (putName a bs) k ≡ eqb k (a .id) || holds bs k → holds (cond d (a ∷ b ∷ bs) (b ∷ putName a bs)) k ≡ eqb k (a .id) || holds (b ∷ bs) k
+    go : (d : Bool) → any p (putName a bs) ≡ p a || any p bs → any p (cond d (a ∷ b ∷ bs) (b ∷ putName a bs)) ≡ p a || any p (b ∷ bs)
     go true h = refl
-    go false h = ap (λ (z : Bool). eqb k (b .id) || z) h ∙ swap (eqb k (b .id)) (eqb k (a .id)) (holds bs k)
+    go false h = ap (λ (x : Bool). p b || x) h ∙ swap (p b) (p a) (any p bs)
+
+pub holds-place : (a : Name) (ns : List Name) (k : ℕ) → holds (putName a ns) k ≡ eqb k (a .id) || holds ns k
+unfolding holds
+holds-place a ns k = any-place (λ m. eqb k (m .id)) a ns
 
 pub length-place : (a : Name) (ns : List Name) → length (putName a ns) ≡ suc (length ns)
 unfolding putName

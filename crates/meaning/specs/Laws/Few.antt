@@ -13,10 +13,10 @@ use Rattle.meaning.specs.Answers.{Ans, ok, refuse, andThen, guard, Outco
 use Rattle.meaning.specs.Lists.{all, keep, empty}
 use Rattle.meaning.specs.Labels.{fieldLabel, localLabel, globalLabel}
 use Rattle.meaning.specs.BorrowGraph.{Graph, GEdge, between, pairOk, moves, shift, spliced, without, addAll, newlyBlurred, limit, release, newName, borrowWeak, borrowStrong, wellFormed, held, isMutable, borrows, borrowsMutably, lowestOf}
-use Rattle.meaning.specs.AbstractState.{State, canonical, Local, absent, value, ref, Operand, nonRef, reference, Token, ofValue, ofRef}
+use Rattle.meaning.specs.AbstractState.{State, Local, absent, value, ref, Operand, nonRef, reference, Token, ofValue, ofRef}
 use Rattle.meaning.specs.EntryPoints.{Running, Answer, Answers, countOn, withLocal, answer, fails, barsReading, barsHandingOver, barsLocalBorrow, barsFieldBorrow, barsResourceBorrow, needsName, newRef, onGraph, addCopy, addBorrow, addFieldBorrow, addLocalBorrow, addResourceBorrow, releaseName, valueFor, releaseValue, copyOf, copyLoc, moveOf, moveLoc, localOf, overwrite, stLoc, freezeRef, comparison, readRef, writeRef, borrowLoc, borrowField, borrowGlobal, moveFrom, vectorTest, vectorOp, vectorElementBorrow, operandNames, localNames, putNumber, ascend, releaseAll, borrowFrom, handOver, noneBorrowed, notAcquired, parentsOf, returnValues, call, ret}
 use Rattle.meaning.specs.Steps.{Machine, Instr, Pop, CopyLoc, MoveLoc, StLoc, FreezeRef, Compare, ReadRef, WriteRef, BorrowLoc, BorrowField, BorrowGlobal, MoveFrom, Call, Ret, Values, MoveTo, VectorOp, BorrowElement, pop, popRef, popValue, popValues, popMany, push, pushed, pushAll, pushNew, unchanged, stepOn, step, isRet}
-use Rattle.meaning.specs.Blocks.{Routine, machineAt, settle, renamedEnd, endOf, finish, runFrom, instrsOf, runBlock, exec, startMachine}
+use Rattle.meaning.specs.Blocks.{Routine, machineAt, settle, endOf, finish, runFrom, instrsOf, runBlock, exec, startMachine}
 use Rattle.meaning.specs.Loop.{Result, Block, noBlock, passedUp}
 use Rattle.meaning.specs.Laws.Add.{keep-few}
 use Rattle.meaning.specs.Laws.Base.{guard-ok, andThen-ok, leb-le, decide, and-l, and-r}
@@ -456,13 +456,9 @@ module _ (l : ℕ) (small : l ≤ 16) (returns : ℕ) (b : Block) where
   finish-few r (v ∷ vs) = zero-le
   finish-few r [] = go (b .successors)
     where
-      renamed : (a : Ans State) → passedUp (renamedEnd (r .blurs) (b .exit) a) ≤ r .blurs
-      renamed (ok t) = le-refl (r .blurs)
-      renamed (refuse n) = zero-le
-
       go : (es : List ℕ) → passedUp (endOf b es r) ≤ r .blurs
       go [] = le-refl (r .blurs)
-      go (e ∷ es) = renamed (canonical (r .root) (record { locals = r .locals; graph = r .graph }))
+      go (e ∷ es) = le-refl (r .blurs)
 
   -- after a return
   after-few : (o : ℕ) (is : List Instr) (m : Machine) → empty is ≡ true → passedUp (runFrom returns b o is m) ≤ m .state .blurs

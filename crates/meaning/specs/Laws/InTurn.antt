@@ -1,4 +1,4 @@
--- Without a crossing (16), renaming one by one is renaming together.
+-- Where no names cross, renaming one by one is renaming together.
 use Prim.Native.Nat.{ℕ, _≤_, _<_, suc, zero, _+_}
 use native.Mathlib.Omega.{arith}
 use mathlib.Core.Bool.{Bool, true, cond, false, false≢true, _||_, true≢false, _&&_, not}
@@ -8,22 +8,25 @@ use mathlib.Core.Option.{Option, none, some}
 use mathlib.Core.Path.{_≡_, sym, subst, ap, refl, _∙_}
 use lib.Dec.{eqb, ltb, leb}
 use lib.ListN.{getD, length}
-use Rattle.meaning.specs.Answers.{ok}
 use Rattle.meaning.specs.Lists.{all, any}
-use Rattle.meaning.specs.BorrowGraph.{Name, holds, ascending, putName, withId, renameNames, Graph, renamed}
-use Rattle.meaning.specs.AbstractState.{count1, Local, absent, ref, eqLocal, crossed, crosses, State, newNameOf, ownNames, canonical}
+use Rattle.meaning.specs.BorrowGraph.{Name, GEdge, Graph, holds, held, eqPair, union, one, setAt, ascending, pairOk, wellFormed, putName, withId, renameNames, renameEdges, renamed}
+use Rattle.meaning.specs.References.{emptySet}
+use Rattle.meaning.specs.AbstractState.{count1, Local, absent, ref, eqLocal, State, newNameOf, ownNames, canonical}
 use Rattle.meaning.specs.EntryPoints.{putNumber, ascend, localNames}
-use Rattle.meaning.specs.Laws.Base.{both, or-cases, decide, and-l, and-r, eqb-no, leb-le, eqb-eq, eqb-self, leb-gt, eqb-ne, or-l, or-r, le-leb, and-i, guard-ok, ok-inj, not-true}
+use Rattle.meaning.specs.Laws.Base.{both, or-cases, decide, and-l, and-r, eqb-no, leb-le, eqb-eq, eqb-self, leb-gt, eqb-ne, or-l, or-r, le-leb, and-i}
 use Rattle.meaning.specs.Laws.Block.{local-found, owns-open}
 use Rattle.meaning.specs.Laws.Borrow.{ascending-place}
 use Rattle.meaning.specs.Laws.Call.{ascending-keep}
 use Rattle.meaning.specs.Laws.Forms.{Open}
-use Rattle.meaning.specs.Laws.Graph.{wf→inv}
+use Rattle.meaning.specs.Laws.Canon.{Lone, edges-ext, setOk-lone}
+use Rattle.meaning.specs.Laws.Graph.{at-or-empty, Inv, wf→inv}
+use Rattle.meaning.specs.Laws.InTurnEdges.{parents-step, children-turn}
+use Rattle.meaning.specs.Laws.Overwrite.{putOver, in-front, Apart, Midway, midway-start, midway-next, midway-skip, renamed-at, nothing-at}
 use Rattle.meaning.specs.Laws.Own.{times, count-yes, count-no, count-le, Owns, owns-once}
-use Rattle.meaning.specs.Laws.Rename.{same-test, names-hold, names-ascend, place, apart, small, found}
+use Rattle.meaning.specs.Laws.Rename.{place-set, rename-order, same-test, rename-set, rename-inv, names-hold, hold-names, names-ascend, place, apart, small, found}
 use Rattle.meaning.specs.Laws.Running.{ascend-times}
 use Rattle.meaning.specs.Laws.State.{absent≢ref}
-use Rattle.meaning.specs.Refinement.InTurn.{flagOf, dropName, moved, inTurn, remapped}
+use Rattle.meaning.specs.Refinement.InTurn.{flagOf, childrenInTurn, dropName, moved, inTurn, oneByOne, crossed, crosses, remapped}
 
 -- ---- flags
 
@@ -149,149 +152,86 @@ drop-flag n (b ∷ bs) k = go (eqb n (b .id)) refl (drop-flag n bs k)
     go true e r = r ∙ same (eqb k n) ∙ ap (λ (j : ℕ). cond (eqb k n) none (cond (eqb k j) (some (b .mutable)) (flagOf bs k))) (eqb-eq {m = n} {n = b .id} e)
     go false e r = ap (λ (o : Option Bool). cond (eqb k (b .id)) (some (b .mutable)) o) r ∙ swap e (eqb k (b .id)) (eqb k n) refl refl
 
--- ---- one by one
+-- ---- the names, each with what it lends
 
-in-front : (n : ℕ) (ks : List ℕ) → 1 ≤ times n (n ∷ ks)
-in-front n ks = let c : count1 (eqb n n) ≡ 1 = count-yes (eqb-self n) in omega arith
+module _ (f : ℕ → ℕ) (g : Graph) (inj : (m n : ℕ) → held g m ≡ true → held g n ≡ true → f m ≡ f n → m ≡ n) (little : (n : ℕ) → held g n ≡ true → f n < 65536) where
+  abbrev dom : ℕ → Bool
+  dom n = held g n
 
--- no new name is an old one still to come
-abbrev pub Apart : (ℕ → ℕ) → List ℕ → Type 0
-Apart f [] = Unit {0}
-Apart f (n ∷ ks) = ((m : ℕ) → 1 ≤ times m ks → f n ≢ m) × (Apart f ks)
+  -- cur: the graph after some steps
+  record Halfway (ks : List ℕ) (cur : Graph) : Type 0 where
+    asc : ascending (cur .names) ≡ true
+    flags : Midway none f dom inj (flagOf (g .names)) ks (flagOf (cur .names))
+    sets : (c : ℕ) → Midway emptySet f dom inj (λ p. setAt p c (g .edges)) ks (λ p. setAt p c (cur .edges))
 
-module _ (f : ℕ → ℕ) (ns : List Name) (inj : (m n : ℕ) → holds ns m ≡ true → holds ns n ≡ true → f m ≡ f n → m ≡ n) (little : (n : ℕ) → holds ns n ≡ true → f n < 65536) where
-  -- cur: the names after some moves; ks: the old names still to come
-  record Midway (ks : List ℕ) (cur : List Name) : Type 0 where
-    asc : ascending cur ≡ true
-    once : (n : ℕ) → times n ks ≤ 1
-    toCome : (n : ℕ) → 1 ≤ times n ks → flagOf cur n ≡ flagOf ns n
-    came : (n : ℕ) → holds ns n ≡ true → times n ks ≡ 0 → (flagOf cur (f n) ≡ flagOf ns n) × (times (f n) ks ≡ 0)
-    only : (k : ℕ) → holds cur k ≡ true → (1 ≤ times k ks) ⊎ ((n : ℕ) × (holds ns n ≡ true) × (times n ks ≡ 0) × (k ≡ f n))
+  module _ (n : ℕ) (ks : List ℕ) (cur : Graph) (far : (m : ℕ) → 1 ≤ times m ks → f n ≢ m) (h : Halfway (n ∷ ks) cur) where
+    module _ (b : Bool) (fl : flagOf (cur .names) n ≡ some b) where
+      two : List Name
+      two = dropName (f n) (dropName n (cur .names))
 
-  module _ (n : ℕ) (ks : List ℕ) (cur : List Name) (b : Bool) (far : (m : ℕ) → 1 ≤ times m ks → f n ≢ m) (h : Midway (n ∷ ks) cur) (fl : flagOf cur n ≡ some b) where
-    two : List Name
-    two = dropName (f n) (dropName n cur)
+      next : Graph
+      unfolding two
+      next = moved n (f n) cur (some b)
 
-    next : List Name
-    unfolding two
-    next = putName (record { id = f n; mutable = b }) two
+      mine : held g n ≡ true
+      mine = has-flag (g .names) n b (sym (h .flags .toCome n (in-front n ks)) ∙ fl)
 
-    mine : holds ns n ≡ true
-    mine = has-flag ns n b (sym (h .toCome n (in-front n ks)) ∙ fl)
+      two-flag : (k : ℕ) → flagOf two k ≡ cond (eqb k (f n)) none (cond (eqb k n) none (flagOf (cur .names) k))
+      unfolding two
+      two-flag k = drop-flag (f n) (dropName n (cur .names)) k ∙ ap (λ (o : Option Bool). cond (eqb k (f n)) none o) (drop-flag n (cur .names) k)
 
-    gone : times n ks ≡ 0
-    gone = let a : times n (n ∷ ks) ≤ 1 = h .once n in let c : count1 (eqb n n) ≡ 1 = count-yes (eqb-self n) in omega arith
+      free : flagOf two (f n) ≡ none
+      free = two-flag (f n) ∙ ap (λ (x : Bool). cond x none (cond (eqb (f n) n) none (flagOf (cur .names) (f n)))) (eqb-self (f n))
 
-    two-flag : (k : ℕ) → flagOf two k ≡ cond (eqb k (f n)) none (cond (eqb k n) none (flagOf cur k))
-    unfolding two
-    two-flag k = drop-flag (f n) (dropName n cur) k ∙ ap (λ (o : Option Bool). cond (eqb k (f n)) none o) (drop-flag n cur k)
+      next-flag : (k : ℕ) → flagOf (next .names) k ≡ putOver none n (f n) (flagOf (cur .names)) k
+      unfolding next two
+      next-flag k =
+          place-flag (record { id = f n; mutable = b }) (dropName (f n) (dropName n (cur .names))) k free
+          ∙ ap (λ (o : Option Bool). cond (eqb k (f n)) (some b) o) (two-flag k)
+          ∙ over (eqb k (f n)) (cond (eqb k n) none (flagOf (cur .names) k))
+        where
+          over : (x : Bool) (o : Option Bool) → cond x (some b) (cond x none o) ≡ cond x (flagOf (cur .names) n) o
+          over true o = sym fl
+          over false o = refl
 
-    free : flagOf two (f n) ≡ none
-    free = two-flag (f n) ∙ ap (λ (x : Bool). cond x none (cond (eqb (f n) n) none (flagOf cur (f n)))) (eqb-self (f n))
+      next-set : (c k : ℕ) → setAt k c (next .edges) ≡ putOver emptySet n (f n) (λ p. setAt p c (cur .edges)) k
+      unfolding next
+      next-set c k = parents-step c n (f n) (cur .edges) k
 
-    next-flag : (k : ℕ) → flagOf next k ≡ cond (eqb k (f n)) (some b) (flagOf two k)
-    unfolding next
-    next-flag k = place-flag (record { id = f n; mutable = b }) two k free
+      next-asc : ascending (next .names) ≡ true
+      unfolding next two
+      next-asc =
+          ascending-place (record { id = f n; mutable = b }) (dropName (f n) (dropName n (cur .names))) (le-leb (little n mine)) (none-held (dropName (f n) (dropName n (cur .names))) (f n) free)
+          (ascending-keep (λ m. not (eqb (f n) (m .id))) (dropName n (cur .names)) (ascending-keep (λ m. not (eqb n (m .id))) (cur .names) (h .asc)))
 
-    at-new : flagOf next (f n) ≡ some b
-    at-new = next-flag (f n) ∙ ap (λ (x : Bool). cond x (some b) (flagOf two (f n))) (eqb-self (f n))
+      halfway-next : Halfway ks next
+      halfway-next = record {
+        asc = next-asc;
+        flags = midway-next none f dom inj (flagOf (g .names)) n ks (flagOf (cur .names)) (flagOf (next .names)) far (h .flags) mine next-flag;
+        sets = λ c. midway-next emptySet f dom inj (λ p. setAt p c (g .edges)) n ks (λ p. setAt p c (cur .edges)) (λ p. setAt p c (next .edges)) far (h .sets c) mine (next-set c);
+      }
 
-    elsewhere : (k : ℕ) → k ≢ f n → k ≢ n → flagOf next k ≡ flagOf cur k
-    elsewhere k p q =
-        next-flag k ∙ ap (λ (x : Bool). cond x (some b) (flagOf two k)) (eqb-no {m = k} {n = f n} p) ∙ two-flag k
-        ∙ ap (λ (x : Bool). cond x none (cond (eqb k n) none (flagOf cur k))) (eqb-no {m = k} {n = f n} p)
-        ∙ ap (λ (x : Bool). cond x none (flagOf cur k)) (eqb-no {m = k} {n = n} q)
+    -- an old name that is not held is passed over
+    halfway-skip : ((c k : ℕ) → held g k ≡ false → setAt k c (g .edges) ≡ emptySet) → flagOf (cur .names) n ≡ none → Halfway ks cur
+    halfway-skip out fl =
+        let o : flagOf (g .names) n ≡ none = sym (h .flags .toCome n (in-front n ks)) ∙ fl in
+        record {
+          asc = h .asc;
+          flags = midway-skip none f dom inj (flagOf (g .names)) n ks (flagOf (cur .names)) (flagOf (cur .names)) far (h .flags) o (λ k. refl);
+          sets = λ c. midway-skip emptySet f dom inj (λ p. setAt p c (g .edges)) n ks (λ p. setAt p c (cur .edges)) (λ p. setAt p c (cur .edges)) far (h .sets c) (out c n (none-held (g .names) n o)) (λ k. refl);
+        }
 
-    at-old : n ≢ f n → flagOf next n ≡ none
-    at-old p =
-        next-flag n ∙ ap (λ (x : Bool). cond x (some b) (flagOf two n)) (eqb-no {m = n} {n = f n} p) ∙ two-flag n
-        ∙ ap (λ (x : Bool). cond x none (cond (eqb n n) none (flagOf cur n))) (eqb-no {m = n} {n = f n} p)
-        ∙ ap (λ (x : Bool). cond x none (flagOf cur n)) (eqb-self n)
-
-    next-asc : ascending next ≡ true
-    unfolding next two
-    next-asc =
-        ascending-place (record { id = f n; mutable = b }) (dropName (f n) (dropName n cur)) (le-leb (little n mine)) (none-held (dropName (f n) (dropName n cur)) (f n) free)
-        (ascending-keep (λ m. not (eqb (f n) (m .id))) (dropName n cur) (ascending-keep (λ m. not (eqb n (m .id))) cur (h .asc)))
-
-    next-came : (m : ℕ) → holds ns m ≡ true → times m ks ≡ 0 → (flagOf next (f m) ≡ flagOf ns m) × (times (f m) ks ≡ 0)
-    next-came m hm t = decide (eqb m n)
-        (λ e. let q : m ≡ n = eqb-eq {m = m} {n = n} e in
-        subst (λ (j : ℕ). (flagOf next (f j) ≡ flagOf ns j) × (times (f j) ks ≡ 0)) (sym q)
-        (at-new ∙ sym fl ∙ h .toCome n (in-front n ks), decide (leb 1 (times (f n) ks)) (λ z. absurd (far (f n) (leb-le z) refl)) (λ z. let w : times (f n) ks < 1 = leb-gt {m = 1} z in omega arith)))
-        (λ e. let c : count1 (eqb m n) ≡ 0 = count-no e in
-        let w = h .came m hm (omega arith) in
-        let y : times (f m) (n ∷ ks) ≡ 0 = w .1 in
-        let d : f m ≢ n = λ z. (let u : count1 (eqb (f m) n) ≡ 1 = count-yes (subst (λ (j : ℕ). eqb (f m) j ≡ true) z (eqb-self (f m))) in omega arith) in
-        (elsewhere (f m) (λ z. eqb-ne {m = m} {n = n} e (inj m n hm mine z)) d ∙ w .0, omega arith))
-
-    next-only : (k : ℕ) → holds next k ≡ true → (1 ≤ times k ks) ⊎ ((m : ℕ) × (holds ns m ≡ true) × (times m ks ≡ 0) × (k ≡ f m))
-    next-only k hk = decide (eqb k (f n))
-        (λ e. inr (n, mine, gone, eqb-eq {m = k} {n = f n} e))
-        (λ e. let p : k ≢ f n = eqb-ne {m = k} {n = f n} e in
-        decide (eqb k n)
-        (λ e₂. let q : k ≡ n = eqb-eq {m = k} {n = n} e₂ in
-        absurd (both hk (subst (λ (j : ℕ). holds next j ≡ false) (sym q) (none-held next n (at-old (λ z. p (q ∙ z)))))))
-        (λ e₂. let c : count1 (eqb k n) ≡ 0 = count-no e₂ in
-        let x = held-flag next k hk in
-        let y : flagOf cur k ≡ some (x .0) = sym (elsewhere k p (eqb-ne {m = k} {n = n} e₂)) ∙ x .1 in
-        let hc : holds cur k ≡ true = decide (holds cur k) (λ z. z) (λ z. absurd (none≢some (sym (flag-none cur k z) ∙ y))) in
-        go c (h .only k hc)))
-      where
-        go : count1 (eqb k n) ≡ 0 → (1 ≤ times k (n ∷ ks)) ⊎ ((m : ℕ) × (holds ns m ≡ true) × (times m (n ∷ ks) ≡ 0) × (k ≡ f m)) → (1 ≤ times k ks) ⊎ ((m : ℕ) × (holds ns m ≡ true) × (times m ks ≡ 0) × (k ≡ f m))
-        go c (inl w) = inl (omega arith)
-        go c (inr w) = let t : times (w .0) (n ∷ ks) ≡ 0 = w .2 in inr (w .0, w .1, omega arith, w .3)
-
-    midway-next : Midway ks next
-    midway-next = record {
-      asc = next-asc;
-      once = λ m. let a : times m (n ∷ ks) ≤ 1 = h .once m in omega arith;
-      toCome = λ m t. let d : m ≢ n = λ z. (let u : 1 ≤ times n ks = subst (λ (j : ℕ). 1 ≤ times j ks) z t in let v : times n ks ≡ 0 = gone in omega arith) in
-          elsewhere m (λ z. far m t (sym z)) d ∙ h .toCome m (omega arith);
-      came = next-came;
-      only = next-only;
-    }
-
-  -- an old name that is not held is passed over
-  module _ (n : ℕ) (ks : List ℕ) (cur : List Name) (h : Midway (n ∷ ks) cur) (fl : flagOf cur n ≡ none) where
-    skip-came : (m : ℕ) → holds ns m ≡ true → times m ks ≡ 0 → (flagOf cur (f m) ≡ flagOf ns m) × (times (f m) ks ≡ 0)
-    skip-came m hm t = decide (eqb m n)
-        (λ e. let y = held-flag ns m hm in
-        let q : m ≡ n = eqb-eq {m = m} {n = n} e in
-        absurd (none≢some (sym fl ∙ h .toCome n (in-front n ks) ∙ subst (λ (j : ℕ). flagOf ns j ≡ some (y .0)) q (y .1))))
-        (λ e. let c : count1 (eqb m n) ≡ 0 = count-no e in
-        let w = h .came m hm (omega arith) in
-        let u : times (f m) (n ∷ ks) ≡ 0 = w .1 in
-        (w .0, omega arith))
-
-    skip-only : (k : ℕ) → holds cur k ≡ true → (1 ≤ times k ks) ⊎ ((m : ℕ) × (holds ns m ≡ true) × (times m ks ≡ 0) × (k ≡ f m))
-    skip-only k hk = go (h .only k hk)
-      where
-        go : (1 ≤ times k (n ∷ ks)) ⊎ ((m : ℕ) × (holds ns m ≡ true) × (times m (n ∷ ks) ≡ 0) × (k ≡ f m)) → (1 ≤ times k ks) ⊎ ((m : ℕ) × (holds ns m ≡ true) × (times m ks ≡ 0) × (k ≡ f m))
-        go (inl w) = decide (eqb k n)
-            (λ e. absurd (both hk (subst (λ (j : ℕ). holds cur j ≡ false) (sym (eqb-eq {m = k} {n = n} e)) (none-held cur n fl))))
-            (λ e. let c : count1 (eqb k n) ≡ 0 = count-no e in inl (omega arith))
-        go (inr w) = let t : times (w .0) (n ∷ ks) ≡ 0 = w .2 in inr (w .0, w .1, omega arith, w .3)
-
-    midway-skip : Midway ks cur
-    midway-skip = record {
-      asc = h .asc;
-      once = λ m. let a : times m (n ∷ ks) ≤ 1 = h .once m in omega arith;
-      toCome = λ m t. h .toCome m (omega arith);
-      came = skip-came;
-      only = skip-only;
-    }
-
-  turn-law : (ks : List ℕ) (cur : List Name) → Apart f ks → Midway ks cur → Midway [] (inTurn f ks cur)
+  turn-law : ((c k : ℕ) → held g k ≡ false → setAt k c (g .edges) ≡ emptySet) → (ks : List ℕ) (cur : Graph) → Apart f ks → Halfway ks cur → Halfway [] (inTurn f ks cur)
   unfolding inTurn next two
-  turn-law [] cur a h = h
-  turn-law (n ∷ ks) cur a h = go (flagOf cur n) refl (λ xs. turn-law ks xs (a .1))
+  turn-law out [] cur a h = h
+  turn-law out (n ∷ ks) cur a h = go (flagOf (cur .names) n) refl (λ x. turn-law out ks x (a .1))
     where
-      go : (o : Option Bool) → flagOf cur n ≡ o → ((xs : List Name) → Midway ks xs → Midway [] (inTurn f ks xs)) → Midway [] (inTurn f ks (moved n (f n) cur o))
-      go none fl r = r cur (midway-skip n ks cur h fl)
-      go (some b) fl r = r (next n ks cur b (a .0) h fl) (midway-next n ks cur b (a .0) h fl)
+      go : (o : Option Bool) → flagOf (cur .names) n ≡ o → ((x : Graph) → Halfway ks x → Halfway [] (inTurn f ks x)) → Halfway [] (inTurn f ks (moved n (f n) cur o))
+      go none fl r = r cur (halfway-skip n ks cur (a .0) h out fl)
+      go (some b) fl r = r (next n ks cur (a .0) h b fl) (halfway-next n ks cur (a .0) h b fl)
 
-  -- together: each name's flag is at its new name
+-- together: each name's flag is at its new name
+module _ (f : ℕ → ℕ) (ns : List Name) (inj : (m n : ℕ) → holds ns m ≡ true → holds ns n ≡ true → f m ≡ f n → m ≡ n) where
   together : (ms : List Name) → ascending ms ≡ true → ((n : ℕ) → holds ms n ≡ true → holds ns n ≡ true) → (n : ℕ) → holds ns n ≡ true → flagOf (renameNames f ms) (f n) ≡ flagOf ms n
   unfolding renameNames flagOf ascending holds
   together [] asc sub n h = refl
@@ -304,30 +244,121 @@ module _ (f : ℕ → ℕ) (ns : List Name) (inj : (m n : ℕ) → holds ns m �
       place-flag (withId f a) (renameNames f ms) (f n) (together ms rest sub′ (a .id) ha ∙ none-below ms (a .id) (a .id) up (omega arith))
       ∙ (λ i. cond (same-test f ns inj n (a .id) h ha i) (some (a .mutable)) (together ms rest sub′ n h i))
 
-  -- ks: the old names; another name that is held stays
-  pub in-turn : (ks : List ℕ) → ascending ns ≡ true → Apart f ks → ((n : ℕ) → times n ks ≤ 1) → ((n : ℕ) → holds ns n ≡ true → times n ks ≡ 0 → f n ≡ n) → inTurn f ks ns ≡ renameNames f ns
-  in-turn ks asc a once stay =
-      let m : Midway [] (inTurn f ks ns) = turn-law ks ns a (record {
-        asc = asc;
-        once = once;
-        toCome = λ n t. refl;
-        came = λ n h t. (ap (flagOf ns) (stay n h t), ap (λ (k : ℕ). times k ks) (stay n h t) ∙ t);
-        only = λ k h. decide (leb 1 (times k ks)) (λ z. inl (leb-le z)) (λ z. let w : times k ks < 1 = leb-gt {m = 1} z in inr (k, h, omega arith, sym (stay k h (omega arith))));
-      }) in
-      names-ext (inTurn f ks ns) (renameNames f ns) (m .asc) (names-ascend f ns inj little ns (λ n h. h) asc)
-      (λ k. decide (holds (inTurn f ks ns) k)
-      (λ h. from m k (m .only k h))
-      (λ h. flag-none (inTurn f ks ns) k h ∙ sym (flag-none (renameNames f ns) k (decide (holds (renameNames f ns) k)
-      (λ g. let z = names-hold f ns inj k ns g in
-      let y = held-flag ns (z .0) (z .1) in
-      absurd (none≢some (sym (flag-none (inTurn f ks ns) k h) ∙ subst (λ (j : ℕ). flagOf (inTurn f ks ns) j ≡ flagOf ns (z .0)) (sym (z .2)) (m .came (z .0) (z .1) refl .0) ∙ y .1)))
-      (λ g. g)))))
+sorted-set : (p c : ℕ) (xs : List GEdge) → setAt p c (renameEdges (λ n. n) xs) ≡ setAt p c xs
+unfolding renameEdges setAt
+sorted-set p c [] = refl
+sorted-set p c (x ∷ xs) =
+    place-set p c x (renameEdges (λ n. n) xs) ∙ (λ i. cond (eqPair p c (x .parent) (x .child)) (union (one x) (sorted-set p c xs i)) (sorted-set p c xs i))
+
+-- ks: the old names; another name that is held stays
+module _ (f : ℕ → ℕ) (g : Graph) (w : wellFormed g ≡ true) (inj : (m n : ℕ) → held g m ≡ true → held g n ≡ true → f m ≡ f n → m ≡ n) (little : (n : ℕ) → held g n ≡ true → f n < 65536)
+    (ks : List ℕ) (a : Apart f ks) (once : (n : ℕ) → times n ks ≤ 1) (stay : (n : ℕ) → held g n ≡ true → times n ks ≡ 0 → f n ≡ n) where
+  inv : Inv g
+  inv = wf→inv g w
+
+  new : Inv (renamed f g)
+  new = rename-inv f g inj little inv
+
+  -- an edge's ends are held
+  outside : (p c : ℕ) → (held g p ≡ false) ⊎ (held g c ≡ false) → setAt p c (g .edges) ≡ emptySet
+  outside p c o = go o (at-or-empty (pairOk (g .names)) p c (g .edges) (inv .pairs))
     where
-      from : Midway [] (inTurn f ks ns) → (k : ℕ) → (1 ≤ 0) ⊎ ((n : ℕ) × (holds ns n ≡ true) × (times n [] ≡ 0) × (k ≡ f n)) → flagOf (inTurn f ks ns) k ≡ flagOf (renameNames f ns) k
-      from m k (inl w) = absurd (omega arith)
-      from m k (inr w) =
-          subst (λ (j : ℕ). flagOf (inTurn f ks ns) j ≡ flagOf (renameNames f ns) j) (sym (w .3))
-          (m .came (w .0) (w .1) refl .0 ∙ sym (together ns asc (λ n h. h) (w .0) (w .1)))
+      go : (held g p ≡ false) ⊎ (held g c ≡ false) → (pairOk (g .names) p c ≡ true) ⊎ (setAt p c (g .edges) ≡ emptySet) → setAt p c (g .edges) ≡ emptySet
+      go o (inr e) = e
+      go (inl z) (inl e) = absurd (both (and-l (held g p) (held g c && not (eqb p c)) e) z)
+      go (inr z) (inl e) = absurd (both (and-l (held g c) (not (eqb p c)) (and-r (held g p) (held g c && not (eqb p c)) e)) z)
+
+  -- k is no new name
+  abbrev Strange : ℕ → Type 0
+  Strange k = (n : ℕ) → held g n ≡ true → k ≢ f n
+
+  -- or the new name of a held one
+  abbrev Image : ℕ → Type 0
+  Image k = ((n : ℕ) × (held g n ≡ true) × (k ≡ f n)) ⊎ (Strange k)
+
+  image : (k : ℕ) → Image k
+  image k = decide (holds (renameNames f (g .names)) k)
+      (λ h. inl (names-hold f (g .names) inj k (g .names) h))
+      (λ h. inr (λ n d e. both (subst (λ (j : ℕ). holds (renameNames f (g .names)) j ≡ true) (sym e) (hold-names f (g .names) inj n (g .names) d)) h))
+
+  abbrev mid : Graph
+  mid = record { names = g .names; edges = childrenInTurn f ks (g .edges) }
+
+  -- after the children
+  sets₁ : (p : ℕ) → Midway emptySet f (held g) inj (λ c. setAt p c (g .edges)) [] (λ c. setAt p c (mid .edges))
+  sets₁ p =
+      children-turn f (held g) inj (g .edges) p (λ k z. outside p k (inr z)) ks (g .edges) a
+      (midway-start emptySet f (held g) inj (λ c. setAt p c (g .edges)) ks once stay (λ k z. outside p k (inr z)))
+
+  mid-outside : (c k : ℕ) → held g k ≡ false → setAt k c (mid .edges) ≡ emptySet
+  mid-outside c k z = go (image c)
+    where
+      go : Image c → setAt k c (mid .edges) ≡ emptySet
+      go (inl y) = ap (λ (d : ℕ). setAt k d (mid .edges)) (y .2) ∙ renamed-at emptySet f (held g) inj (λ d. setAt k d (g .edges)) (λ d. setAt k d (mid .edges)) (sets₁ k) (y .0) (y .1) ∙ outside k (y .0) (inl z)
+      go (inr y) = nothing-at emptySet f (held g) inj (λ d. setAt k d (g .edges)) (λ d. setAt k d (mid .edges)) (sets₁ k) c y
+
+  abbrev last : Graph
+  last = inTurn f ks mid
+
+  ends : Halfway f mid inj little [] last
+  ends = turn-law f mid inj little mid-outside ks mid a (record {
+    asc = inv .asc;
+    flags = midway-start none f (held g) inj (flagOf (g .names)) ks once stay (flag-none (g .names));
+    sets = λ c. midway-start emptySet f (held g) inj (λ p. setAt p c (mid .edges)) ks once stay (mid-outside c);
+  })
+
+  same-names : last .names ≡ renameNames f (g .names)
+  same-names = names-ext (last .names) (renameNames f (g .names)) (ends .asc) (names-ascend f (g .names) inj little (g .names) (λ n h. h) (inv .asc)) (λ k. go k (image k))
+    where
+      go : (k : ℕ) → Image k → flagOf (last .names) k ≡ flagOf (renameNames f (g .names)) k
+      go k (inl y) =
+          subst (λ (j : ℕ). flagOf (last .names) j ≡ flagOf (renameNames f (g .names)) j) (sym (y .2))
+          (renamed-at none f (held g) inj (flagOf (g .names)) (flagOf (last .names)) (ends .flags) (y .0) (y .1) ∙ sym (together f (g .names) inj (g .names) (inv .asc) (λ n h. h) (y .0) (y .1)))
+      go k (inr y) =
+          nothing-at none f (held g) inj (flagOf (g .names)) (flagOf (last .names)) (ends .flags) k y
+          ∙ sym (flag-none (renameNames f (g .names)) k (decide (holds (renameNames f (g .names)) k) (λ h. let z = names-hold f (g .names) inj k (g .names) h in absurd (y (z .0) (z .1) (z .2))) (λ h. h)))
+
+  -- a pair of the renamed graph is one of new names
+  strange : (q d : ℕ) → (Strange q) ⊎ (Strange d) → setAt q d (renameEdges f (g .edges)) ≡ emptySet
+  unfolding renamed
+  strange q d o = which o (at-or-empty (pairOk (renameNames f (g .names))) q d (renameEdges f (g .edges)) (new .pairs))
+    where
+      which : (Strange q) ⊎ (Strange d) → (pairOk (renameNames f (g .names)) q d ≡ true) ⊎ (setAt q d (renameEdges f (g .edges)) ≡ emptySet)
+          → setAt q d (renameEdges f (g .edges)) ≡ emptySet
+      which o (inr e) = e
+      which (inl y) (inl e) =
+          let z = names-hold f (g .names) inj q (g .names) (and-l (holds (renameNames f (g .names)) q) (holds (renameNames f (g .names)) d && not (eqb q d)) e) in absurd (y (z .0) (z .1) (z .2))
+      which (inr y) (inl e) =
+          let z = names-hold f (g .names) inj d (g .names) (and-l (holds (renameNames f (g .names)) d) (not (eqb q d)) (and-r (holds (renameNames f (g .names)) q) (holds (renameNames f (g .names)) d && not (eqb q d)) e)) in absurd (y (z .0) (z .1) (z .2))
+
+  same-set : (q d : ℕ) → setAt q d (last .edges) ≡ setAt q d (renameEdges f (g .edges))
+  same-set q d = go (image q) (image d)
+    where
+      row : (p : ℕ) → held g p ≡ true → setAt (f p) d (last .edges) ≡ setAt p d (mid .edges)
+      row p h = renamed-at emptySet f (held g) inj (λ j. setAt j d (mid .edges)) (λ j. setAt j d (last .edges)) (ends .sets d) p h
+
+      go : Image q → Image d → setAt q d (last .edges) ≡ setAt q d (renameEdges f (g .edges))
+      go (inr y) i = nothing-at emptySet f (held g) inj (λ j. setAt j d (mid .edges)) (λ j. setAt j d (last .edges)) (ends .sets d) q y ∙ sym (strange q d (inl y))
+      go (inl x) (inr y) =
+          ap (λ (j : ℕ). setAt j d (last .edges)) (x .2) ∙ row (x .0) (x .1)
+          ∙ nothing-at emptySet f (held g) inj (λ j. setAt (x .0) j (g .edges)) (λ j. setAt (x .0) j (mid .edges)) (sets₁ (x .0)) d y ∙ sym (strange q d (inr y))
+      go (inl x) (inl y) =
+          ap (λ (j : ℕ). setAt j d (last .edges)) (x .2) ∙ row (x .0) (x .1)
+          ∙ ap (λ (j : ℕ). setAt (x .0) j (mid .edges)) (y .2)
+          ∙ renamed-at emptySet f (held g) inj (λ j. setAt (x .0) j (g .edges)) (λ j. setAt (x .0) j (mid .edges)) (sets₁ (x .0)) (y .0) (y .1)
+          ∙ sym (rename-set f (g .names) inj (x .0) (y .0) (x .1) (y .1) (g .edges) (inv .pairs))
+          ∙ sym (λ i. setAt (x .2 i) (y .2 i) (renameEdges f (g .edges)))
+
+  pub in-turn : oneByOne f ks g ≡ renamed f g
+  unfolding oneByOne renamed
+  in-turn =
+      let es : renameEdges (λ n. n) (last .edges) ≡ renameEdges f (g .edges) =
+      edges-ext (renameEdges (λ n. n) (last .edges)) (renameEdges f (g .edges)) (rename-order (λ n. n) (last .edges)) (rename-order f (g .edges))
+      (λ p c. subst Lone (sym (sorted-set p c (last .edges) ∙ same-set p c)) (lone p c)) lone (λ p c. sorted-set p c (last .edges) ∙ same-set p c) in
+      λ i. record { names = same-names i; edges = es i }
+    where
+      lone : (p c : ℕ) → Lone (setAt p c (renameEdges f (g .edges)))
+      lone p c = setOk-lone (setAt p c (renameEdges f (g .edges))) (new .sets p c)
 
 -- ---- ascending
 
@@ -406,19 +437,18 @@ crosses-at ys a (x ∷ xs) (suc j) n b e h l w = or-r (crossed ys a x) (crosses-
 
 -- ---- the end of a block
 
--- At the end of a block with successors the Rust's renaming gives the state that `canonical` gives, wherever that is not refused with 16.
-pub remapped-canonical : (l m : ℕ) (ls : List Local) (g : Graph) (next : ℕ) (t : State) → l ≤ 16 → length ls ≡ l → Owns l g next (localNames ls) m → canonical l (record { locals = ls; graph = g }) ≡ ok t
-    → remapped l (record { locals = ls; graph = g }) ≡ t
-unfolding canonical remapped renamed newNameOf
-remapped-canonical l m ls g next t b c o e =
-    let z = guard-ok (not (crosses ls 0 ls)) 16 (ok (record { locals = ownNames 0 ls; graph = renamed (newNameOf l ls) g })) t e in
+-- At the end of a block with successors the Rust's renaming gives the state that `canonical` gives, wherever the names do not cross.
+pub remapped-canonical : (l m : ℕ) (ls : List Local) (g : Graph) (next : ℕ) → l ≤ 16 → length ls ≡ l → Owns l g next (localNames ls) m → crosses ls 0 ls ≡ false
+    → remapped l (record { locals = ls; graph = g }) ≡ canonical l (record { locals = ls; graph = g })
+unfolding canonical remapped newNameOf
+remapped-canonical l m ls g next b c o e =
     let ks : List ℕ = ascend (l ∷ localNames ls) in
-    let q : inTurn f ks (g .names) ≡ renameNames f (g .names) =
-    in-turn f (g .names) inj (λ n h. small l s op n (place l s op n h)) ks (wf→inv g (o .formed) .asc)
-    (to-apart f ks (ascend-sorted (l ∷ localNames ls)) (λ n k p r lt. far (not-true (z .0)) n k (key n p) (key k r) lt))
+    let q : oneByOne f ks g ≡ renamed f g =
+    in-turn f g (o .formed) inj (λ n h. small l s op n (place l s op n h)) ks
+    (to-apart f ks (ascend-sorted (l ∷ localNames ls)) (λ n k p r lt. far e n k (key n p) (key k r) lt))
     (λ n. let x : times n ks ≡ count1 (holds (g .names) n) = same n ∙ o .counts n in let y : count1 (holds (g .names) n) ≤ 1 = count-le (holds (g .names) n) in omega arith)
     (λ n h w. let x : times n ks ≡ count1 (holds (g .names) n) = same n ∙ o .counts n in let y : count1 (holds (g .names) n) ≡ 1 = count-yes h in absurd (omega arith)) in
-    (λ i. record { locals = ownNames 0 ls; graph = record { names = q i; edges = renamed f g .edges } }) ∙ ok-inj (z .1)
+    λ i. record { locals = ownNames 0 ls; graph = q i }
   where
     s : State
     s = record { locals = ls; graph = g }

@@ -1,4 +1,4 @@
--- The join of two states of the strong form: never refused with 8, 9 or 23; its answer has the strong form.
+-- The join of two states of the strong form: never refused with 8, 9, 16 or 23; its answer has the strong form.
 use Prim.Native.Nat.{ℕ, _+_, _<_, suc, _≤_}
 use native.Mathlib.Omega.{arith}
 use mathlib.Core.Bool.{true, Bool, false}
@@ -17,7 +17,7 @@ use Rattle.meaning.specs.Laws.Forms.{Strong}
 use Rattle.meaning.specs.Laws.Own.{fair, times, times-append, Owns, owns-as, release-fair, release-own, joinGraphs-fair}
 use Rattle.meaning.specs.Laws.State.{absent≢ref, Joined, join-law, join-form, join-local, join-rest}
 
--- what is answered has the property; what is refused is not refused with 8, 9 or 23
+-- what is answered has the property; what is refused is not refused with 8, 9, 16 or 23
 pub data Sure {A : Type 0} (P : A → Type 0) : Ans A → Type 0 where
   sure : {a : A} → P a → Sure P (ok a)
   unsure : {n : ℕ} → ordinary n ≡ true → Sure P (refuse n)

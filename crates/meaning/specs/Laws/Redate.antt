@@ -12,7 +12,7 @@ use Rattle.meaning.specs.Answers.{Ans, ok, refuse, andThen, guard}
 use Rattle.meaning.specs.Lists.{any, all, keep, each}
 use Rattle.meaning.specs.References.{Edge, EdgeSet, blur, eqEdge, ltEdge, covers, covered, has, put, insert, ordered, short, isBlur, setOk}
 use Rattle.meaning.specs.BorrowGraph.{GEdge, Graph, held, pairOk, union, one, setAt, eqPair, tagged, isBefore, isAfter, setTo, ascending, notBefore, inOrder, wellFormed, addEdge, addAll, limit, splice, between, spliced, other, without, release, unmatched, sameNames, joinGraphs, newlyBlurred, putName, newName, borrowWeak, moves, shift, borrowStrong, putEdge, withEnds, renameEdges, renameNames, renamed, lowerOf, lowestOf}
-use Rattle.meaning.specs.AbstractState.{Local, absent, value, ref, State, Step, joinLocal, Parts, joinLocals, join, passed, joinBlurs, eqLocals, eqEdges, eqSet, eqSets, changed, newNameOf, ownNames, crosses, canonical}
+use Rattle.meaning.specs.AbstractState.{Local, absent, value, ref, State, Step, joinLocal, Parts, joinLocals, join, passed, joinBlurs, eqLocals, eqEdges, eqSet, eqSets, changed, newNameOf, ownNames, canonical}
 
 -- ---- the changes
 
@@ -337,12 +337,9 @@ module _ (f : ℕ → ℕ) where
   unfolding renamed
   renamed-redate to g = λ i. record { names = renameNames to (g .names); edges = renameEdges-redate to (g .edges) i }
 
-  pub canonical-redate : (l : ℕ) (s : State) → canonical l (redateState f s) ≡ mapAns (redateState f) (canonical l s)
+  pub canonical-redate : (l : ℕ) (s : State) → canonical l (redateState f s) ≡ redateState f (canonical l s)
   unfolding canonical
-  canonical-redate l s =
-      let clear : Bool = not (crosses (s .locals) 0 (s .locals)) in
-      (λ i. guard clear 16 (ok (record { locals = ownNames 0 (s .locals); graph = renamed-redate (newNameOf l (s .locals)) (s .graph) i })))
-      ∙ guard-map (redateState f) clear 16 _
+  canonical-redate l s = λ i. record { locals = ownNames 0 (s .locals); graph = renamed-redate (newNameOf l (s .locals)) (s .graph) i }
 
   -- ---- the join of states
 

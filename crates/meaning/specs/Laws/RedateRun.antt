@@ -13,10 +13,10 @@ use Rattle.meaning.specs.Limits.{areaWords}
 use Rattle.meaning.specs.Answers.{Ans, ok, refuse, Outcome, done, violated, refused}
 use Rattle.meaning.specs.Lists.{all}
 use Rattle.meaning.specs.BorrowGraph.{GEdge}
-use Rattle.meaning.specs.AbstractState.{State, Operand, Token, join, joinBlurs, changed, canonical, firstState}
+use Rattle.meaning.specs.AbstractState.{State, Operand, Token, join, joinBlurs, changed, firstState}
 use Rattle.meaning.specs.EntryPoints.{Running}
 use Rattle.meaning.specs.Steps.{Instr, Machine, step}
-use Rattle.meaning.specs.Blocks.{Routine, instrsOf, startMachine, renamedEnd, endOf, finish, settle, machineAt, runFrom, runBlock, exec}
+use Rattle.meaning.specs.Blocks.{Routine, instrsOf, startMachine, endOf, finish, settle, machineAt, runFrom, runBlock, exec}
 use Rattle.meaning.specs.Loop.{Result, Block, Status, fine, failed, Slot, Next, at, stopped, Run, visits, Propagation, position, noBlock, blank, mostVisits, afterChange, afterJoin, toKept, toSuccessor, propagate, keptBlurs, successorBlurs, propagateBlurs, mark, afterBlock, visitBlock, turnAt, turn, turns, startSlots, run, Verdict, accept, violation, refusal, Failure, lower, lowest, verdictFor, verdictAt, verdict}
 use Rattle.meaning.specs.Listing.{Listed, read, readListing}
 use Rattle.meaning.specs.Listing as S
@@ -107,15 +107,9 @@ module _ (f g : ℕ → ℕ) (minima : (a b : ℕ) → f (min a b) ≡ min (f a)
   finish-redate : (b : Block) (r : Running) (vs : List Operand) → finish b (redateRunning f r) vs ≡ redateResult f g (finish b r vs)
   finish-redate b r [] = end (b .successors)
     where
-      name : (k exit : ℕ) (a : Ans State) → renamedEnd k exit (mapAns (redateState f) a) ≡ redateResult f g (renamedEnd k exit a)
-      name k exit (ok t) = refl
-      name k exit (refuse n) = refl
-
       end : (es : List ℕ) → endOf b es (redateRunning f r) ≡ redateResult f g (endOf b es r)
       end [] = refl
-      end (e ∷ es) =
-          let s : State = record { locals = r .locals; graph = r .graph } in
-          ap (renamedEnd (r .blurs) (b .exit)) (canonical-redate f (r .root) s) ∙ name (r .blurs) (b .exit) (canonical (r .root) s)
+      end (e ∷ es) = ap (Result.ended (r .blurs)) (canonical-redate f (r .root) (record { locals = r .locals; graph = r .graph }))
   finish-redate b r (v ∷ vs) = refl
 
   settle-redate : (o : ℕ) (a b : Outcome Machine) → Redates f (redateMachine f) a b → g o ≡ o → (k l : Machine → Result State)

@@ -1,5 +1,5 @@
--- Where a direct rename is not refused with 16, it keeps names apart: the graph stays well formed, and the Rust's renaming one by
--- one gives the same.
+-- Where a direct rename is not refused with 16, it keeps names apart: the graph stays well formed. Where besides no new name is a greater old one,
+-- the Rust's renaming one by one gives the same.
 use Prim.Native.Nat.{ℕ, _<_, _≤_, zero-le}
 use native.Mathlib.Omega.{arith}
 use mathlib.Core.Bool.{true, false, Bool, false≢true, _||_, cond, _&&_, not}
@@ -10,7 +10,7 @@ use lib.Dec.{eqb, ltb, leb}
 use lib.ListN.{drop}
 use Rattle.meaning.specs.Answers.{ok, refuse, guard}
 use Rattle.meaning.specs.Lists.{any, all}
-use Rattle.meaning.specs.BorrowGraph.{Graph, wellFormed, renamed, Change, nameAfter, clash, remap, isOld, alike, twice, Name, holds, collides, ascending, held, renameEdges, renameNames}
+use Rattle.meaning.specs.BorrowGraph.{Graph, wellFormed, renamed, Change, nameAfter, clash, remap, isOld, alike, twice, Name, holds, collides, ascending, held, renameNames}
 use Rattle.meaning.specs.AbstractState.{count1}
 use Rattle.meaning.specs.EntryPoints.{ascend}
 use Rattle.meaning.specs.Laws.Base.{or-l, or-r, or-cases, both, and-i, eqb-self, and-r, eqb-eq, decide, and-l, not-false, le-leb, leb-le, guard-ok, ok-inj, not-true, or-no-l, or-no-r}
@@ -20,7 +20,7 @@ use Rattle.meaning.specs.Laws.InTurn.{in-turn, to-apart, ascend-sorted}
 use Rattle.meaning.specs.Laws.Own.{times, count-no, count-yes}
 use Rattle.meaning.specs.Laws.Rename.{rename-inv, rename-length, hold-names}
 use Rattle.meaning.specs.Laws.Running.{ascend-times}
-use Rattle.meaning.specs.Refinement.InTurn.{inTurn}
+use Rattle.meaning.specs.Refinement.InTurn.{oneByOne, overtaken, overtakes}
 
 -- the refusals
 module _ (g : Graph) (ms : List Change) where
@@ -78,6 +78,12 @@ its-pair (m ∷ ms) n h = go (eqb n (m .old)) refl (its-pair ms n)
         later (inl z) = absurd (both z e)
         later (inr z) = z
 
+pair-of : (ms : List Change) (n : ℕ) → isOld ms n ≡ true → (k : Change) × (n ≡ k .old) × (nameAfter ms n ≡ k .new) × ((q : Change → Bool) → q k ≡ true → any q ms ≡ true)
+pair-of ms n h =
+    let w = some-one (λ k. eqb n (k .old) && eqb (nameAfter ms n) (k .new)) ms (its-pair ms n h) in
+    let k : Change = w .0 in
+    (k, eqb-eq {m = n} {n = k .old} (and-l (eqb n (k .old)) (eqb (nameAfter ms n) (k .new)) (w .1)), eqb-eq {m = nameAfter ms n} {n = k .new} (and-r (eqb n (k .old)) (eqb (nameAfter ms n) (k .new)) (w .1)), w .2)
+
 -- no two old names get the same new one
 olds-apart : (ms : List Change) (m n : ℕ) → twice ms ≡ false → isOld ms m ≡ true → isOld ms n ≡ true → nameAfter ms m ≡ nameAfter ms n → m ≡ n
 unfolding twice isOld
@@ -87,9 +93,9 @@ olds-apart (k ∷ ks) m n t hm hn e = go (eqb m (k .old)) (eqb n (k .old)) refl 
     -- one of the two has the first pair, the other a later one with the same new name
     never : (i : ℕ) → isOld ks i ≡ true → k .new ≡ nameAfter ks i → ⊥
     never i h q =
-        let w = some-one (λ j. eqb i (j .old) && eqb (nameAfter ks i) (j .new)) ks (its-pair ks i h) in
-        let z : eqb (k .new) (w .0 .new) ≡ true = subst (λ (x : ℕ). eqb x (w .0 .new) ≡ true) (sym q) (and-r (eqb i (w .0 .old)) (eqb (nameAfter ks i) (w .0 .new)) (w .1)) in
-        both (w .2 (alike k) (or-r (eqb (k .old) (w .0 .old)) z)) (or-no-l (any (alike k) ks) (twice ks) t)
+        let w = pair-of ks i h in
+        let z : eqb (k .new) (w .0 .new) ≡ true = subst (λ (x : ℕ). eqb (k .new) x ≡ true) (q ∙ w .2) (eqb-self (k .new)) in
+        both (w .3 (alike k) (or-r (eqb (k .old) (w .0 .old)) z)) (or-no-l (any (alike k) ks) (twice ks) t)
 
     go : (a b : Bool) → eqb m (k .old) ≡ a → eqb n (k .old) ≡ b → (eqb m (k .old) ≡ true) ⊎ (isOld ks m ≡ true) → (eqb n (k .old) ≡ true) ⊎ (isOld ks n ≡ true)
         → (isOld ks m ≡ true → isOld ks n ≡ true → nameAfter ks m ≡ nameAfter ks n → m ≡ n) → m ≡ n
@@ -111,22 +117,11 @@ module _ (ns : List Name) (ms : List Change) (c : clash ns ms ≡ false) where
   unfolding clash
   clear = or-no-r (twice ms) (any (collides ns ms) ms) c
 
-  -- the new name of an old one is no greater old name, and none that is held outside the old names
-  free : (m : ℕ) → isOld ms m ≡ true → nameAfter ms m ≢ m → (isOld ms (nameAfter ms m) && ltb m (nameAfter ms m)) || (holds ns (nameAfter ms m) && not (isOld ms (nameAfter ms m))) ≡ true → ⊥
-  free m h d z =
-      let w = some-one (λ k. eqb m (k .old) && eqb (nameAfter ms m) (k .new)) ms (its-pair ms m h) in
-      let p : m ≡ w .0 .old = eqb-eq {m = m} {n = w .0 .old} (and-l (eqb m (w .0 .old)) (eqb (nameAfter ms m) (w .0 .new)) (w .1)) in
-      let q : nameAfter ms m ≡ w .0 .new = eqb-eq {m = nameAfter ms m} {n = w .0 .new} (and-r (eqb m (w .0 .old)) (eqb (nameAfter ms m) (w .0 .new)) (w .1)) in
-      let y : (isOld ms (w .0 .new) && ltb (w .0 .old) (w .0 .new)) || (holds ns (w .0 .new) && not (isOld ms (w .0 .new))) ≡ true =
-      subst (λ (j : ℕ). (isOld ms j && ltb (w .0 .old) j) || (holds ns j && not (isOld ms j)) ≡ true) q (subst (λ (j : ℕ). (isOld ms (nameAfter ms m) && ltb j (nameAfter ms m)) || (holds ns (nameAfter ms m) && not (isOld ms (nameAfter ms m))) ≡ true) p z) in
-      let x : eqb (w .0 .new) (w .0 .old) ≡ false = decide (eqb (w .0 .new) (w .0 .old)) (λ e. absurd (d (q ∙ eqb-eq {m = w .0 .new} {n = w .0 .old} e ∙ sym p))) (λ e. e) in
-      both (w .2 (collides ns ms) (and-i (not-false x) y)) clear
-
   -- a name outside the old ones is not the new name of an old one
   outside : (m n : ℕ) → holds ns n ≡ true → isOld ms m ≡ true → isOld ms n ≡ false → nameAfter ms m ≡ n → ⊥
   outside m n h p q e =
-      free m p (λ z. both (subst (λ (j : ℕ). isOld ms j ≡ true) (sym z ∙ e) p) q)
-      (or-r (isOld ms (nameAfter ms m) && ltb m (nameAfter ms m)) (subst (λ (j : ℕ). holds ns j && not (isOld ms j) ≡ true) (sym e) (and-i h (not-false q))))
+      let w = pair-of ms m p in
+      both (w .3 (collides ns ms) (subst (λ (j : ℕ). holds ns j && not (isOld ms j) ≡ true) (sym e ∙ w .2) (and-i h (not-false q)))) clear
 
   pub changed-apart : (m n : ℕ) → holds ns m ≡ true → holds ns n ≡ true → nameAfter ms m ≡ nameAfter ms n → m ≡ n
   changed-apart m n hm hn e = go (isOld ms m) (isOld ms n) refl refl
@@ -136,12 +131,6 @@ module _ (ns : List Name) (ms : List Change) (c : clash ns ms ≡ false) where
       go true false p q = absurd (outside m n hn p q (e ∙ stays ms n q))
       go false true p q = absurd (outside n m hm q p (sym e ∙ stays ms m p))
       go false false p q = sym (stays ms m p) ∙ e ∙ stays ms n q
-
-  -- no new name is a greater old one
-  pub not-greater : (m n : ℕ) → isOld ms m ≡ true → isOld ms n ≡ true → m < n → nameAfter ms m ≢ n
-  not-greater m n hm hn l e =
-      free m hm (λ z. let x : m ≡ n = sym z ∙ e in omega arith)
-      (or-l (holds ns (nameAfter ms m) && not (isOld ms (nameAfter ms m))) (subst (λ (j : ℕ). isOld ms j && ltb m j ≡ true) (sym e) (and-i hn (le-leb l))))
 
 -- ---- numbers of 16 bits
 
@@ -174,28 +163,29 @@ pub renamed-small : (ns : List Name) (ms : List Change) → clash ns ms ≡ fals
 renamed-small ns ms c s n h =
     leb-le (holds-all (λ k. ltb k 65536) (renameNames (nameAfter ms) ns) (nameAfter ms n) (hold-names (nameAfter ms) ns (changed-apart ns ms c) n ns h) s)
 
-module _ (g h : Graph) (ms : List Change) (small : all (λ m. ltb (m .new) 65536) ms ≡ true) (r : remap g ms ≡ ok h) where
-  formed : wellFormed g ≡ true
+-- what a rename that is not refused tells
+module _ (g h : Graph) (ms : List Change) (r : remap g ms ≡ ok h) where
+  pub formed : wellFormed g ≡ true
   unfolding remap
   formed = guard-ok (wellFormed g) 9 (guard (not (clash (g .names) ms)) 16 (ok (renamed (nameAfter ms) g))) h r .0
 
-  sound : clash (g .names) ms ≡ false
+  pub sound : clash (g .names) ms ≡ false
   unfolding remap
   sound =
       not-true (guard-ok (not (clash (g .names) ms)) 16 (ok (renamed (nameAfter ms) g)) h
       (guard-ok (wellFormed g) 9 (guard (not (clash (g .names) ms)) 16 (ok (renamed (nameAfter ms) g))) h r .1) .0)
 
-  made : renamed (nameAfter ms) g ≡ h
+  pub made : renamed (nameAfter ms) g ≡ h
   made = ok-inj (sym (remap-ok g ms formed sound) ∙ r)
 
-  little : (n : ℕ) → held g n ≡ true → nameAfter ms n < 65536
-  little n q = changed-small ms small n (leb-le (holds-all (λ k. ltb k 65536) (g .names) n q (low (g .names) (wf→inv g formed .asc))))
+  little : all (λ m. ltb (m .new) 65536) ms ≡ true → (n : ℕ) → held g n ≡ true → nameAfter ms n < 65536
+  little small n q = changed-small ms small n (leb-le (holds-all (λ k. ltb k 65536) (g .names) n q (low (g .names) (wf→inv g formed .asc))))
 
   inj : (m n : ℕ) → held g m ≡ true → held g n ≡ true → nameAfter ms m ≡ nameAfter ms n → m ≡ n
   inj = changed-apart (g .names) ms sound
 
-  pub remap-formed : wellFormed h ≡ true
-  remap-formed = subst (λ (k : Graph). wellFormed k ≡ true) made (rename-formed g ms formed sound little)
+  pub remap-formed : all (λ m. ltb (m .new) 65536) ms ≡ true → wellFormed h ≡ true
+  remap-formed small = subst (λ (k : Graph). wellFormed k ≡ true) made (rename-formed g ms formed sound (little small))
 
 -- ---- one by one
 
@@ -237,25 +227,27 @@ old-once (m ∷ ms) t n = decide (eqb n (m .old))
         absurd (both (w .2 (alike m) (or-l (eqb (m .new) (w .0 .new)) (subst (λ (j : ℕ). eqb j (w .0 .old) ≡ true) q (w .1)))) (or-no-l (any (alike m) ms) (twice ms) t)))
         (λ h. h)
 
--- the Rust's way: the names in ascending order of the old ones, the edges' ends together
-abbrev pub oneByOne : Graph → List Change → Graph
-oneByOne g ms = record { names = inTurn (nameAfter ms) (ascend (map (λ m. m .old) ms)) (g .names); edges = renameEdges (nameAfter ms) (g .edges) }
+-- no new name is a greater old one
+not-greater : (ms : List Change) → overtakes ms ≡ false → (m n : ℕ) → isOld ms m ≡ true → isOld ms n ≡ true → m < n → nameAfter ms m ≢ n
+not-greater ms c m n hm hn l e =
+    let w = pair-of ms m hm in
+    let q : n ≡ w .0 .new = sym e ∙ w .2 in
+    let y : w .0 .old < w .0 .new = omega (arith, w .1, q, l) in
+    both (w .3 (overtaken ms) (and-i (subst (λ (j : ℕ). isOld ms j ≡ true) q hn) (le-leb y))) c
 
--- Where it is not refused, the names come out as by the Rust's renaming one by one. The edges' ends are renamed together on both sides.
-pub remap-one-by-one : (g h : Graph) (ms : List Change) → all (λ m. ltb (m .new) 65536) ms ≡ true → remap g ms ≡ ok h → oneByOne g ms ≡ h
-unfolding renamed
-remap-one-by-one g h ms s r =
+-- Where it is not refused and no new name is a greater old one, the Rust's renaming one by one, ascending by the old name, gives the same.
+pub remap-one-by-one : (g h : Graph) (ms : List Change) → all (λ m. ltb (m .new) 65536) ms ≡ true → overtakes ms ≡ false → remap g ms ≡ ok h
+    → oneByOne (nameAfter ms) (ascend (map (λ m. m .old) ms)) g ≡ h
+remap-one-by-one g h ms s v r =
     let olds : List ℕ = map (λ m. m .old) ms in
-    let c : clash (g .names) ms ≡ false = sound g h ms s r in
-    let once : (n : ℕ) → times n olds ≤ 1 = old-once ms (apart (g .names) ms c) in
+    let once : (n : ℕ) → times n olds ≤ 1 = old-once ms (apart (g .names) ms (sound g h ms r)) in
     let same : (n : ℕ) → times n (ascend olds) ≡ times n olds = ascend-times olds once in
     let key : (n : ℕ) → 1 ≤ times n (ascend olds) → isOld ms n ≡ true = λ n q. times-old ms n (subst (λ (k : ℕ). 1 ≤ k) (same n) q) in
-    let q : inTurn (nameAfter ms) (ascend olds) (g .names) ≡ renameNames (nameAfter ms) (g .names) =
-    in-turn (nameAfter ms) (g .names) (inj g h ms s r) (little g h ms s r) (ascend olds) (wf→inv g (formed g h ms s r) .asc)
-    (to-apart (nameAfter ms) (ascend olds) (ascend-sorted olds) (λ n k x y l. not-greater (g .names) ms c n k (key n x) (key k y) l))
+    in-turn (nameAfter ms) g (formed g h ms r) (inj g h ms r) (little g h ms r s) (ascend olds)
+    (to-apart (nameAfter ms) (ascend olds) (ascend-sorted olds) (λ n k x y l. not-greater ms v n k (key n x) (key k y) l))
     (λ n. let a : times n (ascend olds) ≡ times n olds = same n in let b : times n olds ≤ 1 = once n in omega arith)
-    (λ n y t. stays ms n (decide (isOld ms n) (λ e. absurd (no-times ms n e (sym (same n) ∙ t))) (λ e. e))) in
-    (λ i. record { names = q i; edges = renameEdges (nameAfter ms) (g .edges) }) ∙ made g h ms s r
+    (λ n y t. stays ms n (decide (isOld ms n) (λ e. absurd (no-times ms n e (sym (same n) ∙ t))) (λ e. e)))
+    ∙ made g h ms r
 
 -- ---- the test for two pairs, pair by pair: `ks` is what remains to be compared with the first of the pairs that remain
 

@@ -8,17 +8,16 @@ use mathlib.Core.Path.{_≡_, refl, ap, subst, sym, _∙_}
 use native.Mathlib.Nat.{zero-add}
 use lib.Dec.{eqb, ltb, leb}
 use lib.ListN.{length, getD}
-use Rattle.meaning.specs.Answers.{ok}
 use Rattle.meaning.specs.Lists.{all}
 use Rattle.meaning.specs.References.{EdgeSet, emptySet, setOk}
 use Rattle.meaning.specs.BorrowGraph.{GEdge, notBefore, putEdge, ltPair, inOrder, eqPair, union, one, setAt, withEnds, renameEdges, Name, holds, ascending, pairOk, onPairs, withId, renameNames, Graph, held, renamed}
-use Rattle.meaning.specs.AbstractState.{Local, absent, ref, eqLocal, localHolding, value, ownNames, State, Form, newNameOf, crosses, canonical}
-use Rattle.meaning.specs.Laws.Base.{and-l, and-r, and-i, decide, both, not-true, all-imp, or-l, or-r, or-cases, eqb-eq, eqb-self, eqb-no, eqb-ne, leb-le, le-leb, all-and, ok-inj, guard-ok}
+use Rattle.meaning.specs.AbstractState.{Local, absent, ref, eqLocal, localHolding, value, ownNames, State, Form, newNameOf, canonical}
+use Rattle.meaning.specs.Laws.Base.{and-l, and-r, and-i, decide, both, not-true, all-imp, or-l, or-r, or-cases, eqb-eq, eqb-self, eqb-no, eqb-ne, leb-le, le-leb, all-and}
 use Rattle.meaning.specs.Laws.Borrow.{holds-place, length-place, ascending-place}
 use Rattle.meaning.specs.Laws.Call.{holds-all, endsNot}
 use Rattle.meaning.specs.Laws.Canon.{same-pair, setAt-hit, setAt-miss}
 use Rattle.meaning.specs.Laws.Change.{eqLocal-eq}
-use Rattle.meaning.specs.Laws.Forms.{Open}
+use Rattle.meaning.specs.Laws.Forms.{Open, Settled}
 use Rattle.meaning.specs.Laws.Graph.{ltPair-trans, eqPair-self, not-before-self, eqPair-l, eqPair-r, at-or-empty, empty-ok, Inv, wf→inv, inv→wf, room}
 use Rattle.meaning.specs.Laws.State.{absent≢ref, value≢ref, ref-inj}
 
@@ -73,7 +72,7 @@ place-order x (y ∷ ys) h = go (notBefore x y) refl (place-order x ys (and-r (a
     go false e r = and-i (place-all (notBefore y) x ys (notBefore-turn x y e) (and-l (all (notBefore y) ys) (inOrder ys) h)) r
 
 -- the sets are those of the edge in front
-place-set : (p c : ℕ) (x : GEdge) (ys : List GEdge) → setAt p c (putEdge x ys) ≡ setAt p c (x ∷ ys)
+pub place-set : (p c : ℕ) (x : GEdge) (ys : List GEdge) → setAt p c (putEdge x ys) ≡ setAt p c (x ∷ ys)
 unfolding putEdge
 place-set p c x [] = refl
 place-set p c x (y ∷ ys) = go (notBefore x y) refl (place-set p c x ys)
@@ -104,7 +103,7 @@ unfolding renameEdges
 rename-length f [] = refl
 rename-length f (x ∷ xs) = place-length (withEnds f x) (renameEdges f xs) ∙ ap suc (rename-length f xs)
 
-rename-order : (f : ℕ → ℕ) (xs : List GEdge) → inOrder (renameEdges f xs) ≡ true
+pub rename-order : (f : ℕ → ℕ) (xs : List GEdge) → inOrder (renameEdges f xs) ≡ true
 unfolding renameEdges inOrder
 rename-order f [] = refl
 rename-order f (x ∷ xs) = place-order (withEnds f x) (renameEdges f xs) (rename-order f xs)
@@ -116,7 +115,7 @@ module _ (f : ℕ → ℕ) (ns : List Name) (inj : (m n : ℕ) → holds ns m �
       (λ e. subst (λ (k : ℕ). eqb (f m) (f k) ≡ true) (eqb-eq {m = m} {n = n} e) (eqb-self (f m)) ∙ sym e)
       (λ e. eqb-no {m = f m} {n = f n} (λ q. eqb-ne {m = m} {n = n} e (inj m n hm hn q)) ∙ sym e)
 
-  rename-set : (p c : ℕ) → holds ns p ≡ true → holds ns c ≡ true → (xs : List GEdge) → onPairs (pairOk ns) xs ≡ true → setAt (f p) (f c) (renameEdges f xs) ≡ setAt p c xs
+  pub rename-set : (p c : ℕ) → holds ns p ≡ true → holds ns c ≡ true → (xs : List GEdge) → onPairs (pairOk ns) xs ≡ true → setAt (f p) (f c) (renameEdges f xs) ≡ setAt p c xs
   unfolding renameEdges setAt
   rename-set p c hp hc [] h = refl
   rename-set p c hp hc (x ∷ xs) h =
@@ -245,8 +244,19 @@ own-name i (absent ∷ xs) (suc j) n h = let e : n ≡ suc i + j = own-name (suc
 own-name i (value ∷ xs) (suc j) n h = let e : n ≡ suc i + j = own-name (suc i) xs j n h in omega arith
 own-name i (ref m ∷ xs) (suc j) n h = let e : n ≡ suc i + j = own-name (suc i) xs j n h in omega arith
 
+-- a local without a reference stays as it is
+pub own-rest : (i : ℕ) (xs : List Local) (j : ℕ) (x : Local) → getD xs j absent ≡ x → ((n : ℕ) → x ≢ ref n) → getD (ownNames i xs) j absent ≡ x
+unfolding ownNames
+own-rest i [] j x h d = h
+own-rest i (absent ∷ xs) zero x h d = h
+own-rest i (value ∷ xs) zero x h d = h
+own-rest i (ref m ∷ xs) zero x h d = absurd (d m (sym h))
+own-rest i (absent ∷ xs) (suc j) x h d = own-rest (suc i) xs j x h d
+own-rest i (value ∷ xs) (suc j) x h d = own-rest (suc i) xs j x h d
+own-rest i (ref m ∷ xs) (suc j) x h d = own-rest (suc i) xs j x h d
+
 -- a reference stays one
-own-ref : (i : ℕ) (xs : List Local) (j n : ℕ) → getD xs j absent ≡ ref n → getD (ownNames i xs) j absent ≡ ref (i + j)
+pub own-ref : (i : ℕ) (xs : List Local) (j n : ℕ) → getD xs j absent ≡ ref n → getD (ownNames i xs) j absent ≡ ref (i + j)
 unfolding ownNames
 own-ref i [] j n h = absurd (absent≢ref h)
 own-ref i (absent ∷ xs) zero n h = absurd (absent≢ref h)
@@ -335,12 +345,10 @@ module _ (l : ℕ) (s : State) (o : Open l s) where
     noRoot = end-noRoot;
   }
 
--- The renamed end state of a block has the form. (That names do not cross, 16, is what makes it the Rust's.)
-pub canonical-form : (l : ℕ) (s t : State) → Open l s → canonical l s ≡ ok t → Form l t
+-- The renamed end state of a block has the form. (Where its names do not cross, it is the Rust's: InTurn.)
+pub canonical-form : (l : ℕ) (s : State) → Open l s → Form l (canonical l s)
 unfolding canonical end
-canonical-form l s t o e =
-    let z = guard-ok (not (crosses (s .locals) 0 (s .locals))) 16 (ok (record { locals = ownNames 0 (s .locals); graph = renamed (newNameOf l (s .locals)) (s .graph) })) t e in
-    subst (λ (u : State). Form l u) (ok-inj (z .1)) (end-form l s o)
+canonical-form l s o = end-form l s o
 
 -- ---- the names that the end state holds
 
@@ -354,16 +362,19 @@ own-back i (absent ∷ xs) (suc j) k h = own-back (suc i) xs j k h
 own-back i (value ∷ xs) (suc j) k h = own-back (suc i) xs j k h
 own-back i (ref m ∷ xs) (suc j) k h = own-back (suc i) xs j k h
 
--- the root, if it was held; and each reference, if each name was held, was not the root's, and stood in one local only
-pub canonical-holds : (l : ℕ) (s t : State) → Open l s → canonical l s ≡ ok t → held (s .graph) l ≡ true
-    → ((i n : ℕ) → getD (s .locals) i absent ≡ ref n → (n ≢ l) × (held (s .graph) n ≡ true))
-    → ((i j n : ℕ) → getD (s .locals) i absent ≡ ref n → getD (s .locals) j absent ≡ ref n → i ≡ j)
-    → (held (t .graph) l ≡ true) × ((i : ℕ) → getD (t .locals) i absent ≡ ref i → held (t .graph) i ≡ true)
+-- "each by its old value": what local i holds gets the name i
+pub own-new : (l : ℕ) (s : State) → Settled l s → (i n : ℕ) → getD (s .locals) i absent ≡ ref n → newNameOf l (s .locals) n ≡ i
+own-new l s h i n e = h .once (newNameOf l (s .locals) n) i n (found l s (h .opened) n (h .refs i n e .0) i e .1) e
+
+-- the root, and each reference
+pub canonical-holds : (l : ℕ) (s : State) → Settled l s
+    → (held (canonical l s .graph) l ≡ true) × ((i : ℕ) → getD (canonical l s .locals) i absent ≡ ref i → held (canonical l s .graph) i ≡ true)
 unfolding canonical renamed newNameOf
-canonical-holds l s t o e hl hs un =
-    let z = guard-ok (not (crosses (s .locals) 0 (s .locals))) 16 (ok (record { locals = ownNames 0 (s .locals); graph = renamed (newNameOf l (s .locals)) (s .graph) })) t e in
-    subst (λ (u : State). (held (u .graph) l ≡ true) × ((i : ℕ) → getD (u .locals) i absent ≡ ref i → held (u .graph) i ≡ true)) (ok-inj (z .1)) (root, refs)
+canonical-holds l s h = (root, refs)
   where
+    o : Open l s
+    o = h .opened
+
     f : ℕ → ℕ
     f n = newNameOf l (s .locals) n
 
@@ -374,11 +385,9 @@ canonical-holds l s t o e hl hs un =
     at n h = hold-names f (s .graph .names) inj n (s .graph .names) h
 
     root : holds (renameNames f (s .graph .names)) l ≡ true
-    root = subst (λ (k : ℕ). holds (renameNames f (s .graph .names)) k ≡ true) (ap (λ (b : Bool). cond b l (localHolding l l 0 (s .locals))) (eqb-self l)) (at l hl)
+    root = subst (λ (k : ℕ). holds (renameNames f (s .graph .names)) k ≡ true) (ap (λ (b : Bool). cond b l (localHolding l l 0 (s .locals))) (eqb-self l)) (at l (h .root))
 
     refs : (i : ℕ) → getD (ownNames 0 (s .locals)) i absent ≡ ref i → holds (renameNames f (s .graph .names)) i ≡ true
-    refs i h =
-        let y = own-back 0 (s .locals) i i h in
-        let w = hs i (y .0) (y .1) in
-        let u = found l s o (y .0) (w .0) i (y .1) in
-        subst (λ (k : ℕ). holds (renameNames f (s .graph .names)) k ≡ true) (un (f (y .0)) i (y .0) (u .1) (y .1)) (at (y .0) (w .1))
+    refs i e =
+        let y = own-back 0 (s .locals) i i e in
+        subst (λ (k : ℕ). holds (renameNames f (s .graph .names)) k ≡ true) (own-new l s h i (y .0) (y .1)) (at (y .0) (h .refs i (y .0) (y .1) .1))

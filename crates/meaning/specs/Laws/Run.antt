@@ -1,4 +1,4 @@
--- The run of a routine: the bounds of demand 3 with no hypothesis but the reader's promise, and no refusal 8, 9 or 23.
+-- The run of a routine: the bounds of demand 3 with no hypothesis but the reader's promise, and no refusal 8, 9, 16 or 23.
 use Prim.Native.Nat.{ℕ, zero, suc, _≤_, _<_, zero-le}
 use native.Mathlib.Omega.{arith}
 use mathlib.Core.Bool.{Bool, true, false, _&&_, cond, true≢false}
@@ -28,16 +28,16 @@ use Rattle.meaning.specs.Laws.State.{rank, rank-le, join-law, change-lt}
 use Rattle.meaning.specs.Laws.Loop.{Bounds}
 use Rattle.meaning.specs.Laws.Loop as Laws
 
--- ---- `ordinary` says what it is to say: a number other than 8, 9 and 23
+-- ---- `ordinary` says what it is to say: a number other than 8, 9, 16 and 23
 
-pub ordinary-not : (n : ℕ) → ordinary n ≡ true → (n ≢ 8) × (n ≢ 9) × (n ≢ 23)
-ordinary-not n h = (no 8 refl, no 9 refl, no 23 refl)
+pub ordinary-not : (n : ℕ) → ordinary n ≡ true → (n ≢ 8) × (n ≢ 9) × (n ≢ 16) × (n ≢ 23)
+ordinary-not n h = (no 8 refl, no 9 refl, no 16 refl, no 23 refl)
   where
     no : (k : ℕ) → ordinary k ≡ false → n ≢ k
     no k f e = both (subst (λ (m : ℕ). ordinary m ≡ true) e h) f
 
-pub not-ordinary : (n : ℕ) → n ≢ 8 → n ≢ 9 → n ≢ 23 → ordinary n ≡ true
-not-ordinary n a b c = and-i (not-false (eqb-no a)) (and-i (not-false (eqb-no b)) (not-false (eqb-no c)))
+pub not-ordinary : (n : ℕ) → n ≢ 8 → n ≢ 9 → n ≢ 16 → n ≢ 23 → ordinary n ≡ true
+not-ordinary n a b c d = and-i (not-false (eqb-no a)) (and-i (not-false (eqb-no b)) (and-i (not-false (eqb-no c)) (not-false (eqb-no d))))
 
 -- ---- the run of a routine
 
@@ -93,11 +93,11 @@ module _ (q : Routine) (p : promised q ≡ true) where
 
   -- ---- the refusals of a run
 
-  abbrev KeptOk : Option State → Type 0
+  abbrev pub KeptOk : Option State → Type 0
   KeptOk none = Unit {0}
   KeptOk (some s) = Strong l s
 
-  abbrev AllOk : List (Slot State) → Type 0
+  abbrev pub AllOk : List (Slot State) → Type 0
   AllOk ss = (j : ℕ) → KeptOk (getD ss j blank .kept)
 
   abbrev pub NextOk : Next → Type 0
@@ -137,7 +137,7 @@ module _ (q : Routine) (p : promised q ≡ true) where
     propagate-ok [] a h = h
     propagate-ok (e ∷ es) a h = propagate-ok es (toSuccessor State join joinBlurs changed (exec q) blocks b t e (a .slots) (a .next)) (next-ok e (a .slots) (a .next) (h .0) (h .1))
 
-  abbrev RunOk : Run State → Type 0
+  abbrev pub RunOk : Run State → Type 0
   RunOk r = (AllOk (r .slots)) × (NextOk (r .next))
 
   mark-ok : (ss : List (Slot State)) (i : ℕ) (x : Status) → AllOk ss → AllOk (mark State join joinBlurs changed (exec q) blocks ss i x)
@@ -155,7 +155,7 @@ module _ (q : Routine) (p : promised q ≡ true) where
   visit-ok r i none h w = (h .0, tt)
   visit-ok r i (some s) h w = block-ok r i h (exec-ends q p i s w)
 
-  step-ok : (r : Run State) (x : Next) → RunOk r → RunOk (turnAt State join joinBlurs changed (exec q) blocks r x)
+  pub step-ok : (r : Run State) (x : Next) → RunOk r → RunOk (turnAt State join joinBlurs changed (exec q) blocks r x)
   step-ok r (at i) h = go (ltb i (length blocks))
     where
       go : (b : Bool) → RunOk (cond b (runLoopBlock State join joinBlurs changed (exec q) blocks r i (getD (r .slots) i blank .kept)) r)
@@ -168,7 +168,7 @@ module _ (q : Routine) (p : promised q ≡ true) where
   steps-ok zero r h = h
   steps-ok (suc f) r h = steps-ok f (turn State join joinBlurs changed (exec q) blocks r) (step-ok r (r .next) h)
 
-  first-ok : (bs : List Block) → AllOk (startSlots State join joinBlurs changed (exec q) blocks bs (firstState l ts))
+  pub first-ok : (bs : List Block) → AllOk (startSlots State join joinBlurs changed (exec q) blocks bs (firstState l ts))
   unfolding startSlots
   first-ok [] j = tt
   first-ok (b ∷ bs) zero = first-strong l ts small
@@ -179,7 +179,7 @@ module _ (q : Routine) (p : promised q ≡ true) where
       go (c ∷ cs) zero = tt
       go (c ∷ cs) (suc i) = go cs i
 
-  -- A run that a refusal ended: not 8, 9 or 23.
+  -- A run that a refusal ended: not 8, 9, 16 or 23.
   pub refusals : (f : ℕ) → NextOk (runWith q f .next)
   unfolding run
   refusals f = steps-ok f (record { slots = startSlots State join joinBlurs changed (exec q) blocks blocks (firstState l ts); next = at 0; trail = []; blurs = 0 }) (first-ok blocks, tt) .1
@@ -199,7 +199,7 @@ module _ (s : List ℕ) (q : Routine) (e : readListing s ≡ read q) where
       (λ d. rw d zero-le)
       (λ d. rw (d, e) (visits-bound q (accepted-promised s q e) (mostVisits (length (q .blocks)) (q .locals))))
 
-  pub answer-refusals : (words n p : ℕ) → verify words s .verdict ≡ refusal n p → (n ≢ 8) × (n ≢ 9) × (n ≢ 23)
+  pub answer-refusals : (words n p : ℕ) → verify words s .verdict ≡ refusal n p → (n ≢ 8) × (n ≢ 9) × (n ≢ 16) × (n ≢ 23)
   unfolding verify verdict runOf
   answer-refusals words n p h =
       decide (ltb words areaWords)

@@ -1,4 +1,4 @@
--- The entry points keep the names in use right, and are never refused with 8, 9 or 23.
+-- The entry points keep the names in use right, and are never refused with 8, 9, 16 or 23.
 use Prim.Native.Nat.{ℕ, suc, _+_, _≤_, _<_, zero-le}
 use native.Mathlib.Omega.{arith}
 use mathlib.Core.Bool.{true, Bool, false, false≢true, _&&_, cond}
@@ -20,7 +20,7 @@ use Rattle.meaning.specs.Laws.Own.{fair, Owns, times, count-yes, times-a
 
 -- ---- outcomes
 
--- what is done has the property; what is refused is not refused with 8, 9 or 23
+-- what is done has the property; what is refused is not refused with 8, 9, 16 or 23
 pub data Meets {A : Type 0} (P : A → Type 0) : Outcome A → Type 0 where
   met : {a : A} → P a → Meets P (done a)
   broke : {k c o : ℕ} → Meets P (violated k c o)

@@ -1,4 +1,4 @@
--- Each step keeps the invariant of a running block, and is never refused with 8, 9 or 23.
+-- Each step keeps the invariant of a running block, and is never refused with 8, 9, 16 or 23.
 use Prim.Native.Nat.{ℕ, _+_, zero, suc, _<_, _≤_, zero-le}
 use native.Mathlib.Omega.{arith}
 use mathlib.Core.Bool.{Bool, true, false, true≢false, false≢true}

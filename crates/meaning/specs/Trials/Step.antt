@@ -8,7 +8,7 @@ use lib.ListN.{length}
 use Rattle.meaning.specs.Lists.{all}
 use Rattle.meaning.specs.References.{insert, eqEdge, eqPath, prefix, has, put, ltEdge, ltPath, setOk, ordered, short, isBlur}
 use Rattle.meaning.specs.BorrowGraph.{splice, setAt, release, wellFormed, holds, spliced, without, addAll, addEdge, setTo, limit, ascending, inOrder, newName, borrowWeak, borrowStrong, putName, renamed, renameNames, renameEdges, putEdge, isMutable, lowestOf}
-use Rattle.meaning.specs.AbstractState.{ofRef, canonical, crosses, ownNames, newNameOf, localHolding, State, join, changed, firstState, firstLocals, firstNames, ofValue, Token, joinBlurs}
+use Rattle.meaning.specs.AbstractState.{ofRef, canonical, ownNames, newNameOf, localHolding, State, join, changed, firstState, firstLocals, firstNames, ofValue, Token, joinBlurs}
 use Rattle.meaning.specs.EntryPoints.{newRef, addBorrow, addLocalBorrow, releaseName, valueFor, moveLoc, stLoc, borrowLoc, putNumber, ascend, releaseAll, borrowFrom, handOver, noneBorrowed, notAcquired, returnValues, call, ret, addCopy, addFieldBorrow, addResourceBorrow, releaseValue, copyLoc, freezeRef, comparison, readRef, writeRef, borrowField, borrowGlobal, moveFrom, vectorOp, vectorElementBorrow}
 use Rattle.meaning.specs.Steps.{MoveLoc, StLoc, Ret, Call, popValues, popMany, push, pushAll, pushNew, step, Values, Instr, Pop, CopyLoc, FreezeRef, Compare, ReadRef, WriteRef, BorrowLoc, BorrowField, BorrowGlobal, MoveFrom, MoveTo, VectorOp, BorrowElement}
 use Rattle.meaning.specs.Blocks.{Routine, instrsOf, runFrom, runBlock, exec}
@@ -25,10 +25,10 @@ moved = record {
 }
 
 pub moved-accepted : verdict (moved .blocks) (run State join joinBlurs changed (exec moved) (moved .blocks) 10 (firstState (moved .locals) (moved .params))) ≡ accept
-unfolding firstState firstLocals firstNames run turns loopStep propagate startSlots position verdict lowest exec runBlock runFrom instrsOf step popValues popMany push pushAll pushNew valueFor newRef stLoc borrowLoc moveLoc addLocalBorrow addBorrow lowestOf isMutable newName borrowStrong borrowWeak putName wellFormed holds ascending setAt setTo setOk ordered short inOrder isBlur addAll addEdge insert limit has put prefix eqEdge eqPath ltEdge ltPath canonical crosses renamed renameNames renameEdges putEdge ownNames newNameOf localHolding call notAcquired noneBorrowed handOver returnValues borrowFrom releaseAll releaseName release spliced without splice ascend putNumber ret
+unfolding firstState firstLocals firstNames run turns loopStep propagate startSlots position verdict lowest exec runBlock runFrom instrsOf step popValues popMany push pushAll pushNew valueFor newRef stLoc borrowLoc moveLoc addLocalBorrow addBorrow lowestOf isMutable newName borrowStrong borrowWeak putName wellFormed holds ascending setAt setTo setOk ordered short inOrder isBlur addAll addEdge insert limit has put prefix eqEdge eqPath ltEdge ltPath canonical renamed renameNames renameEdges putEdge ownNames newNameOf localHolding call notAcquired noneBorrowed handOver returnValues borrowFrom releaseAll releaseName release spliced without splice ascend putNumber ret
 moved-accepted = refl
 
--- an exchange of two references, which is 16, with an operand left: 14 comes first
+-- an exchange of two references with an operand left: 14
 abbrev left : Routine
 left = record {
   params = ofRef true ∷ ofRef true ∷ [];
@@ -39,7 +39,7 @@ left = record {
 }
 
 pub left-refused : verdict (left .blocks) (run State join joinBlurs changed (exec left) (left .blocks) 10 (firstState (left .locals) (left .params))) ≡ refusal 14 4
-unfolding firstState firstLocals firstNames run turns loopStep propagate startSlots position verdict lowest exec runBlock runFrom instrsOf step popValues popMany push pushAll pushNew valueFor newRef stLoc borrowLoc moveLoc addLocalBorrow addBorrow lowestOf isMutable newName borrowStrong borrowWeak putName wellFormed holds ascending setAt setTo setOk ordered short inOrder isBlur addAll addEdge insert limit has put prefix eqEdge eqPath ltEdge ltPath canonical crosses renamed renameNames renameEdges putEdge ownNames newNameOf localHolding call notAcquired noneBorrowed handOver returnValues borrowFrom releaseAll releaseName release spliced without splice ascend putNumber ret
+unfolding firstState firstLocals firstNames run turns loopStep propagate startSlots position verdict lowest exec runBlock runFrom instrsOf step popValues popMany push pushAll pushNew valueFor newRef stLoc borrowLoc moveLoc addLocalBorrow addBorrow lowestOf isMutable newName borrowStrong borrowWeak putName wellFormed holds ascending setAt setTo setOk ordered short inOrder isBlur addAll addEdge insert limit has put prefix eqEdge eqPath ltEdge ltPath canonical renamed renameNames renameEdges putEdge ownNames newNameOf localHolding call notAcquired noneBorrowed handOver returnValues borrowFrom releaseAll releaseName release spliced without splice ascend putNumber ret
 left-refused = refl
 
 -- ---- one block without successors, for each number of document 01
@@ -139,5 +139,5 @@ routines =
     ∷ []
 
 pub all-cases : all (λ b. b) routines ≡ true
-unfolding routines whole firstState firstLocals firstNames run turns loopStep propagate startSlots position verdict lowest exec runBlock runFrom instrsOf step popValues popMany push pushAll pushNew valueFor releaseValue newRef copyLoc moveLoc stLoc freezeRef comparison readRef writeRef borrowLoc borrowField borrowGlobal moveFrom vectorOp vectorElementBorrow addCopy addBorrow addFieldBorrow addLocalBorrow addResourceBorrow releaseName lowestOf isMutable newName borrowStrong borrowWeak putName wellFormed holds ascending setAt setTo setOk ordered short inOrder isBlur addAll addEdge insert limit has put prefix eqEdge eqPath ltEdge ltPath canonical crosses call notAcquired noneBorrowed handOver returnValues borrowFrom releaseAll release spliced without splice ascend putNumber ret
+unfolding routines whole firstState firstLocals firstNames run turns loopStep propagate startSlots position verdict lowest exec runBlock runFrom instrsOf step popValues popMany push pushAll pushNew valueFor releaseValue newRef copyLoc moveLoc stLoc freezeRef comparison readRef writeRef borrowLoc borrowField borrowGlobal moveFrom vectorOp vectorElementBorrow addCopy addBorrow addFieldBorrow addLocalBorrow addResourceBorrow releaseName lowestOf isMutable newName borrowStrong borrowWeak putName wellFormed holds ascending setAt setTo setOk ordered short inOrder isBlur addAll addEdge insert limit has put prefix eqEdge eqPath ltEdge ltPath canonical call notAcquired noneBorrowed handOver returnValues borrowFrom releaseAll release spliced without splice ascend putNumber ret
 all-cases = refl
