@@ -60,6 +60,13 @@ and-r false b e = absurd (false≢true e)
 pub and-i : {a b : Bool} → a ≡ true → b ≡ true → a && b ≡ true
 and-i {a} {b} p q = ap (λ (x : Bool). x && b) p ∙ q
 
+pub and-no-l : (a b : Bool) → a ≡ false → a && b ≡ false
+and-no-l a b e = ap (λ (x : Bool). x && b) e
+
+pub and-no-r : (a b : Bool) → b ≡ false → a && b ≡ false
+and-no-r true b e = e
+and-no-r false b e = refl
+
 pub and-not : (a : Bool) → a && not a ≡ false
 and-not true = refl
 and-not false = refl

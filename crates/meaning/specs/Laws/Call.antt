@@ -84,13 +84,6 @@ without-set g n p c hp hc =
     setAt-keep-all p c (λ x. not (eqb n (x .parent)) && not (eqb n (x .child)))
     (at-pair (λ q d. not (eqb n q) && not (eqb n d)) true p c (and-i (ap not hp) (ap not hc))) (g .edges)
 
-and-no-l : (a b : Bool) → a ≡ false → a && b ≡ false
-and-no-l a b e = ap (λ (x : Bool). x && b) e
-
-and-no-r : (a b : Bool) → b ≡ false → a && b ≡ false
-and-no-r true b e = e
-and-no-r false b e = refl
-
 pub without-inv : (g : Graph) (n : ℕ) → Inv g → Inv (without g n)
 unfolding without
 without-inv g n v =

@@ -1,6 +1,6 @@
 -- Names changed together (A2): no name is lost, no edge is lost, and mutability goes along. So it is for whatever a block exchanges, cycles of any
 -- length and chains among it, and for a direct rename.
-use Prim.Native.Nat.{ℕ, zero, suc, _≤_, _<_, _+_}
+use Prim.Native.Nat.{ℕ, zero, suc, _≤_, _<_}
 use native.Mathlib.Omega.{arith}
 use native.Mathlib.Nat.{zero-add}
 use mathlib.Core.Bool.{Bool, true, false, _&&_, _||_, not, cond}
@@ -17,7 +17,7 @@ use Rattle.meaning.specs.Laws.Base.{decide, both, eqb-self, eqb-no, or-l
 use Rattle.meaning.specs.Laws.Borrow.{any-place}
 use Rattle.meaning.specs.Laws.Forms.{Open, Settled}
 use Rattle.meaning.specs.Laws.Graph.{wf→inv}
-use Rattle.meaning.specs.Laws.Own.{times, count-yes, count-no}
+use Rattle.meaning.specs.Laws.Own.{times, in-front, count-yes, count-no}
 use Rattle.meaning.specs.Laws.Remap.{changed-apart, remap-ok, formed, sound, made}
 use Rattle.meaning.specs.Laws.Rename.{same-test, rename-set, names-hold, hold-names, names-length, rename-length, apart, place, own-new, own-ref, own-rest}
 
@@ -172,7 +172,7 @@ pub record Stepwise (g : Graph) (a : ℕ) (bs : List ℕ) (z : ℕ) : Type 0 whe
 
 member : (xs : List ℕ) (i : ℕ) → i < length xs → 1 ≤ times (getD xs i 0) xs
 member [] i h = absurd (omega arith)
-member (x ∷ xs) zero h = let c : count1 (eqb x x) ≡ 1 = count-yes (eqb-self x) in omega arith
+member (x ∷ xs) zero h = in-front x xs
 member (x ∷ xs) (suc i) h = let k : 1 ≤ times (getD xs i 0) xs = member xs i (omega arith) in omega arith
 
 steps-next : (a : ℕ) (bs : List ℕ) (z : ℕ) → ((n : ℕ) → times n (a ∷ bs) ≤ 1) → (i : ℕ) → i < length (a ∷ bs) → nameAfter (stepsTo a bs z) (getD (a ∷ bs) i 0) ≡ getD (bs ++ z ∷ []) i 0

@@ -2,10 +2,10 @@
 -- in no program; it is free here.)
 use Prim.Native.Nat.{ℕ, _<_, _≤_, _+_, zero, suc}
 use native.Mathlib.Omega.{arith}
-use mathlib.Core.Bool.{Bool, true, false, true≢false, cond}
+use mathlib.Core.Bool.{Bool, true, false, cond}
 use mathlib.Core.List.{List, [], _∷_, map}
 use mathlib.Core.Logic.{_≢_}
-use mathlib.Core.Option.{Option, none, some}
+use mathlib.Core.Option.{Option, none, some, Option·none-ne-some, Option·some-ne-none}
 use mathlib.Core.Path.{_≡_, ap, sym, _∙_, subst, refl}
 use native.Mathlib.Nat.{not-suc-le-zero, le-of-suc-le-suc}
 use lib.Dec.{eqb, leb, ltb, lt→ltb}
@@ -14,13 +14,6 @@ use lib.Seq.{getD-set-same, getD-set-other, set-out}
 use Rattle.meaning.specs.Answers.{Ans, ok, refuse}
 use Rattle.meaning.specs.Loop.{Status, fine, Slot, blank, Result, ended, returned, violated, refused, Block, failed, Next, at, stopped, Run, Propagation, position, noBlock, afterChange, afterJoin, toKept, toSuccessor, propagate, keptBlurs, successorBlurs, propagateBlurs, mark, afterBlock, visitBlock, turnAt, turn, turns, startSlots, Failure, lower, lowest}
 use Rattle.meaning.specs.Laws.Base.{decide, eqb-eq, eqb-ne, T→eq}
-
-pub none≢some : {A : Type 0} {a : A} → none ≡ some a → ⊥
-none≢some {A} e = true≢false (ap empty e)
-  where
-    empty : Option A → Bool
-    empty none = true
-    empty (some a) = false
 
 -- past the last slot no state is kept
 pub record Fits {St : Type 0} (ks : ℕ → Option St) (xs : List Status) (ss : List (Slot St)) : Type 0 where
@@ -88,7 +81,7 @@ module _ (St : Type 0) (join : St → St → Ans St) (joinBlurs : St → St → 
         go : (k : Option St) → getD ss j blank .kept ≡ k
             → (length (toKept St join joinBlurs changed exec blocks b t e j ss n k .slots) ≡ length blocks) × Fits ks xs (toKept St join joinBlurs changed exec blocks b t e j ss n k .slots) × (at n ≡ toKept St join joinBlurs changed exec blocks b t e j ss n k .next)
         go none q = (ap length (out (record { kept = some t; status = fine; changes = getD ss j blank .changes })) ∙ l, subst (λ (us : List (Slot St)). Fits ks xs us) (sym (out (record { kept = some t; status = fine; changes = getD ss j blank .changes }))) h, refl)
-        go (some s) q = absurd (none≢some (sym nothing ∙ q))
+        go (some s) q = absurd (Option·none-ne-some s (sym nothing ∙ q))
 
     -- the block has no kept state: it takes the end state over
     pub successor-fresh : (n : ℕ) (ks′ : ℕ → Option St) → j < length blocks → length blocks ≤ length xs → ks j ≡ none → ks′ j ≡ some t → ((i : ℕ) → i ≢ j → ks′ i ≡ ks i)
@@ -99,7 +92,7 @@ module _ (St : Type 0) (join : St → St → Ans St) (joinBlurs : St → St → 
         go : (k : Option St) → k ≡ none
             → (length (toKept St join joinBlurs changed exec blocks b t e j ss n k .slots) ≡ length blocks) × Fits ks′ (set xs j fine) (toKept St join joinBlurs changed exec blocks b t e j ss n k .slots) × (at n ≡ toKept St join joinBlurs changed exec blocks b t e j ss n k .next)
         go none q = (length-set ss j (record { kept = some t; status = fine; changes = getD ss j blank .changes }) ∙ l, fits-set ks ks′ xs ss j (some t) fine (getD ss j blank .changes) h (omega (arith, l, w)) (omega (arith, l, m)) new others, refl)
-        go (some s) q = absurd (none≢some (sym q))
+        go (some s) q = absurd (Option·some-ne-none s q)
 
     module _ (n : ℕ) (s : St) (m : j < length blocks) (q : ks j ≡ some s) where
       -- what follows a join

@@ -4,7 +4,7 @@ use native.Mathlib.Omega.{arith}
 use mathlib.Core.Bool.{Bool, true, cond, false, false≢true, _||_, true≢false, _&&_, not}
 use mathlib.Core.List.{List, _∷_, []}
 use mathlib.Core.Logic.{_⊎_, inl, inr, _≢_}
-use mathlib.Core.Option.{Option, none, some}
+use mathlib.Core.Option.{Option, none, some, Option·none-ne-some, Option·some-ne-none, Option·some-injective}
 use mathlib.Core.Path.{_≡_, sym, subst, ap, refl, _∙_}
 use lib.Dec.{eqb, ltb, leb}
 use lib.ListN.{getD, length}
@@ -21,21 +21,14 @@ use Rattle.meaning.specs.Laws.Forms.{Open}
 use Rattle.meaning.specs.Laws.Canon.{Lone, edges-ext, setOk-lone}
 use Rattle.meaning.specs.Laws.Graph.{at-or-empty, Inv, wf→inv}
 use Rattle.meaning.specs.Laws.InTurnEdges.{parents-step, children-turn}
-use Rattle.meaning.specs.Laws.Overwrite.{putOver, in-front, Apart, Midway, midway-start, midway-next, midway-skip, renamed-at, nothing-at}
-use Rattle.meaning.specs.Laws.Own.{times, count-yes, count-no, count-le, Owns, owns-once}
+use Rattle.meaning.specs.Laws.Overwrite.{putOver, Apart, Midway, midway-start, midway-next, midway-skip, renamed-at, nothing-at}
+use Rattle.meaning.specs.Laws.Own.{times, in-front, count-yes, count-no, count-le, Owns, owns-once}
 use Rattle.meaning.specs.Laws.Rename.{place-set, rename-order, same-test, rename-set, rename-inv, names-hold, hold-names, names-ascend, place, apart, small, found}
 use Rattle.meaning.specs.Laws.Running.{ascend-times}
 use Rattle.meaning.specs.Laws.State.{absent≢ref}
 use Rattle.meaning.specs.Refinement.InTurn.{flagOf, childrenInTurn, dropName, moved, inTurn, oneByOne, crossed, crosses, remapped}
 
 -- ---- flags
-
-abbrev isSome : Option Bool → Type 0
-isSome none = ⊥
-isSome (some b) = Unit {0}
-
-none≢some : {b : Bool} → none ≡ some b → ⊥
-none≢some e = subst isSome (sym e) tt
 
 hit : (a : Name) (ns : List Name) (k : ℕ) → eqb k (a .id) ≡ true → flagOf (a ∷ ns) k ≡ some (a .mutable)
 unfolding flagOf
@@ -66,10 +59,10 @@ flag-none (a ∷ ns) k h = go (eqb k (a .id)) h (flag-none ns k)
     go false p r = r p
 
 has-flag : (ns : List Name) (k : ℕ) (b : Bool) → flagOf ns k ≡ some b → holds ns k ≡ true
-has-flag ns k b e = decide (holds ns k) (λ h. h) (λ h. absurd (none≢some (sym (flag-none ns k h) ∙ e)))
+has-flag ns k b e = decide (holds ns k) (λ h. h) (λ h. absurd (Option·none-ne-some b (sym (flag-none ns k h) ∙ e)))
 
 none-held : (ns : List Name) (k : ℕ) → flagOf ns k ≡ none → holds ns k ≡ false
-none-held ns k e = decide (holds ns k) (λ h. let z = held-flag ns k h in absurd (none≢some (sym e ∙ z .1))) (λ h. h)
+none-held ns k e = decide (holds ns k) (λ h. let z = held-flag ns k h in absurd (Option·none-ne-some (z .0) (sym e ∙ z .1))) (λ h. h)
 
 none-below : (ns : List Name) (b k : ℕ) → all (λ m. ltb b (m .id)) ns ≡ true → k ≤ b → flagOf ns k ≡ none
 unfolding flagOf
@@ -82,35 +75,25 @@ none-below (a ∷ ns) b k h l =
 names-ext : (ns ms : List Name) → ascending ns ≡ true → ascending ms ≡ true → ((k : ℕ) → flagOf ns k ≡ flagOf ms k) → ns ≡ ms
 unfolding ascending
 names-ext [] [] p q h = refl
-names-ext [] (b ∷ ms) p q h = absurd (none≢some (sym (flag-none [] (b .id) (nothing (b .id))) ∙ h (b .id) ∙ hit b ms (b .id) (eqb-self (b .id))))
-  where
-    nothing : (k : ℕ) → holds [] k ≡ false
-    nothing k = none-held [] k (none-below [] k k refl (omega arith))
-names-ext (a ∷ ns) [] p q h = absurd (none≢some (sym (none-below [] (a .id) (a .id) refl (omega arith)) ∙ sym (h (a .id)) ∙ hit a ns (a .id) (eqb-self (a .id))))
+names-ext [] (b ∷ ms) p q h = absurd (Option·none-ne-some (b .mutable) (sym (none-below [] (b .id) (b .id) refl (omega arith)) ∙ h (b .id) ∙ hit b ms (b .id) (eqb-self (b .id))))
+names-ext (a ∷ ns) [] p q h = absurd (Option·none-ne-some (a .mutable) (sym (none-below [] (a .id) (a .id) refl (omega arith)) ∙ sym (h (a .id)) ∙ hit a ns (a .id) (eqb-self (a .id))))
 names-ext (a ∷ ns) (b ∷ ms) p q h =
     let ua : all (λ m. ltb (a .id) (m .id)) ns ≡ true = and-r (ltb (a .id) 65536) (all (λ m. ltb (a .id) (m .id)) ns) (and-l (ltb (a .id) 65536 && all (λ m. ltb (a .id) (m .id)) ns) (ascending ns) p) in
     let ub : all (λ m. ltb (b .id) (m .id)) ms ≡ true = and-r (ltb (b .id) 65536) (all (λ m. ltb (b .id) (m .id)) ms) (and-l (ltb (b .id) 65536 && all (λ m. ltb (b .id) (m .id)) ms) (ascending ms) q) in
     let l₁ : b .id ≤ a .id = le a ns b ms ub h in
     let l₂ : a .id ≤ b .id = le b ms a ns ua (λ k. sym (h k)) in
     let e : a .id ≡ b .id = omega arith in
-    let m : a .mutable ≡ b .mutable = some-inj (sym (hit a ns (a .id) (eqb-self (a .id))) ∙ h (a .id) ∙ hit b ms (a .id) (subst (λ (k : ℕ). eqb (a .id) k ≡ true) e (eqb-self (a .id)))) in
+    let m : a .mutable ≡ b .mutable = Option·some-injective (a .mutable) (b .mutable) (sym (hit a ns (a .id) (eqb-self (a .id))) ∙ h (a .id) ∙ hit b ms (a .id) (subst (λ (k : ℕ). eqb (a .id) k ≡ true) e (eqb-self (a .id)))) in
     let t : ns ≡ ms = names-ext ns ms (and-r (ltb (a .id) 65536 && all (λ m. ltb (a .id) (m .id)) ns) (ascending ns) p) (and-r (ltb (b .id) 65536 && all (λ m. ltb (b .id) (m .id)) ms) (ascending ms) q)
     (λ k. decide (eqb k (a .id))
     (λ z. let w : k ≡ a .id = eqb-eq {m = k} {n = a .id} z in none-below ns (a .id) k ua (omega arith) ∙ sym (none-below ms (b .id) k ub (omega arith)))
     (λ z. sym (miss a ns k z) ∙ h k ∙ miss b ms k (subst (λ (j : ℕ). eqb k j ≡ false) e z))) in
     λ i. record { id = e i; mutable = m i } ∷ t i
   where
-    fromSome : Bool → Option Bool → Bool
-    fromSome d none = d
-    fromSome d (some x) = x
-
-    some-inj : {x y : Bool} → some x ≡ some y → x ≡ y
-    some-inj {x} z = ap (fromSome x) z
-
     le : (a : Name) (ns : List Name) (b : Name) (ms : List Name) → all (λ m. ltb (b .id) (m .id)) ms ≡ true → ((k : ℕ) → flagOf (a ∷ ns) k ≡ flagOf (b ∷ ms) k) → b .id ≤ a .id
     le a ns b ms ub h = decide (leb (b .id) (a .id)) (λ z. leb-le z)
         (λ z. let x : a .id < b .id = leb-gt z in
-        absurd (none≢some (sym (miss b ms (a .id) (eqb-no {m = a .id} {n = b .id} (λ y. omega arith)) ∙ none-below ms (b .id) (a .id) ub (omega arith)) ∙ sym (h (a .id)) ∙ hit a ns (a .id) (eqb-self (a .id)))))
+        absurd (Option·none-ne-some (a .mutable) (sym (miss b ms (a .id) (eqb-no {m = a .id} {n = b .id} (λ y. omega arith)) ∙ none-below ms (b .id) (a .id) ub (omega arith)) ∙ sym (h (a .id)) ∙ hit a ns (a .id) (eqb-self (a .id)))))
 
 place-flag : (a : Name) (ns : List Name) (k : ℕ) → flagOf ns (a .id) ≡ none → flagOf (putName a ns) k ≡ cond (eqb k (a .id)) (some (a .mutable)) (flagOf ns k)
 unfolding putName flagOf
@@ -124,7 +107,7 @@ place-flag a (b ∷ bs) k h = go (ltb (a .id) (b .id)) (eqb (a .id) (b .id)) ref
 
     go : (c d : Bool) → eqb (a .id) (b .id) ≡ d → cond d (some (b .mutable)) (flagOf bs (a .id)) ≡ none → (flagOf bs (a .id) ≡ none → flagOf (putName a bs) k ≡ cond (eqb k (a .id)) (some (a .mutable)) (flagOf bs k))
         → flagOf (cond c (a ∷ b ∷ bs) (b ∷ putName a bs)) k ≡ cond (eqb k (a .id)) (some (a .mutable)) (cond (eqb k (b .id)) (some (b .mutable)) (flagOf bs k))
-    go c true e z r = absurd (none≢some (sym z))
+    go c true e z r = absurd (Option·some-ne-none (b .mutable) z)
     go true false e z r = refl
     go false false e z r = ap (λ (o : Option Bool). cond (eqb k (b .id)) (some (b .mutable)) o) (r z) ∙ swap e (eqb k (b .id)) (eqb k (a .id)) refl refl
 
@@ -416,7 +399,7 @@ ascend-sorted (x ∷ xs) = place-sorted x (ascend xs) (ascend-sorted xs)
 pub to-apart : (f : ℕ → ℕ) (ks : List ℕ) → Sorted ks → ((n m : ℕ) → 1 ≤ times n ks → 1 ≤ times m ks → n < m → f n ≢ m) → Apart f ks
 to-apart f [] s h = tt
 to-apart f (n ∷ ks) s h = (
-  (λ m t. h n m (let c : count1 (eqb n n) ≡ 1 = count-yes (eqb-self n) in omega arith) (omega arith) (s .0 m t)),
+  (λ m t. h n m (in-front n ks) (omega arith) (s .0 m t)),
   to-apart f ks (s .1) (λ i m p q l. h i m (omega arith) (omega arith) l),
 )
 

@@ -1,6 +1,6 @@
 -- One end of the edges renamed one name after the other: set by set that is a map renamed so (Overwrite).
 use Prim.Native.Nat.{ℕ, _≤_}
-use mathlib.Core.Bool.{Bool, true, false, cond, not, _&&_, _||_, false≢true}
+use mathlib.Core.Bool.{Bool, true, false, cond, not, _&&_, _||_, false≢true, and-comm}
 use mathlib.Core.List.{List, [], _∷_, map, cons≢nil}
 use mathlib.Core.Logic.{_≢_}
 use mathlib.Core.Path.{_≡_, refl, sym, ap, subst, _∙_}
@@ -8,9 +8,9 @@ use lib.Dec.{eqb}
 use Rattle.meaning.specs.Lists.{any, keep}
 use Rattle.meaning.specs.References.{EdgeSet, emptySet}
 use Rattle.meaning.specs.BorrowGraph.{GEdge, eqPair, union, one, setAt}
-use Rattle.meaning.specs.Laws.Base.{decide, both, eqb-eq, eqb-no, eqb-ne, or-no-l, or-no-r}
-use Rattle.meaning.specs.Laws.Overwrite.{putOver, in-front, Apart, Midway, midway-next, midway-skip}
-use Rattle.meaning.specs.Laws.Own.{times}
+use Rattle.meaning.specs.Laws.Base.{decide, both, and-l, and-no-l, and-no-r, eqb-eq, eqb-no, eqb-ne, or-no-l, or-no-r}
+use Rattle.meaning.specs.Laws.Overwrite.{putOver, Apart, Midway, midway-next, midway-skip}
+use Rattle.meaning.specs.Laws.Own.{times, in-front}
 use Rattle.meaning.specs.Refinement.InTurn.{withParent, withChild, endMoved, lends, childrenInTurn}
 
 -- the edges that pass a test, as a set
@@ -37,13 +37,6 @@ module _ (end : GEdge → ℕ) (to : ℕ → GEdge → GEdge) (same : GEdge → 
   unfolding at
   at-none k = refl
 
-  no-left : (a b : Bool) → a ≡ false → a && b ≡ false
-  no-left a b h = ap (λ (c : Bool). c && b) h
-
-  no-right : (a b : Bool) → b ≡ false → a && b ≡ false
-  no-right true b h = h
-  no-right false b h = refl
-
   module _ (over : GEdge → Bool) (old new : ℕ) where
     abbrev stays : GEdge → Bool
     stays x = not (eqb new (end x) && (not (eqb old (end x)) && over x))
@@ -67,14 +60,14 @@ module _ (end : GEdge → ℕ) (to : ℕ → GEdge → GEdge) (same : GEdge → 
     left-out : (k : ℕ) (x : GEdge) (xs : List GEdge) → same x ≡ false → at k (done (x ∷ xs)) ≡ at k (done xs)
     left-out k x xs h =
         decide (stays x)
-        (λ s. ap (at k) (kept x xs s) ∙ at-miss k (go x) (done xs) (no-right (eqb k (end (go x))) (same (go x)) (go-same x ∙ h)))
+        (λ s. ap (at k) (kept x xs s) ∙ at-miss k (go x) (done xs) (and-no-r (eqb k (end (go x))) (same (go x)) (go-same x ∙ h)))
         (λ s. ap (at k) (dropped x xs s))
 
     stays-old : (x : GEdge) → eqb old (end x) ≡ true → stays x ≡ true
-    stays-old x h = ap not (no-right (eqb new (end x)) (not (eqb old (end x)) && over x) (no-left (not (eqb old (end x))) (over x) (ap not h)))
+    stays-old x h = ap not (and-no-r (eqb new (end x)) (not (eqb old (end x)) && over x) (and-no-l (not (eqb old (end x))) (over x) (ap not h)))
 
     stays-other : (x : GEdge) → eqb new (end x) ≡ false → stays x ≡ true
-    stays-other x h = ap not (no-left (eqb new (end x)) (not (eqb old (end x)) && over x) h)
+    stays-other x h = ap not (and-no-l (eqb new (end x)) (not (eqb old (end x)) && over x) h)
 
     -- what `same` leaves in is put over
     module _ (puts : (x : GEdge) → same x ≡ true → over x ≡ true) (k : ℕ) where
@@ -98,33 +91,29 @@ module _ (end : GEdge → ℕ) (to : ℕ → GEdge → GEdge) (same : GEdge → 
           let r′ : at k (done xs) ≡ at old xs = r ∙ ap (λ (b : Bool). cond b (at old xs) (cond (eqb k old) emptySet (at k xs))) h in
           l ∙ at-hit k (to new x) (done xs) t ∙ (λ i. union (to-one new x i) (r′ i)) ∙ sym (at-hit old x xs w)
           ∙ sym (ap (λ (b : Bool). cond b (at old (x ∷ xs)) (cond (eqb k old) emptySet (at k (x ∷ xs)))) h))
-          (λ h. let t : eqb k (end (to new x)) && same (to new x) ≡ false = no-left (eqb k (end (to new x))) (same (to new x)) (ap (eqb k) (to-end new x) ∙ h) in
+          (λ h. let t : eqb k (end (to new x)) && same (to new x) ≡ false = and-no-l (eqb k (end (to new x))) (same (to new x)) (ap (eqb k) (to-end new x) ∙ h) in
           l ∙ at-miss k (to new x) (done xs) t ∙ r ∙ ap (λ (b : Bool). cond b (at old xs) (cond (eqb k old) emptySet (at k xs))) h
           ∙ decide (eqb k old) (λ g₂. rw g₂)
-          (λ g₂. rw g₂ (sym (at-miss k x xs (no-left (eqb k (end x)) (same x) (subst (λ (n : ℕ). eqb k n ≡ false) (eqb-eq {m = old} {n = end x} a) g₂)))))
+          (λ g₂. rw g₂ (sym (at-miss k x xs (and-no-l (eqb k (end x)) (same x) (subst (λ (n : ℕ). eqb k n ≡ false) (eqb-eq {m = old} {n = end x} a) g₂)))))
           ∙ sym (ap (λ (b : Bool). cond b (at old (x ∷ xs)) (cond (eqb k old) emptySet (at k (x ∷ xs)))) h))
 
       is-new : (x : GEdge) (xs : List GEdge) → same x ≡ true → eqb old (end x) ≡ false → eqb new (end x) ≡ true → Over xs → Over (x ∷ xs)
       is-new x xs s a b r =
           let d : stays x ≡ false = (λ i. not (b i && (not (a i) && puts x s i))) in
           ap (at k) (dropped x xs d) ∙ r
-          ∙ unseen x xs (at-miss old x xs (no-left (eqb old (end x)) (same x) a))
-          (λ p q. at-miss k x xs (no-left (eqb k (end x)) (same x) (eqb-no {m = k} {n = end x} (λ z. p (z ∙ sym (eqb-eq {m = new} {n = end x} b))))))
+          ∙ unseen x xs (at-miss old x xs (and-no-l (eqb old (end x)) (same x) a))
+          (λ p q. at-miss k x xs (and-no-l (eqb k (end x)) (same x) (eqb-no {m = k} {n = end x} (λ z. p (z ∙ sym (eqb-eq {m = new} {n = end x} b))))))
 
       is-other : (x : GEdge) (xs : List GEdge) → eqb old (end x) ≡ false → eqb new (end x) ≡ false → Over xs → Over (x ∷ xs)
       is-other x xs a b r =
           let l : at k (done (x ∷ xs)) ≡ at k (x ∷ done xs) = ap (at k) (kept x xs (stays-other x b) ∙ ap (λ (c : Bool). cond c (to new x) x ∷ done xs) a) in
           decide (eqb k (end x) && same x)
-          (λ h. let z : k ≡ end x = eqb-eq {m = k} {n = end x} (left (eqb k (end x)) (same x) h) in
+          (λ h. let z : k ≡ end x = eqb-eq {m = k} {n = end x} (and-l (eqb k (end x)) (same x) h) in
           let n₁ : eqb k new ≡ false = eqb-no {m = k} {n = new} (λ y. eqb-ne {m = new} {n = end x} b (sym y ∙ z)) in
           let n₂ : eqb k old ≡ false = eqb-no {m = k} {n = old} (λ y. eqb-ne {m = old} {n = end x} a (sym y ∙ z)) in
           let r′ : at k (done xs) ≡ at k xs = r ∙ (λ i. cond (n₁ i) (at old xs) (cond (n₂ i) emptySet (at k xs))) in
           l ∙ at-hit k x (done xs) h ∙ ap (union (one x)) r′ ∙ sym (at-hit k x xs h) ∙ sym (λ i. cond (n₁ i) (at old (x ∷ xs)) (cond (n₂ i) emptySet (at k (x ∷ xs)))))
-          (λ h. l ∙ at-miss k x (done xs) h ∙ r ∙ unseen x xs (at-miss old x xs (no-left (eqb old (end x)) (same x) a)) (λ p q. at-miss k x xs h))
-        where
-          left : (u v : Bool) → u && v ≡ true → u ≡ true
-          left true v z = refl
-          left false v z = z
+          (λ h. l ∙ at-miss k x (done xs) h ∙ r ∙ unseen x xs (at-miss old x xs (and-no-l (eqb old (end x)) (same x) a)) (λ p q. at-miss k x xs h))
 
       pub moved-over : (xs : List GEdge) → Over xs
       moved-over [] = at-none k ∙ none (eqb k new) (eqb k old)
@@ -137,7 +126,7 @@ module _ (end : GEdge → ℕ) (to : ℕ → GEdge → GEdge) (same : GEdge → 
           let r : Over xs = moved-over xs in
           decide (same x)
           (λ s. decide (eqb old (end x)) (λ a. is-old x xs s a r) (λ a. decide (eqb new (end x)) (λ b. is-new x xs s a b r) (λ b. is-other x xs a b r)))
-          (λ s. left-out k x xs s ∙ r ∙ unseen x xs (at-miss old x xs (no-right (eqb old (end x)) (same x) s)) (λ p q. at-miss k x xs (no-right (eqb k (end x)) (same x) s)))
+          (λ s. left-out k x xs s ∙ r ∙ unseen x xs (at-miss old x xs (and-no-r (eqb old (end x)) (same x) s)) (λ p q. at-miss k x xs (and-no-r (eqb k (end x)) (same x) s)))
 
     -- nothing stands at the old name, and nothing is put over
     pub moved-none : ((x : GEdge) → same x ≡ true → over x ≡ false) → (k : ℕ) (xs : List GEdge) → any (λ x. eqb old (end x) && same x) xs ≡ false → at k (done xs) ≡ at k xs
@@ -146,22 +135,16 @@ module _ (end : GEdge → ℕ) (to : ℕ → GEdge → GEdge) (same : GEdge → 
         let r : at k (done xs) ≡ at k xs = moved-none puts k xs (or-no-r (eqb old (end x) && same x) (any (λ y. eqb old (end y) && same y) xs) h) in
         decide (same x)
         (λ s. let a : eqb old (end x) ≡ false = right (eqb old (end x)) (same x) s (or-no-l (eqb old (end x) && same x) (any (λ y. eqb old (end y) && same y) xs) h) in
-        let d : stays x ≡ true = ap not (no-right (eqb new (end x)) (not (eqb old (end x)) && over x) (no-right (not (eqb old (end x))) (over x) (puts x s))) in
+        let d : stays x ≡ true = ap not (and-no-r (eqb new (end x)) (not (eqb old (end x)) && over x) (and-no-r (not (eqb old (end x))) (over x) (puts x s))) in
         ap (at k) (kept x xs d ∙ ap (λ (c : Bool). cond c (to new x) x ∷ done xs) a)
         ∙ decide (eqb k (end x) && same x) (λ t. at-hit k x (done xs) t ∙ ap (union (one x)) r ∙ sym (at-hit k x xs t)) (λ t. at-miss k x (done xs) t ∙ r ∙ sym (at-miss k x xs t)))
-        (λ s. left-out k x xs s ∙ r ∙ sym (at-miss k x xs (no-right (eqb k (end x)) (same x) s)))
+        (λ s. left-out k x xs s ∙ r ∙ sym (at-miss k x xs (and-no-r (eqb k (end x)) (same x) s)))
       where
         right : (u v : Bool) → v ≡ true → u && v ≡ false → u ≡ false
         right true v p q = absurd (both p q)
         right false v p q = refl
 
 -- ---- the sets of the pairs
-
-and-swap : (a b : Bool) → a && b ≡ b && a
-and-swap true true = refl
-and-swap true false = refl
-and-swap false true = refl
-and-swap false false = refl
 
 -- those of one parent, by the child; those of one child, by the parent
 abbrev byChild : ℕ → ℕ → List GEdge → EdgeSet
@@ -173,7 +156,7 @@ byParent c p xs = at (λ x. x .parent) withParent (λ x. eqb c (x .child)) (λ n
 set-child : (p c : ℕ) (xs : List GEdge) → byChild p c xs ≡ setAt p c xs
 unfolding at gather setAt
 set-child p c [] = refl
-set-child p c (x ∷ xs) = λ i. cond (and-swap (eqb c (x .child)) (eqb p (x .parent)) i) (union (one x) (set-child p c xs i)) (set-child p c xs i)
+set-child p c (x ∷ xs) = λ i. cond (and-comm (eqb c (x .child)) (eqb p (x .parent)) i) (union (one x) (set-child p c xs i)) (set-child p c xs i)
 
 set-parent : (c p : ℕ) (xs : List GEdge) → byParent c p xs ≡ setAt p c xs
 unfolding at gather setAt
@@ -232,7 +215,7 @@ module _ (f : ℕ → ℕ) (dom : ℕ → Bool) (inj : (m n : ℕ) → dom m ≡
         (sym (h .toCome n (in-front n ks)) ∙ set-not-lent p n cur l)
         (λ k. sym (set-child p k next)
         ∙ moved-none (λ x. x .child) withChild (λ x. eqb p (x .parent)) (λ m x. refl) (λ m x. refl) (λ m x. refl) lent n (f n) (step false l) k cur
-        ((λ i. any (λ x. and-swap (eqb n (x .child)) (eqb p (x .parent)) i) cur) ∙ l)
+        ((λ i. any (λ x. and-comm (eqb n (x .child)) (eqb p (x .parent)) i) cur) ∙ l)
         ∙ set-child p k cur)
 
   pub children-turn : (ks : List ℕ) (cur : List GEdge) → Apart f ks → Sets ks cur → Sets [] (childrenInTurn f ks cur)

@@ -9,7 +9,7 @@ use mathlib.Core.Path.{_≡_, refl, sym, ap, subst, _∙_}
 use lib.Dec.{eqb, leb}
 use Rattle.meaning.specs.AbstractState.{count1}
 use Rattle.meaning.specs.Laws.Base.{decide, eqb-self, eqb-no, eqb-eq, eqb-ne, leb-le, leb-gt}
-use Rattle.meaning.specs.Laws.Own.{times, count-yes, count-no}
+use Rattle.meaning.specs.Laws.Own.{times, in-front, count-yes, count-no}
 
 module _ {A : Type 0} (e : A) where
   -- e: nothing stands there
@@ -24,9 +24,6 @@ module _ {A : Type 0} (e : A) where
 
   elsewhere : (old new : ℕ) (m : ℕ → A) (k : ℕ) → k ≢ new → k ≢ old → putOver old new m k ≡ m k
   elsewhere old new m k p q = (λ i. cond (eqb-no {m = k} {n = new} p i) (m old) (cond (eqb-no {m = k} {n = old} q i) e (m k)))
-
-pub in-front : (n : ℕ) (ks : List ℕ) → 1 ≤ times n (n ∷ ks)
-in-front n ks = let c : count1 (eqb n n) ≡ 1 = count-yes (eqb-self n) in omega arith
 
 -- no new name is an old one still to come
 abbrev pub Apart : (ℕ → ℕ) → List ℕ → Type 0

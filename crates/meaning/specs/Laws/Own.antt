@@ -75,6 +75,9 @@ count-le false = omega arith
 pub count-yes : {b : Bool} → b ≡ true → count1 b ≡ 1
 count-yes e = ap count1 e
 
+pub in-front : (n : ℕ) (ks : List ℕ) → 1 ≤ times n (n ∷ ks)
+in-front n ks = let c : count1 (eqb n n) ≡ 1 = count-yes (eqb-self n) in omega arith
+
 pub count-no : {b : Bool} → b ≡ false → count1 b ≡ 0
 count-no e = ap count1 e
 
@@ -145,7 +148,7 @@ module _ (l : ℕ) (g : Graph) (next : ℕ) (xs : List ℕ) (m : ℕ) (o : Owns 
   owns-held n h = let c : times n (l ∷ xs) ≡ count1 (held g n) = o .counts n in count-pos (held g n) (omega arith)
 
   pub owns-root : held g l ≡ true
-  owns-root = let c : count1 (eqb l l) ≡ 1 = count-yes (eqb-self l) in owns-held l (omega arith)
+  owns-root = owns-held l (in-front l xs)
 
   pub owns-once : (n : ℕ) → times n (l ∷ xs) ≤ 1
   owns-once n =

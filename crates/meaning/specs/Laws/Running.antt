@@ -16,7 +16,7 @@ use Rattle.meaning.specs.AbstractState.{Local, count1, Operand, nonRef, 
 use Rattle.meaning.specs.EntryPoints.{Running, Answer, Answers, withGraph, answer, fails, barsReading, barsHandingOver, barsLocalBorrow, barsFieldBorrow, barsResourceBorrow, needsName, newRef, onGraph, addCopy, addBorrow, addFieldBorrow, addLocalBorrow, addResourceBorrow, releaseName, valueFor, releaseValue, freezeRef, comparison, readRef, writeRef, borrowLoc, borrowField, borrowGlobal, moveFrom, vectorTest, vectorOp, vectorElementBorrow, operandNames, releaseAll, borrowFrom, handOver, parentsOf, returnValues, putNumber, ascend, localNames, noneBorrowed, notAcquired, call, ret}
 use Rattle.meaning.specs.Laws.Base.{and-i, eqb-self}
 use Rattle.meaning.specs.Laws.Call.{endsNot}
-use Rattle.meaning.specs.Laws.Own.{fair, Owns, times, count-yes, times-append, owns-held, owns-as, owns-less, release-fair, release-own, newName-fair, newName-own, borrowWeak-fair, borrowWeak-own, borrowStrong-fair, borrowStrong-own, owns-once}
+use Rattle.meaning.specs.Laws.Own.{fair, Owns, times, in-front, count-yes, times-append, owns-held, owns-as, owns-less, release-fair, release-own, newName-fair, newName-own, borrowWeak-fair, borrowWeak-own, borrowStrong-fair, borrowStrong-own, owns-once}
 
 -- ---- outcomes
 
@@ -141,7 +141,7 @@ module _ (l : ℕ) (ls : List Local) where
       (λ g. done (withGraph r g)) (λ g o. met (record { root = h .root; locals = h .locals; own = o }))
 
   uses-root : (xs : List ℕ) (m : ℕ) (r : Running) → Keeps l ls xs m r → (ys : List ℕ) → Uses (r .root) ys
-  uses-root xs m r h ys = subst (λ (n : ℕ). Uses n ys) (sym (h .root)) (let c : count1 (eqb l l) ≡ 1 = count-yes (eqb-self l) in omega arith)
+  uses-root xs m r h ys = subst (λ (n : ℕ). Uses n ys) (sym (h .root)) (in-front l ys)
 
   uses-head : (n : ℕ) (xs : List ℕ) → Uses n (n ∷ xs)
   uses-head n xs = let c : count1 (eqb n n) ≡ 1 = count-yes (eqb-self n) in omega arith
@@ -272,7 +272,7 @@ module _ (l : ℕ) (ls : List Local) where
   Within ps xs = (p : ℕ) → 1 ≤ times p ps → 1 ≤ times p xs
 
   within-head : (p : ℕ) (ps xs : List ℕ) → Within (p ∷ ps) xs → 1 ≤ times p xs
-  within-head p ps xs w = w p (let c : count1 (eqb p p) ≡ 1 = count-yes (eqb-self p) in omega arith)
+  within-head p ps xs w = w p (in-front p ps)
 
   borrowFrom-keeps : (ps : List ℕ) (c : ℕ) (xs : List ℕ) (m : ℕ) (r : Running) → Keeps l ls (c ∷ xs) m r → Within ps xs → Meets (Keeps l ls (c ∷ xs) m) (borrowFrom ps c r)
   unfolding borrowFrom addBorrow

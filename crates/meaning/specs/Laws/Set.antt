@@ -108,9 +108,6 @@ unfolding put
 length-put e [] = refl
 length-put e (x ∷ xs) = length-cond (ltEdge e x) e x xs (put e xs) (length-put e xs)
 
-or-false-i : {a b : Bool} → a ≡ false → b ≡ false → a || b ≡ false
-or-false-i {a} {b} p q = ap (λ (x : Bool). x || b) p ∙ q
-
 -- ---- the order of edges
 
 ltb-i : {m n : ℕ} → m < n → ltb m n ≡ true
