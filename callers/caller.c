@@ -1,5 +1,5 @@
-/* The static library called from C: a violation, an acceptance after a set was blurred, an area too short, an answer too short; and what the
- * area holds after analyze. */
+/* The static library called from C: a violation, an acceptance after a set was blurred, an empty cell, an area too short, an answer too short;
+ * and what the area holds after analyze. */
 #include "buslatim.h"
 
 #include <stdio.h>
@@ -26,7 +26,7 @@ static const uint8_t lends[] = {0x0E, 0x00, 0x01, 0x00, 0x0B, 0x0B, 0x00, 0x00, 
                                 0x00};
 
 /* KEPT: docs/ARCHITECTURE.md, the area; the unit of what stands beside a local in its word. */
-enum { BEYOND = 1, USED = 7, KEPT = 262144 };
+enum { BEYOND = 1, USED = 7, KEPT = 262144, BLOCK_WORDS = 1024 };
 
 static uint32_t area[BUSLATIM_AREA_WORDS + BEYOND];
 static uint32_t answer[BUSLATIM_ANSWER_WORDS + BEYOND];
@@ -82,6 +82,15 @@ int main(void) {
     expect(verify(lends, sizeof lends, BUSLATIM_AREA_WORDS, BUSLATIM_ANSWER_WORDS), "no answer for a routine that is accepted");
     expect(answers(BUSLATIM_ACCEPT, 0, 0, 1, 1, 0), "not ACCEPT after one visit that blurred one set");
 
+    expect(verify(moved, 0, BUSLATIM_AREA_WORDS + BEYOND, BUSLATIM_ANSWER_WORDS), "no answer for an empty cell");
+    expect(answers(BUSLATIM_EMPTY, 0, 0, 0, 0, 0), "no byte is not EMPTY");
+    expect(all(area, 0, BUSLATIM_AREA_WORDS, 0), "the area is not zero after an empty cell");
+    expect(all(area, BUSLATIM_AREA_WORDS, BUSLATIM_AREA_WORDS + BEYOND, USED), "a word beyond the area is written for an empty cell");
+
+    expect(verify(moved, 0, BUSLATIM_AREA_WORDS - 1, BUSLATIM_ANSWER_WORDS), "no answer for an empty cell with a short area");
+    expect(answers(BUSLATIM_REFUSED, BUSLATIM_REFUSED_AREA, 0, 0, 0, 0), "a short area is not REFUSED 7 0 for an empty cell");
+    expect(all(area, 0, BUSLATIM_AREA_WORDS, USED), "a short area is written for an empty cell");
+
     expect(call(BUSLATIM_AREA_WORDS - 1, BUSLATIM_ANSWER_WORDS), "no answer with a short area");
     expect(answers(BUSLATIM_REFUSED, BUSLATIM_REFUSED_AREA, 0, 0, 0, 0), "a short area is not REFUSED 7 0");
     expect(all(area, 0, BUSLATIM_AREA_WORDS, USED), "a short area is written");
@@ -93,6 +102,13 @@ int main(void) {
     expect(analyze(moved, sizeof moved - 1), "analyze: no answer for a cut listing");
     expect(answers(BUSLATIM_REFUSED, BUSLATIM_REFUSED_ENDS_EARLY, 36, 0, 0, 0), "a cut listing is not REFUSED 1 36");
     expect(all(area, 0, BUSLATIM_AREA_WORDS, USED), "the area is written though the listing is cut");
+
+    expect(analyze(moved, 0), "analyze: no answer for an empty cell");
+    expect(answers(BUSLATIM_EMPTY, 0, 0, 0, 0, 0), "analyze: no byte is not EMPTY");
+    for (size_t b = 0; b < BUSLATIM_AREA_WORDS; b += BLOCK_WORDS) {
+        expect(area[b] == 0, "a block has a kept state after an empty cell");
+        expect(all(area, b + 1, b + BLOCK_WORDS, USED), "more than one word of a block is written for an empty cell");
+    }
 
     expect(analyze(drops, sizeof drops), "analyze: no answer");
     expect(answers(BUSLATIM_REFUSED, BUSLATIM_REFUSED_EMPTY_STACK, 0, 1, 0, 0), "not REFUSED 10 0 after one visit");

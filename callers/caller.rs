@@ -1,4 +1,5 @@
-//! The static library called from Rust: a violation, an acceptance after a set was blurred, an area too short, an answer too short.
+//! The static library called from Rust: a violation, an acceptance after a set was blurred, an empty cell, an area too short, an
+//! answer too short.
 
 /// Document 01's example: VIOLATION 102 3, and BORROWED AT 2.
 const LISTING: [u8; 41] = [
@@ -24,6 +25,7 @@ mod buslatim {
     pub const ACCEPT: u32 = 0;
     pub const VIOLATION: u32 = 1;
     pub const REFUSED: u32 = 2;
+    pub const EMPTY: u32 = 3;
     pub const MOVELOC_EXISTS_BORROW: u32 = 102;
     pub const REFUSED_AREA: u32 = 7;
 }
@@ -70,6 +72,12 @@ fn main() {
     let mut answer = [USED; ANSWER_WORDS];
     assert!(verify(&LENDS, &mut area, &mut answer));
     assert_eq!(answer, [ACCEPT, 0, 0, 1, 1, 0, 0]);
+
+    let mut area = vec![USED; AREA_WORDS];
+    let mut answer = [USED; ANSWER_WORDS];
+    assert!(verify(&[], &mut area, &mut answer));
+    assert_eq!(answer, [EMPTY, 0, 0, 0, 0, 0, 0]);
+    assert!(area.iter().all(|w| *w == 0));
 
     let mut area = vec![USED; AREA_WORDS - 1];
     let mut answer = [USED; ANSWER_WORDS];

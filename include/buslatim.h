@@ -13,8 +13,8 @@
 extern "C" {
 #endif
 
-#define BUSLATIM_VERSION "4.0.0"
-#define BUSLATIM_VERSION_MAJOR 4
+#define BUSLATIM_VERSION "5.0.0"
+#define BUSLATIM_VERSION_MAJOR 5
 #define BUSLATIM_VERSION_MINOR 0
 #define BUSLATIM_VERSION_PATCH 0
 
@@ -28,13 +28,18 @@ extern "C" {
 
 /*
  * What a call needs besides the area: this many bytes of stack below the caller's frame. The deepest path of calls in the machine code takes
- * 43,560 bytes, and what memcpy takes comes on top; the code neither recurses nor calls by pointer, so no listing takes more. On a painted
- * stack 4,384 listings took up to 43,384 bytes. bench/stack/run measures both again; another kit may compile to other frames.
+ * 43,544 bytes, and what memcpy takes comes on top; the code neither recurses nor calls by pointer, so no listing takes more. On a painted
+ * stack 4,385 listings took up to 43,368 bytes. bench/stack/run measures both again; another kit may compile to other frames.
  */
 #define BUSLATIM_STACK_BYTES 49152
 
 /* answer[0] */
-enum { BUSLATIM_ACCEPT = 0, BUSLATIM_VIOLATION = 1, BUSLATIM_REFUSED = 2 };
+enum {
+    BUSLATIM_ACCEPT = 0,
+    BUSLATIM_VIOLATION = 1,
+    BUSLATIM_REFUSED = 2,
+    BUSLATIM_EMPTY = 3 /* an empty cell: the listing has no byte, so there is no routine to load */
+};
 
 /* answer[1] of a violation: document 01's codes, by the Rust's names */
 enum {
@@ -57,7 +62,7 @@ enum {
 /* answer[1] of a refusal */
 enum {
     /* the listing; answer[2] is the byte at which the record starts */
-    BUSLATIM_REFUSED_ENDS_EARLY = 1,   /* empty, or ends within a record */
+    BUSLATIM_REFUSED_ENDS_EARLY = 1,   /* the listing ends within a record */
     BUSLATIM_REFUSED_UNKNOWN_KIND = 2, /* a record of an unknown kind */
     BUSLATIM_REFUSED_BAD_RECORD = 3,   /* a record's length, token, flag, range or local */
     BUSLATIM_REFUSED_FUNCTION = 4,     /* the first record is not the function's, or a later one is */
@@ -81,11 +86,11 @@ enum {
 /*
  * Checks the routine whose listing stands in `listing`, `listing_len` bytes. Each length counts elements.
  *
- * answer[0]: BUSLATIM_ACCEPT, BUSLATIM_VIOLATION or BUSLATIM_REFUSED
- * answer[1]: the violation's code or the refusal's number; 0 for an acceptance
- * answer[2]: the instruction's offset or the refusal's place; 0 for an acceptance
- * answer[3]: how often a block was run; 0 for refusals 1 to 7
- * answer[4], answer[5]: how many sets of edges were blurred in the run, as 2^32 * answer[5] + answer[4]; 0 for refusals 1 to 7
+ * answer[0]: BUSLATIM_ACCEPT, BUSLATIM_VIOLATION, BUSLATIM_REFUSED or BUSLATIM_EMPTY
+ * answer[1]: the violation's code or the refusal's number; else 0
+ * answer[2]: the instruction's offset or the refusal's place; else 0
+ * answer[3]: how often a block was run; 0 for refusals 1 to 7 and for an empty cell
+ * answer[4], answer[5]: how many sets of edges were blurred in the run, as 2^32 * answer[5] + answer[4]; 0 where no block was run
  * answer[6]: for a violation the offset of the instruction that borrowed what it fails on; else 0
  *
  * The borrow edges from one name to another are a set. An edge put into a set of ten blurs it into one edge that stands for any part, so a
@@ -95,19 +100,22 @@ enum {
  * Each edge has the offset of the instruction that made it. Where several edges would each be a reason for the violation, answer[6] is the
  * lowest of their offsets (docs/LISTING.md). In a loop the borrow may stand behind the instruction that fails.
  *
- * The first 16,384 words of the area end zero, whatever they held; an area of fewer words is refusal 7 and stays as it is. Words of the
- * area and of the answer beyond those named stay as they are. False, and nothing is written, where the answer has fewer than seven words.
+ * The first 16,384 words of the area end zero, whatever they held; an area of fewer words is refusal 7, also for an empty cell, and stays as
+ * it is. Words of the area and of the answer beyond those named stay as they are. False, and nothing is written, where the answer has fewer
+ * than seven words.
  *
- * No pointer may be null. The area and the answer must not overlap each other or the listing. No pointer is kept and nothing is allocated. It
- * is re-entrant: the library has no data that is written, so threads may call at once, each with an area and an answer of its own.
+ * No pointer may be null, not even where its length is 0. The area and the answer must not overlap each other or the listing. No pointer is
+ * kept and nothing is allocated. It is re-entrant: the library has no data that is written, so threads may call at once, each with an area
+ * and an answer of its own.
  */
 bool reference_safety_verify(const uint8_t *listing, size_t listing_len, uint32_t *area, size_t area_len, uint32_t *answer,
                              size_t answer_len);
 
 /*
- * The same answer, but the area is not zeroed. Refusals 1 to 7 leave it as it was. After any other answer, refusals 10 to 22 among them, the
- * block listed at position b has its kept state, as the run left it, in the 1,024 words from 1,024 * b on (docs/ARCHITECTURE.md has their
- * layout; the first of them tells whether there is one). Words that no kept state takes are free.
+ * The same answer, but the area is not zeroed. Refusals 1 to 7 leave it as it was. An empty cell has no kept state: the first of each 1,024
+ * words is zero then, and the others are as they were. After any other answer, refusals 10 to 22 among them, the block listed at position b
+ * has its kept state, as the run left it, in the 1,024 words from 1,024 * b on (docs/ARCHITECTURE.md has their layout; the first of them tells
+ * whether there is one). Words that no kept state takes are free.
  */
 bool reference_safety_analyze(const uint8_t *listing, size_t listing_len, uint32_t *area, size_t area_len, uint32_t *answer,
                               size_t answer_len);

@@ -61,12 +61,12 @@ def body_fault(shape, b, locals_):
 
 
 def read(s):
-    """(number, place), or (0, how many instructions)"""
+    """(number, place), (0, how many instructions), or None for an empty cell"""
     word = lambda b, i: b[i] + 256 * b[i + 1]
     if len(s) > 65536:
         return 6, 65536
     if not s:
-        return 1, 0
+        return None
     at, locals_, code, blocks = 0, 0, [], []
     while at < len(s):
         if len(s) - at < 4 or len(s) - at - 4 < word(s, at):
@@ -136,12 +136,12 @@ def cases():
     full = {kind: None for kind in SHAPES}
     full.update({11: (0,), 12: (0,), 13: (0,), 18: (0, 1), 19: (*w(65535), 1), 20: (*w(0), 0), 21: w(9), 24: (*w(1), *w(1), 2), 26: (2, 1, 1, 2), 27: (1,)})
     plain = {k: v or () for k, v in full.items() if k not in (1, 2, 22)}
-    # 6: length; 1: empty or cut
+    # 6: length; an empty cell; 1: cut
     fill = head() + B0 + POP
     yield fill + bytes([*w(65536 - len(fill) - 4), 0, 0]) + bytes(65536 - len(fill) - 4), (2, 20)
     yield fill + bytes(65537 - len(fill)), (6, 65536)
     yield bytes(65537), (6, 65536)
-    yield b"", (1, 0)
+    yield b"", None
     for n in range(1, len(OK)):
         place = 0 if n < 7 else 7 if n < 16 else 16
         yield OK[:n], (5, n) if n == 7 else (5, 7) if n == 16 else (1, place)
@@ -257,10 +257,10 @@ def cases():
 
 
 def agreed():
-    for n, (s, (number, place)) in enumerate(cases()):
-        if read(s) != (number, place):
-            sys.exit(f"case {n}: {s[:40].hex()} ({len(s)} bytes): stated {number} {place}, read {read(s)}")
-        yield s, f"{number} {place:05}"
+    for n, (s, answer) in enumerate(cases()):
+        if read(s) != answer:
+            sys.exit(f"case {n}: {s[:40].hex()} ({len(s)} bytes): stated {answer}, read {read(s)}")
+        yield s, "{} {:05}".format(*answer) if answer else "EMPTY"
 
 
 if sys.argv[1:]:

@@ -1,8 +1,8 @@
 //! Answers, and bytes as they are printed.
 
-/// What our `verify` answers in seven words: 0 accepted, 1 violation, 2 refused; its number; its place; the visits; how
-/// many sets the run blurred, the low word first (a visit or a join that is refused counts none); and, after a violation,
-/// the offset at which what it fails on was borrowed, else 0.
+/// What our `verify` answers in seven words: 0 accepted, 1 violation, 2 refused, 3 an empty cell; its number; its place;
+/// the visits; how many sets the run blurred, the low word first (a visit or a join that is refused counts none); and,
+/// after a violation, the offset at which what it fails on was borrowed, else 0.
 #[derive(Clone, Copy, Debug, Eq, Hash, Ord, PartialEq, PartialOrd)]
 pub struct Answer {
     pub kind: u32,

@@ -80,7 +80,8 @@ impl fmt::Display for Histogram {
             let name = match kind {
                 0 => "ACCEPT".to_string(),
                 1 => format!("VIOLATION {number}"),
-                _ => format!("REFUSED {number}"),
+                2 => format!("REFUSED {number}"),
+                _ => "EMPTY".to_string(),
             };
             writeln!(f, "{name:16} {rust:10} {reader:10} {watched:10}")?
         }

@@ -5,7 +5,8 @@ use crate::{
     answer::{hex, Answer},
     errors::PartialVMError,
     graph::{passed_up, Blurred},
-    kept, listing,
+    kept,
+    listing::{self, Unread},
     panics::{caught, Caught},
 };
 
@@ -13,7 +14,7 @@ use crate::{
 pub enum Source {
     /// The Rust's own: the listing lies in the compared domain.
     Rust,
-    /// An exporter's refusal, by our reading of document 01.
+    /// An exporter's refusal or an empty cell, by our reading of documents 01 and 02.
     Reader,
     /// The Rust's steps and loop, with 20 to 22, the empty stack and the names changed together.
     Watched,
@@ -95,10 +96,13 @@ fn plain(adapted: &Adapted) -> Ending {
 pub fn judge(listing: &[u8]) -> Judged {
     let routine = match listing::read(listing) {
         Ok(routine) => routine,
-        Err(listing::Refusal { number, place }) => {
-            let answer = Answer { kind: 2, number, place, visits: 0, blurred: 0, borrowed_at: 0 };
+        Err(unread) => {
+            let (kind, number, place) = match unread {
+                Unread::Nothing => (3, 0, 0),
+                Unread::Refused { number, place } => (2, number, place),
+            };
             return Judged {
-                answer,
+                answer: Answer { kind, number, place, visits: 0, blurred: 0, borrowed_at: 0 },
                 source: Source::Reader,
                 leftovers: false,
                 crossed: false,

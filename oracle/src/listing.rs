@@ -1,4 +1,5 @@
-//! Listings of document 01: the routine they hold, or the exporter's refusal (1 to 6) and its place.
+//! Listings of document 01: the routine they hold, word that there is none (request A3), or the exporter's refusal (1 to 6)
+//! and its place.
 
 #[derive(Clone, Debug, Eq, PartialEq)]
 pub enum Instruction {
@@ -51,10 +52,12 @@ impl Routine {
     }
 }
 
+/// Why there is no routine.
 #[derive(Clone, Copy, Debug, Eq, PartialEq)]
-pub struct Refusal {
-    pub number: u32,
-    pub place: u32,
+pub enum Unread {
+    /// There is no byte: an empty cell.
+    Nothing,
+    Refused { number: u32, place: u32 },
 }
 
 enum Record {
@@ -156,13 +159,13 @@ struct Reading {
     code_starts: Vec<usize>,
 }
 
-pub fn read(listing: &[u8]) -> Result<Routine, Refusal> {
-    let refuse = |number: u32, place: usize| Err(Refusal { number, place: place as u32 });
+pub fn read(listing: &[u8]) -> Result<Routine, Unread> {
+    let refuse = |number: u32, place: usize| Err(Unread::Refused { number, place: place as u32 });
+    if listing.is_empty() {
+        return Err(Unread::Nothing);
+    }
     if listing.len() > LONGEST {
         return refuse(6, LONGEST);
-    }
-    if listing.is_empty() {
-        return refuse(1, 0);
     }
     let mut reading = Reading { routine: Routine::default(), block_starts: vec![], code_starts: vec![] };
     let mut start = 0;

@@ -27,6 +27,8 @@ exported!(reference_safety_verify);
 exported!(reference_safety_analyze);
 
 pub const AREA: usize = 16_384;
+/// The words of a block.
+const BLOCK: usize = 1_024;
 const BEYOND: usize = 16;
 const USED: u32 = 0xA5A5_A5A5;
 
@@ -76,16 +78,21 @@ fn answered(listing: &[u8], area: &mut [u32]) -> Result<Answer, &'static str> {
     if !verify_call(listing, area, &mut words) {
         return Err("no answer");
     }
-    // An acceptance has neither number nor place.
-    if words[0] == 0 {
-        (words[1], words[2]) = (0, 0)
-    }
     Ok(Answer::of(words))
+}
+
+/// What `analyze` leaves for an empty cell: no kept state, so sixteen words are zero, and all others as they were.
+pub fn empty_is_right() -> bool {
+    let mut area = vec![USED; AREA + BEYOND];
+    let mut words = [u32::MAX; WORDS];
+    let told = analyze_call(&[], &mut area, &mut words) && words == [3, 0, 0, 0, 0, 0, 0];
+    let expected = |at: usize| if at < AREA && at % BLOCK == 0 { 0 } else { USED };
+    told && area.iter().enumerate().all(|(at, word)| *word == expected(at))
 }
 
 #[cfg(feature = "watched")]
 mod shown {
-    use super::{analyze_call, AREA, USED};
+    use super::{analyze_call, AREA, BLOCK, USED};
     use crate::{
         answer::WORDS,
         kept::{Edge, State},
@@ -97,7 +104,7 @@ mod shown {
         let routine = listing::read(listing).expect("a listing that is read");
         let mut area = vec![USED; AREA];
         analyze_call(listing, &mut area, &mut [0; WORDS]);
-        let blocks = routine.blocks.iter().zip(area.chunks(1_024));
+        let blocks = routine.blocks.iter().zip(area.chunks(BLOCK));
         let mut kept: Vec<(u16, State)> = blocks
             .filter(|(_, words)| words[0] >> 18 != 0)
             .map(|(b, words)| (b.entry, state(words, routine.locals)))

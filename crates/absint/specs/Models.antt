@@ -6,14 +6,14 @@ use mathlib.Core.Option.{Option, none, some}
 use mathlib.Core.List.{List, map}
 use lib.ListN.{length, drop, getD}
 use Rattle.meaning.specs.Limits.{maxBlocks, areaWords, u32Most}
-use Rattle.meaning.specs.Area.{keptOf}
+use Rattle.meaning.specs.Area.{keptOf, forgotten}
 use Rattle.meaning.specs.AbstractState.{State, join, joinBlurs, changed}
 use Rattle.meaning.specs.Blocks.{Routine, exec}
 use Rattle.meaning.specs.Laws.Forms.{Strong}
 use Rattle.meaning.specs.Laws.Promised.{promised}
 use Rattle.meaning.specs.Loop as M
-use Rattle.meaning.specs.Loop.{Result, Status, fine, failed, Next, at, stopped, Run, turn, Failure, Verdict, accept, violation, refusal, verdictFor, toSuccessor, successorBlurs}
-use Rattle.meaning.specs.Listing.{readListing, read, refused}
+use Rattle.meaning.specs.Loop.{Result, Status, fine, failed, Next, at, stopped, Run, turn, Failure, Verdict, accept, violation, refusal, emptyCell, verdictFor, toSuccessor, successorBlurs}
+use Rattle.meaning.specs.Listing.{readListing, read, nothing, refused}
 use Rattle.meaning.specs.Verify.{Answered, runOf, keptBy}
 use Rattle.meaning.specs.Laws.Fit.{Does, Passes, Reached, propagateOn, propagateBlursOn, lowestBy}
 use Rattle.listing.specs.Models.{routineOf}
@@ -24,7 +24,7 @@ use Rattle.absint.specs.declared.run_state.BlockPostcondition.{BlockPost
 use Rattle.absint.specs.declared.run_state.RunState.{RunState}
 use Rattle.absint.specs.declared.failure.LowestFailure.{LowestFailure}
 use Rattle.absint.specs.declared.Ruling.{Ruling}
-use Rattle.absint.specs.declared.Ruling.the-variants.{Accept, Violation, Refused}
+use Rattle.absint.specs.declared.Ruling.the-variants.{Accept, Violation, Refused, Empty}
 use Rattle.absint.specs.declared.Verdict as W
 
 abbrev pub statusOf : BlockPostcondition → Status
@@ -42,6 +42,7 @@ abbrev pub rulingOf : Ruling → Verdict
 rulingOf Accept = accept
 rulingOf (Violation c o a) = violation c (o .0) (a .0)
 rulingOf (Refused n p) = refusal n p
+rulingOf Empty = emptyCell
 
 abbrev pub verdictOf : W.Verdict → Answered
 verdictOf v = record { verdict = rulingOf (v .ruling); visits = v .visits; blurred = v .blurred }
@@ -167,9 +168,11 @@ module _ (s cs : List ℕ) (d : D.Routine) where
     pub beyond : drop areaWords ws′ ≡ drop areaWords ws
 
 -- What `analyze` leaves in the area. Where the listing is read: at every position the kept state of the definition's run, so none past the
--- last block. Words that `keptOf` does not read are free, and later ones as they were. Refusals 1 to 7 leave the whole area as it was.
+-- last block. Words that `keptOf` does not read are free, and later ones as they were. An empty cell leaves no block with a kept state, and all words
+-- but the sixteen that tell so as they were; refusals 1 to 7 the whole area.
 pub record Left (s : List ℕ) (ws ws′ : List ℕ) : Type 0 where
   pub kept : areaWords ≤ length ws → (q : Routine) → readListing s ≡ read q → (j : ℕ) → keptOf (q .locals) ws′ j ≡ keptBy (read q) j
+  pub bare : readListing s ≡ nothing → ws′ ≡ forgotten ws
   pub unread : (n p : ℕ) → readListing s ≡ refused n p → ws′ ≡ ws
   pub short : length ws < areaWords → ws′ ≡ ws
   pub beyond : drop areaWords ws′ ≡ drop areaWords ws

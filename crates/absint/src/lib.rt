@@ -12,14 +12,16 @@ mod run_state;
 use crate::failure::verdict_of;
 use crate::interpreter::analyze_function;
 use absint_area::clear;
+use absint_area::forget;
 use file_format::CodeOffset;
+use listing::Reading;
 use listing::read_listing;
 use meaning::AREA_WORDS;
 use meaning::MAX_INSTRUCTIONS;
 ghost use mathlib.Core.Path.{_≡_};
 ghost use lib.ListN.{length};
-ghost use Rattle.meaning.specs.Area.{cleared};
-ghost use Rattle.meaning.specs.Loop.{refusal};
+ghost use Rattle.meaning.specs.Area.{forgotten, cleared};
+ghost use Rattle.meaning.specs.Loop.{refusal, emptyCell};
 ghost use Rattle.meaning.specs.Verify as Whole;
 ghost use Rattle.absint.specs.Models.{verdictOf, Left};
 
@@ -29,6 +31,8 @@ pub enum Ruling {
     Violation(u8, CodeOffset, CodeOffset),
     // The number of document 01, and its place.
     Refused(u8, usize),
+    // There is no routine: the listing has no byte.
+    Empty,
 }
 
 // `blurred`: how many sets were blurred in the run.
@@ -47,16 +51,20 @@ pub fn analyze(listing: &[u8], area: &mut [u32]) -> Verdict
     }
     let mut code = [0u16; MAX_INSTRUCTIONS];
     let l = read_listing(listing, &mut code);
-    if l.number != 0 {
-        return refused(l.number, l.place);
-    }
-    let q = l.routine;
-    let t = analyze_function(listing, q, &code, area);
-    let blocks = q.blocks;
-    Verdict {
-        ruling: verdict_of(blocks, q.block_count, t),
-        visits: t.visits,
-        blurred: t.blurred,
+    let reading = l.reading;
+    match reading {
+        Reading::Read => {
+            let q = l.routine;
+            let t = analyze_function(listing, q, &code, area);
+            let blocks = q.blocks;
+            Verdict {
+                ruling: verdict_of(blocks, q.block_count, t),
+                visits: t.visits,
+                blurred: t.blurred,
+            }
+        }
+        Reading::Nothing => empty_cell(area),
+        Reading::Refused(number, place) => refused(number, place),
     }
 }
 
@@ -67,6 +75,18 @@ pub fn verify(listing: &[u8], area: &mut [u32]) -> Verdict
     let v = analyze(listing, area);
     clear(area);
     v
+}
+
+// No block is left with a kept state.
+fn empty_cell(area: &mut [u32]) -> Verdict
+    ensures { λ r. ⌜ (verdictOf r ≡ record { verdict = emptyCell; visits = 0; blurred = 0 }) × (now (area .exit) ≡ forgotten (now (area .entry))) ⌝ }
+{
+    forget(area);
+    Verdict {
+        ruling: Ruling::Empty,
+        visits: 0,
+        blurred: 0,
+    }
 }
 
 fn refused(number: u8, place: usize) -> Verdict

@@ -1,7 +1,8 @@
 // Reads listings from standard input, each after three bytes with its length, and writes for each a line with the number and the place
-// of its refusal, or 0 and how many instructions it has.
+// of its refusal, or 0 and how many instructions it has, or EMPTY where it has no byte.
 use libc::STDIN_FILENO;
 use libc::STDOUT_FILENO;
+use listing::Reading;
 use listing::read_listing;
 use meaning::MAX_INSTRUCTIONS;
 ghost use mathlib.Core.Path.{_≡_};
@@ -50,10 +51,11 @@ fn write_line(number: u8, place: usize) -> bool {
 fn answer(s: &[u8]) -> bool {
     let mut code = [0u16; MAX_INSTRUCTIONS];
     let r = read_listing(s, &mut code);
-    if r.number == 0 {
-        write_line(0, r.routine.code_count)
-    } else {
-        write_line(r.number, r.place)
+    let reading = r.reading;
+    match reading {
+        Reading::Read => write_line(0, r.routine.code_count),
+        Reading::Nothing => io::write_all(STDOUT_FILENO, b"EMPTY\n"),
+        Reading::Refused(number, place) => write_line(number, place),
     }
 }
 

@@ -1,10 +1,11 @@
 // Reads listings from standard input, each after three bytes with its length, runs the first block of each from the routine's first state,
-// and writes for each a line with the violation or refusal and its offset; zeros where the block ends.
+// and writes for each a line with the violation or refusal and its offset; zeros where the block ends; EMPTY where there is no byte.
 use abstract_state::state::LOCALS;
 use abstract_state_join::first::new;
 use libc::STDIN_FILENO;
 use libc::STDOUT_FILENO;
 use listing::Block;
+use listing::Reading;
 use listing::Routine;
 use listing::read_listing;
 use meaning::EDGE_WORDS;
@@ -75,21 +76,26 @@ fn first_block(q: Routine) -> Block {
     blocks[0]
 }
 
-fn answer(s: &[u8]) -> bool {
-    let mut code = [0u16; MAX_INSTRUCTIONS];
-    let l = read_listing(s, &mut code);
-    if l.number != 0 {
-        return write_line(l.number as usize, l.place);
-    }
-    let q = l.routine;
+fn run_first(s: &[u8], q: Routine, code: &[u16; MAX_INSTRUCTIONS]) -> bool {
     let params = q.params;
     let mut locals = [0u32; LOCALS];
     let mut names = [0u32; MAX_NAMES];
     let mut edges = [[0u32; EDGE_WORDS]; MAX_EDGES];
     let first = new(&mut locals, &mut names, q.locals, params, q.param_count);
     let b = first_block(q);
-    let r = run_block(s, q, &code, b, &mut locals, &mut names, &mut edges, first);
+    let r = run_block(s, q, code, b, &mut locals, &mut names, &mut edges, first);
     write_ran(r)
+}
+
+fn answer(s: &[u8]) -> bool {
+    let mut code = [0u16; MAX_INSTRUCTIONS];
+    let l = read_listing(s, &mut code);
+    let reading = l.reading;
+    match reading {
+        Reading::Read => run_first(s, l.routine, &code),
+        Reading::Nothing => io::write_all(STDOUT_FILENO, b"EMPTY\n"),
+        Reading::Refused(number, place) => write_line(number as usize, place),
+    }
 }
 
 fn run_all(s: &[u8]) {

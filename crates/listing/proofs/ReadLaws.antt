@@ -1,7 +1,7 @@
 -- Laws of the whole listing: the rules of number 5 over the places that were read, and what is known of those places.
 -- Assumes nothing.
 use mathlib.Core.Path.{_≡_, refl, sym, ap, _∙_}
-use mathlib.Core.Bool.{Bool, true, false, not, _&&_}
+use mathlib.Core.Bool.{Bool, true, not, _&&_}
 use mathlib.Core.List.{List, [], _∷_, map}
 use mathlib.Core.Option.{none}
 use Prim.Native.Nat.{ℕ, zero, suc, _+_, _*_, _≤_, _<_}
@@ -19,8 +19,7 @@ use Rattle.meaning.specs.Blocks as Q
 use Rattle.meaning.specs.Listing as D
 use Rattle.meaning.specs.Laws.Listing.{fine, fine-none, passed, two-successors, call-limits, frame-limits, okBlock, okCode, Good, places-good, none-good, first-passed, first-kind, read-places}
 use Rattle.listing_records.specs.declared.Places.{Places}
-use Rattle.listing.specs.declared.Listed.{Listed}
-use Rattle.listing.specs.Models.{callFor, decodedAt, twoAt, Sound, ruledPlaces, bytesAt, listedOf}
+use Rattle.listing.specs.Models.{callFor, decodedAt, twoAt, Sound, ruledPlaces, bytesAt}
 use Rattle.listing_records.specs.Models.{placesIn, placesOf, ReadInto}
 use Rattle.listing_records.proofs.Lists.{counted, map-upTo}
 
@@ -62,12 +61,6 @@ module _ (s ps cs : List ℕ) (n m : ℕ) (fp : n ≤ length ps) (fc : m ≤ len
 
       pub ruled-read : m ≤ r → D.Listed.read (D.routineAt s all-places) ≡ ruledPlaces s all-places
       ruled-read h = rw (ruled-eq, ne-eqb n 0 some, ← e, le-ltb b n past, ← w, le-ltb r m h)
-
-pub listed-refused : (s cs : List ℕ) (r : Listed) (n at : ℕ) → r .number ≡ n → r .place ≡ at → (n ≡ 0 → ⊥) → listedOf s cs r ≡ D.Listed.refused n at
-unfolding listedOf
-listed-refused s cs r n at e p h =
-    let q : eqb (r .number) 0 ≡ false = rw e (ne-eqb n 0 h) in
-    rw (q, e, p)
 
 -- blocks out of the records at the first places
 pub counted-at : (s ps : List ℕ) (n : ℕ) → n ≤ length ps → (xs : List M.Block) → xs ≡ map (D.blockAt s) (take n ps) → length xs ≡ n
@@ -122,12 +115,12 @@ module _ (s ps cs : List ℕ) (w : Places) (number : w .number ≡ 0) (told : Re
   pub were-read : D.readPlaces s ≡ D.Listed.read (placesIn ps cs w)
   were-read = sym (told .places) ∙ places-number ps cs w number
 
-  pub sound : (head : List ℕ) → head ≡ D.bodyAt s 0 → Sound s head w ps cs
-  sound head h =
+  pub sound : 0 < length s → (head : List ℕ) → head ≡ D.bodyAt s 0 → Sound s head w ps cs
+  sound some head h =
       let r = read-places s (placesIn ps cs w) were-read in
-      let g : Good s (placesIn ps cs w) = places-good (length s) s 0 D.noPlaces (placesIn ps cs w) (none-good s) (r .1) in
+      let g : Good s (placesIn ps cs w) = places-good (length s) s 0 D.noPlaces (placesIn ps cs w) (none-good s) r in
       let l : ℕ = D.localsOf (D.bodyAt s 0) in
-      let p = first-passed s (placesIn ps cs w) (r .0) (r .1) in
+      let p = first-passed s (placesIn ps cs w) some r in
       let f = frame-limits s l 0 p (first-kind s l p) in
       record {
         first = h;

@@ -20,6 +20,8 @@ use Rattle.listing.specs.declared.decode.Instruction.the-variants.{Pop, 
 use Rattle.listing.specs.declared.decode.Decoded.{Decoded}
 use Rattle.listing.specs.declared.Block.{Block}
 use Rattle.listing.specs.declared.Routine.{Routine}
+use Rattle.listing.specs.declared.Reading.{Reading}
+use Rattle.listing.specs.declared.Reading.the-variants.{Read, Nothing, Refused}
 use Rattle.listing.specs.declared.Listed.{Listed}
 
 -- ---- instructions
@@ -111,9 +113,10 @@ pub record Counted (r : Routine) : Type 0 where
   pub few : r .«block_count» ≤ maxBlocks
   pub count : length (blocksIn (r .blocks) (r .«block_count»)) ≡ r .«block_count»
 
-abbrev pub pickListed : Bool → Q.Routine → ℕ → ℕ → D.Listed Q.Routine
-pickListed true q n at = D.Listed.read q
-pickListed false q n at = D.Listed.refused n at
+abbrev pub readingOf : Q.Routine → Reading → D.Listed Q.Routine
+readingOf q Read = D.Listed.read q
+readingOf q Nothing = D.Listed.nothing
+readingOf q (Refused n at) = D.Listed.refused n at
 
 unfoldable pub listedOf : List ℕ → List ℕ → Listed → D.Listed Q.Routine
-listedOf s cs r = pickListed (eqb (r .number) 0) (routineOf s cs (r .routine)) (r .number) (r .place)
+listedOf s cs r = readingOf (routineOf s cs (r .routine)) (r .reading)

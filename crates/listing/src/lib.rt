@@ -1,4 +1,4 @@
-// The listing of one routine (document 01): its bytes are read into a routine, or refused by a number of 1 to 6 with a place.
+// The listing of one routine (document 01): its bytes are read into a routine, are none, or are refused by a number of 1 to 6 with a place.
 pub mod decode;
 mod rules;
 
@@ -46,10 +46,17 @@ pub struct Routine {
     pub block_count: usize,
 }
 
-// A refusal's number and place, or (number 0) the routine. Beside a refusal the routine is free: every choice has at most 16 blocks.
+pub enum Reading {
+    Read,
+    // There was no byte to read: an empty cell.
+    Nothing,
+    // The number of document 01, and its place.
+    Refused(u8, usize),
+}
+
+// How the reading ended, and the routine. Where none was read it is free: every choice has at most 16 blocks.
 pub struct Listed {
-    pub number: u8,
-    pub place: usize,
+    pub reading: Reading,
     pub routine: Routine,
 }
 
@@ -63,12 +70,11 @@ fn no_block() -> Block {
     }
 }
 
-fn refused(number: u8, place: usize) -> Listed
-    ensures { λ r. ⌜ (r .number ≡ number) × (r .place ≡ place) × Counted (r .routine) ⌝ }
+fn unread(reading: Reading) -> Listed
+    ensures { λ r. ⌜ (r .reading ≡ reading) × Counted (r .routine) ⌝ }
 {
     Listed {
-        number,
-        place,
+        reading,
         routine: Routine {
             params: [0u8; ROOM],
             param_count: 0,
@@ -124,22 +130,21 @@ fn ruled(
     let n = w.block_count;
     let m = w.code_count;
     if n == 0 {
-        return refused(5, s.len());
+        return unread(Reading::Refused(5, s.len()));
     }
     let blocks = blocks_at(s, places, n);
     let bad = rules::first_faulty(blocks, n, m);
     if bad < n {
-        return refused(5, place(places[bad]));
+        return unread(Reading::Refused(5, place(places[bad])));
     }
     let stray = rules::first_stray(s, code, w.first_ret, m, blocks, n);
     if stray < m {
-        return refused(5, place(code[stray]));
+        return unread(Reading::Refused(5, place(code[stray])));
     }
     let param_count = byte_at(head, 0) as usize;
     let params = decode::bytes_at(head, 2, param_count);
     Listed {
-        number: 0,
-        place: 0,
+        reading: Reading::Read,
         routine: Routine {
             params,
             param_count,
@@ -152,15 +157,18 @@ fn ruled(
     }
 }
 
-// What a listing means: every byte string gets a routine, or the refusal and the place of document 01. Where the record of each instruction starts
-// is put into the lent array; beside a refusal what it holds is free, and nothing is said of it.
+// What a listing means: every byte string gets a routine, word that there is none, or the refusal and the place of document 01. Where the record of
+// each instruction starts is put into the lent array; where no routine is read what it holds is free, and nothing is said of it.
 pub fn read_listing(s: &[u8], code: &mut [u16; MAX_INSTRUCTIONS]) -> Listed
     ensures { λ r. ⌜ (listedOf (now (s .entry)) (now (code .exit)) r ≡ readListing (now (s .entry))) × Counted (r .routine) ⌝ }
 {
+    if s.len() == 0 {
+        return unread(Reading::Nothing);
+    }
     let mut places = [0u16; MAX_BLOCKS];
     let w = read_places(s, &mut places, code);
     if w.number != 0 {
-        return refused(w.number, w.place);
+        return unread(Reading::Refused(w.number, w.place));
     }
     ruled(s, head(s), w, places, code)
 }

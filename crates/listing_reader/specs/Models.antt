@@ -4,7 +4,7 @@ use mathlib.Core.Path.{_≡_}
 use mathlib.Core.List.{List}
 use mathlib.Core.Option.{Option, none, some}
 use denote.Ref.{now}
-use Rattle.meaning.specs.Listing.{Listed, read, refused}
+use Rattle.meaning.specs.Listing.{Listed, read, nothing, refused}
 use Rattle.listing_records.specs.Models.{Head, foundOf, foundAt}
 use Rattle.listing_reader.specs.declared.Reader.{Reader}
 use Rattle.listing_reader.specs.declared.Step.{Step}
@@ -13,6 +13,7 @@ use Rattle.listing_reader.specs.declared.Step.{Step}
 abbrev pub after : Listed (Option Head) → ℕ → ℕ
 after (read (some h)) at = h .next
 after (read none) at = at
+after nothing at = at
 after (refused n p) at = at
 
 pub record StepFor (s : List ℕ) (p : ℕ) (r : Step) : Type 0 where

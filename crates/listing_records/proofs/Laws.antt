@@ -11,7 +11,7 @@ use lib.ListN.{length, take, drop, getD, set, length-drop, List·getD-eq-default
 use lib.Seq.{drop-drop, take-suc-set, take-all, length-take-le}
 use lib.Dec.{leb, ltb, eqb}
 use borrow.Author.Tests.{lt-leb, lt-ltb, le-ltb, eq-eqb, ne-eqb, ltb-true, ltb-false, not-false}
-use Rattle.meaning.specs.Lists.{all, empty}
+use Rattle.meaning.specs.Lists.{all}
 use Rattle.meaning.specs.Laws.Base.{decide, leb-le, leb-gt, le-leb, and-i, and-l, and-r, not-true}
 use Rattle.meaning.specs.Listing as D
 use Rattle.meaning.specs.Laws.Listing.{places-step}
@@ -355,24 +355,11 @@ module _ (s bs cs : List ℕ) (nb nc at l : ℕ) (r : D.Listed D.Places) (here :
     pub go-first : D.kindAt s at ≡ 1 → D.placesFrom (length s) s (D.nextAt s at) (record { blocks = take nb bs; code = take nc cs }) ≡ r
     go-first k = rw k at open-fine
 
-empty-nil : (s : List ℕ) → length s ≡ 0 → empty s ≡ true
-empty-nil [] h = refl
-empty-nil (x ∷ xs) h = absurd (omega arith)
-
-empty-some : (s : List ℕ) → (length s ≡ 0 → ⊥) → empty s ≡ false
-empty-some [] h = absurd (h refl)
-empty-some (x ∷ xs) h = refl
-
 module _ (s : List ℕ) where
   pub too-long : 65536 < length s → D.Listed.refused 6 65536 ≡ D.readPlaces s
   unfolding D.readPlaces
   too-long h = rw (lt-ltb 65536 (length s) h)
 
-  module _ (fits : length s ≤ 65536) where
-    pub nothing : length s ≡ 0 → D.Listed.refused 1 0 ≡ D.readPlaces s
-    unfolding D.readPlaces
-    nothing h = rw (le-ltb 65536 (length s) fits, empty-nil s h)
-
-    pub after : (length s ≡ 0 → ⊥) → D.readPlaces s ≡ D.placesFrom (length s) s 0 D.noPlaces
-    unfolding D.readPlaces
-    after h = rw (le-ltb 65536 (length s) fits, empty-some s h)
+  pub after : length s ≤ 65536 → D.readPlaces s ≡ D.placesFrom (length s) s 0 D.noPlaces
+  unfolding D.readPlaces
+  after h = rw (le-ltb 65536 (length s) h)

@@ -434,7 +434,7 @@ fn whole(blocks: [u16; MAX_BLOCKS], code: [u16; MAX_INSTRUCTIONS])
     ensures { λ r. ⌜ (length blocks ≡ maxBlocks) × (length code ≡ maxInstructions) ⌝ }
 {}
 
-// Every byte string gets the places of its records, or the refusal and the place of document 01: its length, no byte, then record by record.
+// Every byte string gets the places of its records, or the refusal and the place of document 01: its length, then record by record.
 // The places are put into the lent arrays; their slots from a count on are free, and beside a refusal all of them.
 pub fn read_places(
     s: &[u8],
@@ -448,9 +448,6 @@ pub fn read_places(
     whole(b, c);
     if MAX_BYTES < s.len() {
         return refused_at(6, MAX_BYTES);
-    }
-    if s.len() == 0 {
-        return refused_at(1, 0);
     }
     let head = body(s, Cursor { at: 0 });
     read_records(s, byte_at(head, 1), blocks, code)

@@ -1,10 +1,10 @@
--- What the loader prints, in ASCII: `ACCEPT` and a line `BLURRED n`, `VIOLATION code offset` and a line `BORROWED AT n`, or `REFUSED number place`,
--- decimal.
+-- What the loader prints, in ASCII: `ACCEPT` and a line `BLURRED n`, `VIOLATION code offset` and a line `BORROWED AT n`, `REFUSED number place`, or
+-- `EMPTY`; numbers decimal.
 use Prim.Native.Nat.{ℕ, zero, suc, _+_, _/_, _%_}
 use mathlib.Core.Bool.{cond}
 use mathlib.Core.List.{List, [], _∷_, _++_}
 use lib.Dec.{ltb}
-use Rattle.meaning.specs.Loop.{Verdict, accept, violation, refusal}
+use Rattle.meaning.specs.Loop.{Verdict, accept, violation, refusal, emptyCell}
 use Rattle.meaning.specs.Verify.{Answered}
 
 -- the last k digits, without zeros in front
@@ -36,6 +36,10 @@ violated = 86 ∷ 73 ∷ 79 ∷ 76 ∷ 65 ∷ 84 ∷ 73 ∷ 79 ∷ 78 ∷ 32 ∷
 abbrev pub refused : List ℕ
 refused = 82 ∷ 69 ∷ 70 ∷ 85 ∷ 83 ∷ 69 ∷ 68 ∷ 32 ∷ []
 
+-- `EMPTY`
+abbrev pub noRoutine : List ℕ
+noRoutine = 69 ∷ 77 ∷ 80 ∷ 84 ∷ 89 ∷ []
+
 -- `BLURRED `
 abbrev pub blurredIs : List ℕ
 blurredIs = 66 ∷ 76 ∷ 85 ∷ 82 ∷ 82 ∷ 69 ∷ 68 ∷ 32 ∷ []
@@ -45,11 +49,12 @@ abbrev pub borrowedAt : List ℕ
 borrowedAt = 66 ∷ 79 ∷ 82 ∷ 82 ∷ 79 ∷ 87 ∷ 69 ∷ 68 ∷ 32 ∷ 65 ∷ 84 ∷ 32 ∷ []
 
 -- A1: "The program prints a further line, `BLURRED n`, after an acceptance"; k is the number of sets blurred. A9: "After a violation the program
--- prints `BORROWED AT n`".
+-- prints `BORROWED AT n`". A3: "The program prints `EMPTY`".
 abbrev pub verdictLine : ℕ → Verdict → List ℕ
 verdictLine k accept = accepted ++ newline ++ blurredIs ++ decimalOf k ++ newline
 verdictLine k (violation code offset at) = violated ++ numbersOf code offset ++ borrowedAt ++ decimalOf at ++ newline
 verdictLine k (refusal number place) = refused ++ numbersOf number place
+verdictLine k emptyCell = noRoutine ++ newline
 
 abbrev pub lineOf : Answered → List ℕ
 lineOf a = verdictLine (a .blurred) (a .verdict)

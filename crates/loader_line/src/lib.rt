@@ -35,6 +35,7 @@ pub fn verdict_line(v: Verdict) -> Line
             violation_lines(code, offset.0 as usize, borrowed_at.0 as u64)
         }
         Ruling::Refused(number, place) => put_numbers(put(no_text(), b"REFUSED "), number, place),
+        Ruling::Empty => put(no_text(), b"EMPTY\n"),
     }
 }
 

@@ -15,6 +15,7 @@ pub mod Chain
 pub mod Change
 pub mod Cover
 pub mod Cut
+pub mod Empty
 pub mod Exchange
 pub mod First
 pub mod Few
@@ -53,3 +54,4 @@ pub mod Spliced
 pub mod State
 pub mod Step
 pub mod Tests
+pub mod Verify

@@ -1,5 +1,5 @@
--- The listing of one routine: what its bytes mean, a routine, or a refusal with its number and place. The words in quotes are those of
--- document 01, "Listing of one routine" and "Who can cause a refusal".
+-- The listing of one routine: what its bytes mean, a routine, an empty cell, or a refusal with its number and place. The words in quotes are those
+-- of document 01, "Listing of one routine" and "Who can cause a refusal", or of a request that is named.
 use Prim.Native.Nat.{ℕ, _+_, _*_, zero, suc}
 use mathlib.Core.Bool.{Bool, cond, true, _&&_, false, Bool·beq, _||_, not}
 use mathlib.Core.List.{List, [], _∷_, _++_, map}
@@ -237,9 +237,10 @@ instrOf k b = instrIn k (instructions b)
 
 -- ---- the records in turn
 
--- what was read, or a refusal: its number and its place
+-- what was read; that there was nothing to read, which only a whole listing can be; or a refusal: its number and its place
 pub data Listed (A : Type 0) : Type 0 where
   read : A → Listed A
+  nothing : Listed A
   refused : ℕ → ℕ → Listed A
 
 -- the number of the first test that fails, else what comes after it
@@ -378,17 +379,18 @@ ruled size w q =
 -- 5 comes after all records
 abbrev pub afterRecords : List ℕ → Listed Places → Listed Routine
 afterRecords s (read w) = ruled (length s) w (routineAt s w)
+afterRecords s nothing = nothing
 afterRecords s (refused n at) = refused n at
 
--- "6 for length; 1 if empty; each record"; "input over 65,536 bytes (place 65,536)"
+-- "6 for length; .. each record"; "input over 65,536 bytes (place 65,536)"
 unfoldable pub readPlaces : List ℕ → Listed Places
 unfolding placesFrom
 readPlaces s =
     ifNot (ltb maxBytes (length s)) 6 maxBytes
-    (ifNot (empty s) 1 0
-    (placesFrom (length s) s 0 noPlaces))
+    (placesFrom (length s) s 0 noPlaces)
 
--- what a listing is: a routine, or "REFUSED number place"
+-- What a listing is: an empty cell, a routine, or "REFUSED number place". A3: "Zero bytes now mean an empty cell" and "Number 1 is left for records
+-- that end too early".
 unfoldable pub readListing : List ℕ → Listed Routine
 unfolding readPlaces
-readListing s = afterRecords s (readPlaces s)
+readListing s = cond (empty s) nothing (afterRecords s (readPlaces s))

@@ -189,11 +189,13 @@ module _ (St : Type 0) (join : St → St → Ans St) (joinBlurs : St → St → 
 
 -- ---- the verdict of a run
 
--- a violation by its code, its offset and, by A9, the offset behind `BORROWED AT`; a refusal by its number and place
+-- a violation by its code, its offset and, by A9, the offset behind `BORROWED AT`; a refusal by its number and place; A3: "an empty cell, a fourth
+-- answer beside demand 1's three", which no run gives
 pub data Verdict : Type 0 where
   accept : Verdict
   violation : ℕ → ℕ → ℕ → Verdict
   refusal : ℕ → ℕ → Verdict
+  emptyCell : Verdict
 
 -- a block that ended in error: its entry, and the violation's code, offset and borrow
 pub record Failure : Type 0 where

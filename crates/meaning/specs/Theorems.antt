@@ -2,23 +2,26 @@
 use Prim.Native.Nat.{ℕ, _≤_, _<_, _*_}
 use native.Mathlib.Omega.{arith}
 use mathlib.Core.Bool.{true, false}
-use mathlib.Core.List.{List, _∷_}
+use mathlib.Core.List.{List, [], _∷_}
 use mathlib.Core.Logic.{_⊎_, _≢_}
 use mathlib.Core.Option.{some}
 use mathlib.Core.Path.{_≡_}
 use lib.Dec.{ltb}
 use lib.ListN.{length, getD}
+use Rattle.meaning.specs.Limits.{areaWords}
 use Rattle.meaning.specs.Answers.{ok}
 use Rattle.meaning.specs.Lists.{all}
 use Rattle.meaning.specs.References.{covered}
 use Rattle.meaning.specs.BorrowGraph.{Graph, setAt, held, wellFormed, Change, nameAfter, remap}
 use Rattle.meaning.specs.AbstractState.{State, Form, Parts, joinLocals, join, changed, changes, joinBlurs, newNameOf, canonical}
 use Rattle.meaning.specs.Blocks.{Routine, exec}
-use Rattle.meaning.specs.Loop.{mostChanges, mostVisits, visits, passedUp, blank, hasEnded, ended, stopped, violation, refusal}
-use Rattle.meaning.specs.Listing.{read, readListing}
+use Rattle.meaning.specs.Loop.{mostChanges, mostVisits, visits, passedUp, blank, hasEnded, ended, stopped, violation, refusal, emptyCell}
+use Rattle.meaning.specs.Listing.{read, refused, wholeAt, readListing}
 use Rattle.meaning.specs.Verify.{runWith, runOf, verify}
 use Rattle.meaning.specs.Marked as Marked
 use Rattle.meaning.specs.Laws.Block.{Ended, exec-hands}
+use Rattle.meaning.specs.Laws.Empty.{readBefore}
+use Rattle.meaning.specs.Laws.Empty as Empty
 use Rattle.meaning.specs.Laws.Exchange.{Carried, Exchanged, Stepwise}
 use Rattle.meaning.specs.Laws.Exchange as Exchange
 use Rattle.meaning.specs.Laws.Few.{exec-few}
@@ -143,3 +146,18 @@ chains = Exchange.chain
 pub one-by-one : (s : List ℕ) (q : Routine) → readListing s ≡ read q → (budget : ℕ)
     → (runWith q budget ≡ runInTurn q budget) ⊎ ((p : ℕ) × (runInTurn q budget .next ≡ stopped 16 p))
 one-by-one s q e = run-in-turn q (accepted-promised s q e)
+
+-- ---- A3: bare cells
+
+-- "Zero bytes now mean an empty cell", and nothing else does; "the visit count is 0"; "A work area that is too short is still reported first."
+pub empty-cell : ((words : ℕ) → areaWords ≤ words → verify words [] ≡ record { verdict = emptyCell; visits = 0; blurred = 0 })
+    × ((words : ℕ) (s : List ℕ) → verify words s .verdict ≡ emptyCell → (s ≡ []) × (areaWords ≤ words))
+empty-cell = (Empty.zero-bytes, Empty.only-zero-bytes)
+
+-- "Number 1 is left for records that end too early": a record starts at its place, and is not whole.
+pub ends-early : (s : List ℕ) (p : ℕ) → readListing s ≡ refused 1 p → (p < length s) × (wholeAt s p ≡ false)
+ends-early = Empty.ends-early
+
+-- What has a byte is read as document 01 has it.
+pub bytes-stay : (x : ℕ) (xs : List ℕ) → readListing (x ∷ xs) ≡ readBefore (x ∷ xs)
+bytes-stay = Empty.bytes-stay

@@ -1,5 +1,5 @@
--- An answer as seven words: 0 accepted, 1 violation, 2 refused; the code or number; the offset or place; the visits; the number of sets blurred,
--- its low word and its high word; the offset of the borrow behind a violation, else 0.
+-- An answer as seven words: 0 accepted, 1 violation, 2 refused, 3 an empty cell; the code or number; the offset or place; the visits; the number of
+-- sets blurred, its low word and its high word; the offset of the borrow behind a violation, else 0.
 use Prim.Native.Nat.{ℕ, _/_, _%_}
 use mathlib.Core.Path.{_≡_}
 use mathlib.Core.Bool.{Bool, true, false, cond}
@@ -7,7 +7,7 @@ use mathlib.Core.List.{List, [], _∷_, _++_}
 use lib.Dec.{leb}
 use lib.ListN.{length, drop}
 use Rattle.meaning.specs.Area.{cleared}
-use Rattle.meaning.specs.Loop.{Verdict, accept, violation, refusal}
+use Rattle.meaning.specs.Loop.{Verdict, accept, violation, refusal, emptyCell}
 use Rattle.meaning.specs.Verify.{Answered}
 use Rattle.absint.specs.Models.{Left}
 
@@ -15,6 +15,7 @@ abbrev pub rulingWords : Verdict → ℕ → List ℕ
 rulingWords accept visits = 0 ∷ 0 ∷ 0 ∷ visits ∷ []
 rulingWords (violation code offset at) visits = 1 ∷ code ∷ offset ∷ visits ∷ []
 rulingWords (refusal number place) visits = 2 ∷ number ∷ place ∷ visits ∷ []
+rulingWords emptyCell visits = 3 ∷ 0 ∷ 0 ∷ visits ∷ []
 
 -- the numbers below this fit a word
 abbrev pub wordEnd : ℕ
@@ -28,6 +29,7 @@ abbrev pub borrowedWord : Verdict → List ℕ
 borrowedWord accept = 0 ∷ []
 borrowedWord (violation code offset at) = at ∷ []
 borrowedWord (refusal number place) = 0 ∷ []
+borrowedWord emptyCell = 0 ∷ []
 
 abbrev pub wordsOf : Answered → List ℕ
 wordsOf a = rulingWords (a .verdict) (a .visits) ++ blurredWords (a .blurred) ++ borrowedWord (a .verdict)

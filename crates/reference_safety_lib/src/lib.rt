@@ -28,9 +28,9 @@ struct Words {
     borrowed_at: u32,
 }
 
-// The answer's first seven words: 0 accepted, 1 violation, 2 refused; the code or number; the offset or place; the visits; the number of sets
-// blurred, its low word and its high word; and, after a violation, where what it fails on was borrowed, else 0. False, and nothing is done, where
-// the answer has fewer.
+// The answer's first seven words: 0 accepted, 1 violation, 2 refused, 3 an empty cell; the code or number; the offset or place; the visits; the number
+// of sets blurred, its low word and its high word; and, after a violation, where what it fails on was borrowed, else 0. False, and nothing is done,
+// where the answer has fewer.
 #[no_mangle]
 pub extern "C" fn reference_safety_verify(
     listing: &[u8],
@@ -77,6 +77,15 @@ pub(crate) fn verdict_words(v: Verdict) -> Words
             kind: 2,
             number: number as u32,
             place: place as u32,
+            visits: v.visits,
+            low,
+            high,
+            borrowed_at: 0,
+        },
+        Ruling::Empty => Words {
+            kind: 3,
+            number: 0,
+            place: 0,
             visits: v.visits,
             low,
             high,

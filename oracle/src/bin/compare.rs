@@ -109,6 +109,8 @@ mod ours {
     /// refusal are compared.
     const KEPT_EVERY: u64 = 4;
 
+    const EMPTY: u32 = 3;
+
     const SHORT: Answer = Answer { kind: 2, number: 7, place: 0, visits: 0, blurred: 0, borrowed_at: 0 };
 
     fn differs(listing: &[u8], judged: &Judged) -> bool {
@@ -136,7 +138,11 @@ mod ours {
                     side.listings.push(listing.to_vec())
                 }
             }
-            if self.number % 100 == 0 && ours::verify_short(listing) != Ok(SHORT) {
+            let empty = judged.answer.kind == EMPTY;
+            if (self.number % 100 == 0 || empty) && ours::verify_short(listing) != Ok(SHORT) {
+                self.outside.listings.push(listing.to_vec())
+            }
+            if empty && !ours::empty_is_right() {
                 self.outside.listings.push(listing.to_vec())
             }
         }

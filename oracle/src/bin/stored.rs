@@ -19,7 +19,7 @@ fn main() {
         outcomes.entry((entry.answer.kind, entry.answer.number)).or_default()[entry.source as usize] += 1
     }
     println!("{} entries, {} bytes, seed {seed}, chosen from {generated}", entries.len(), bytes.len());
-    println!("kind number: the Rust's own, exporter's, watched");
+    println!("kind number: the Rust's own, reader's, watched");
     for ((kind, number), counts) in outcomes {
         println!("{kind} {number}: {counts:?}")
     }

@@ -2,27 +2,28 @@
 use mathlib.Core.Path.{_≡_, ap, _∙_}
 use Prim.Native.Nat.{ℕ, _+_}
 use mathlib.Core.List.{List, map}
-use lib.ListN.{length, take, getD}
+use lib.ListN.{take, getD}
 use Rattle.meaning.specs.Loop.{Block}
 use Rattle.meaning.specs.Listing.{Listed, bodyAt, paramsOf, localsOf, returnsOf, firstOf, faultyBlock, strayRet, instrAt}
 use Rattle.listing.specs.Models.{listedOf}
-use Rattle.listing.proofs.ReadLaws.{ruled-none, ruled-block, ruled-ret, ruled-read, listed-refused, routine-eq, params-eq, counted-at}
+use Rattle.listing.specs.ModelLaws.{listed-as}
+use Rattle.listing.proofs.ReadLaws.{ruled-none, ruled-block, ruled-ret, ruled-read, routine-eq, params-eq, counted-at}
 use native.Mathlib.Omega.{arith}
 use borrow.Author.Needs.{needs}
 use Rattle.listing.proofs.ruled.Statement.{statement}
 use Rattle.listing.proofs.ruled.Tie as tie
 
-refused-requires : tie.Need-refused-requires
-refused-requires c κs = search needs
+unread-requires : tie.Need-unread-requires
+unread-requires c κs = search needs
 
 returns : tie.Need-returns
 returns c =
     let a = (c .before .before .before .before .args) in
     let p = (c .before .before .before .before .pre) in (
-      listed-refused (a .s .now) (a .code .now) ((c .refused) .result) 5 (length (a .s .now)) ((c .refused) .ensures .0) ((c .refused) .ensures .1) (λ h. omega arith)
+      listed-as (a .s .now) (a .code .now) ((c .unread) .result) _ ((c .unread) .ensures .0)
           ∙ ruled-none (a .s .now) (a .t4) (a .code .now) (a .w .«block_count») (a .w .«code_count») (omega (arith, p .blocks, p .all-blocks))
           (omega (arith, p .code, p .all-code)) ((c .before .if1) .taken),
-      (c .refused) .ensures .2,
+      (c .unread) .ensures .1,
     )
 
 blocks-at-requires : tie.Need-blocks-at-requires
@@ -40,20 +41,20 @@ array-read-place c = omega (arith, (c .before .before .before .before .before .b
 place-requires : tie.Need-place-requires
 place-requires c κs = search needs
 
-refused-requires-2 : tie.Need-refused-requires-2
-refused-requires-2 c κs = search needs
+unread-requires-2 : tie.Need-unread-requires-2
+unread-requires-2 c κs = search needs
 
 returns-2 : tie.Need-returns-2
 returns-2 c =
     let a = (c .before .before .before .before .before .before .before .before .args) in
     let p = (c .before .before .before .before .before .before .before .before .pre) in
     let ff = (c .before .before .before .first-faulty) in (
-      listed-refused (a .s .now) (a .code .now) ((c .refused2) .result) 5 (getD (a .t4) (ff .result) 0) ((c .refused2) .ensures .0)
-          ((c .refused2) .ensures .1 ∙ (c .before .place) .ensures .0) (λ h. omega arith) ∙ ruled-block (a .s .now) (a .t4) (a .code .now)
+      listed-as (a .s .now) (a .code .now) ((c .unread2) .result) _ ((c .unread2) .ensures .0)
+          ∙ ap (Listed.refused 5) ((c .before .place) .ensures .0) ∙ ruled-block (a .s .now) (a .t4) (a .code .now)
           (a .w .«block_count») (a .w .«code_count») (omega (arith, p .blocks, p .all-blocks)) (omega (arith, p .code, p .all-code))
           ((c .before .before .before .before .before .if1) .left) (ff .result)
           (ff .ensures ∙ ap (λ (l : List Block). firstOf (faultyBlock (a .w .«code_count») l) 0 (a .w .«block_count»)) ((c .before .before .before .before .blocks-at) .ensures)) ((c .before .before .if2) .taken),
-      (c .refused2) .ensures .2,
+      (c .unread2) .ensures .1,
     )
 
 first-stray-requires : tie.Need-first-stray-requires
@@ -68,8 +69,8 @@ element-copy-out-place c = omega (arith, (c .before .before .before .before .bef
 place-requires-2 : tie.Need-place-requires-2
 place-requires-2 c κs = search needs
 
-refused-requires-3 : tie.Need-refused-requires-3
-refused-requires-3 c κs = search needs
+unread-requires-3 : tie.Need-unread-requires-3
+unread-requires-3 c κs = search needs
 
 returns-3 : tie.Need-returns-3
 returns-3 c =
@@ -78,15 +79,15 @@ returns-3 c =
     let ba = (c .before .before .before .before .before .before .before .blocks-at) in
     let ff = (c .before .before .before .before .before .before .first-faulty) in
     let fs = (c .before .before .before .before .first-stray) in (
-      listed-refused (a .s .now) (a .code .now) ((c .refused3) .result) 5 (getD (a .code .now) (fs .result) 0) ((c .refused3) .ensures .0)
-          ((c .refused3) .ensures .1 ∙ (c .before .place2) .ensures .0) (λ h. omega arith) ∙ ruled-ret (a .s .now) (a .t4) (a .code .now)
+      listed-as (a .s .now) (a .code .now) ((c .unread3) .result) _ ((c .unread3) .ensures .0)
+          ∙ ap (Listed.refused 5) ((c .before .place2) .ensures .0) ∙ ruled-ret (a .s .now) (a .t4) (a .code .now)
           (a .w .«block_count») (a .w .«code_count») (omega (arith, p .blocks, p .all-blocks)) (omega (arith, p .code, p .all-code))
           ((c .before .before .before .before .before .before .before .before .if1) .left) (ff .result)
           (ff .ensures ∙ ap (λ (l : List Block). firstOf (faultyBlock (a .w .«code_count») l) 0 (a .w .«block_count»)) (ba .ensures))
           ((c .before .before .before .before .before .if2) .left) (fs .result)
           (fs .ensures ∙ ap (λ (l : List Block). firstOf (strayRet (map (instrAt (a .s .now)) (take (a .w .«code_count») (a .code .now))) l) 0
           (a .w .«code_count»)) (ba .ensures)) ((c .before .before .before .if3) .taken),
-      (c .refused3) .ensures .2,
+      (c .unread3) .ensures .1,
     )
 
 byte-at-requires : tie.Need-byte-at-requires
@@ -136,20 +137,20 @@ pub ruled-spec : {M : Type 1} → statement M
 ruled-spec =
     tie.close
     (tie.spec
-    refused-requires
+    unread-requires
     returns
     blocks-at-requires
     first-faulty-requires
     mul-place
     array-read-place
     place-requires
-    refused-requires-2
+    unread-requires-2
     returns-2
     first-stray-requires
     mul-place-2
     element-copy-out-place
     place-requires-2
-    refused-requires-3
+    unread-requires-3
     returns-3
     byte-at-requires
     cast-param-count

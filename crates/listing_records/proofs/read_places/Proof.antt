@@ -1,7 +1,7 @@
 -- `listing_records::read_places` meets its contract. Assumes nothing.
 use mathlib.Core.Path.{sym, ap, _∙_}
 use Rattle.meaning.specs.Listing.{localsOf}
-use Rattle.listing_records.proofs.Laws.{none-read, too-long, nothing, after}
+use Rattle.listing_records.proofs.Laws.{none-read, too-long, after}
 use native.Mathlib.Omega.{arith}
 use borrow.Author.Needs.{needs}
 use Rattle.listing_records.proofs.read_places.Statement.{statement}
@@ -20,16 +20,6 @@ returns c =
     none-read _ (a .s .now) (a .blocks .now) (a .code .now) ((c .refused-at) .result) 6 65536 ((c .refused-at) .ensures) (λ h. omega arith)
     (whole .ensures .0) (whole .ensures .1) (too-long _ ((c .before .if1) .taken))
 
-refused-at-requires-2 : tie.Need-refused-at-requires-2
-refused-at-requires-2 c κs = search needs
-
-returns-2 : tie.Need-returns-2
-returns-2 c =
-    let a = (c .before .before .before .before .before .before .before .args) in
-    let whole = (c .before .before .before .whole) in
-    none-read _ (a .s .now) (a .blocks .now) (a .code .now) ((c .refused-at2) .result) 1 0 ((c .refused-at2) .ensures) (λ h. omega arith)
-    (whole .ensures .0) (whole .ensures .1) (nothing _ ((c .before .before .if1) .left) ((c .before .if2) .taken))
-
 body-requires : tie.Need-body-requires
 body-requires c κs = search needs
 
@@ -38,14 +28,14 @@ byte-at-requires c κs = search needs
 
 read-records-requires : tie.Need-read-records-requires
 read-records-requires c κs =
-    let whole = (c .before .before .before .before .before .before .whole) in
-    ((c .before .before .before .before .before .if1) .left, (c .before .before .byte-at) .ensures ∙ ap localsOf ((c .before .before .before .body) .ensures), whole .ensures .0, whole .ensures .1)
+    let whole = (c .before .before .before .before .before .whole) in
+    ((c .before .before .before .before .if1) .left, (c .before .before .byte-at) .ensures ∙ ap localsOf ((c .before .before .before .body) .ensures), whole .ensures .0, whole .ensures .1)
 
-returns-3 : tie.Need-returns-3
-returns-3 c =
+returns-2 : tie.Need-returns-2
+returns-2 c =
     let r = (c .read-records) .ensures in
     record {
-      places = r .places ∙ sym (after _ ((c .before .before .before .before .before .before .if1) .left) ((c .before .before .before .before .before .if2) .left));
+      places = r .places ∙ sym (after _ ((c .before .before .before .before .before .if1) .left));
       blocks = r .blocks;
       code = r .code;
       ret = r .ret;
@@ -60,9 +50,7 @@ read-places-spec =
     whole-requires
     refused-at-requires
     returns
-    refused-at-requires-2
-    returns-2
     body-requires
     byte-at-requires
     read-records-requires
-    returns-3)
+    returns-2)

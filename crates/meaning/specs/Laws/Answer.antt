@@ -8,19 +8,19 @@ use mathlib.Core.Path.{_≡_, refl, sym, subst}
 use borrow.Author.Tests.{leb-false, ltb-false, ltb-true, leb-true}
 use lib.Dec.{eqb, leb, ltb}
 use lib.ListN.{getD, length, take, drop, length-take, length-drop}
-use Rattle.meaning.specs.Limits.{areaWords}
 use Rattle.meaning.specs.Answers.{Ans, ok, refuse, Outcome, done, violated, refused}
 use Rattle.meaning.specs.Lists.{empty}
 use Rattle.meaning.specs.AbstractState.{State, Operand, join, changed, joinBlurs}
 use Rattle.meaning.specs.EntryPoints.{Running}
 use Rattle.meaning.specs.Steps.{Instr, Machine, step}
 use Rattle.meaning.specs.Blocks.{Routine, machineAt, runFrom, finish, settle, endOf, exec, runBlock, instrsOf, startMachine}
-use Rattle.meaning.specs.Loop.{mostVisits, Failure, verdictFor, Result, Block, noBlock, Next, at, stopped, Run, Slot, Propagation, propagate, afterChange, afterJoin, toKept, toSuccessor, afterBlock, turnAt, turns, blank, Verdict, accept, violation, refusal, lowest, verdictAt, verdict, run}
-use Rattle.meaning.specs.Listing.{Places, Listed, read, ifFine, ifNot, putAt, fullFor, placesFrom, faultAt, kindAt, nextAt, bodyAt, localsOf, faultyBlock, strayRet, firstOf, ruled, routineAt, afterRecords, noPlaces, readPlaces, readListing}
+use Rattle.meaning.specs.Loop.{mostVisits, Failure, verdictFor, Result, Block, noBlock, Next, at, stopped, Run, Slot, Propagation, propagate, afterChange, afterJoin, toKept, toSuccessor, afterBlock, turnAt, turns, blank, Verdict, accept, violation, refusal, emptyCell, lowest, verdictAt, verdict, run}
+use Rattle.meaning.specs.Listing.{Places, Listed, read, nothing, ifFine, ifNot, putAt, fullFor, placesFrom, faultAt, kindAt, nextAt, bodyAt, localsOf, faultyBlock, strayRet, firstOf, ruled, routineAt, afterRecords, noPlaces, readPlaces, readListing}
 use Rattle.meaning.specs.Verify.{runOf, verify, answerTo}
 use Rattle.meaning.specs.Laws.Base.{decide, and-l, and-r}
-use Rattle.meaning.specs.Laws.Listing.{Ruled, accepted-promised, ruled-block, first-none-below, Accepted, accepted}
+use Rattle.meaning.specs.Laws.Listing.{Ruled, accepted-promised, ruled-block, first-none-below, Accepted, accepted, no-bytes, some-bytes}
 use Rattle.meaning.specs.Laws.Promised.{promised}
+use Rattle.meaning.specs.Laws.Verify.{verify-either}
 use Rattle.meaning.specs.Loop as L
 use Rattle.meaning.specs.Listing as S
 
@@ -41,6 +41,7 @@ pub record LowPlaces (m : ℕ) (w : Places) : Type 0 where
 
 abbrev LowListed : {A : Type 0} → ℕ → (A → Type 0) → Listed A → Type 0
 LowListed m P (read a) = P a
+LowListed m P nothing = Unit {0}
 LowListed m P (S.refused n p) = p ≤ m
 
 low-fine : {A : Type 0} (m : ℕ) (P : A → Type 0) (x : Option ℕ) (p : ℕ) (k : Listed A) → p ≤ m → LowListed m P k → LowListed m P (ifFine x p k)
@@ -88,7 +89,9 @@ low-after s (read w) h l = raise (ruled (length s) w (routineAt s w)) (low-ruled
   where
     raise : (x : Listed Routine) → LowListed (length s) Any x → LowListed 65536 Any x
     raise (read q) k = tt
+    raise nothing k = tt
     raise (S.refused n p) k = omega (arith, h, k)
+low-after s nothing h l = tt
 low-after s (S.refused n p) h l = omega (arith, h, l)
 
 none-low : (m : ℕ) → LowPlaces m noPlaces
@@ -98,14 +101,17 @@ none-low m = record { blocks = λ i. none i; code = λ i. none i }
     none zero = omega arith
     none (suc i) = omega arith
 
-pub low-reader : (s : List ℕ) → LowListed 65536 Any (readListing s)
-unfolding readListing readPlaces
-low-reader s =
+low-records : (s : List ℕ) → LowListed 65536 Any (afterRecords s (readPlaces s))
+unfolding readPlaces
+low-records s =
     decide (ltb 65536 (length s))
     (λ e. rw e (omega arith))
     (λ e. let h : length s ≤ 65536 = ltb-false _ _ e in
-    let rest : Listed Places = placesFrom (length s) s 0 noPlaces in
-    rw e (low-after s (ifNot (empty s) 1 0 rest) h (low-not (length s) (LowPlaces (length s)) (empty s) 1 0 rest (omega arith) (λ _. low-from (length s) s 0 noPlaces (none-low (length s))))))
+    rw e (low-after s (placesFrom (length s) s 0 noPlaces) h (low-from (length s) s 0 noPlaces (none-low (length s)))))
+
+pub low-reader : (s : List ℕ) → LowListed 65536 Any (readListing s)
+low-reader [] = subst (LowListed 65536 Any) (sym (no-bytes [] refl)) tt
+low-reader (x ∷ xs) = subst (LowListed 65536 Any) (sym (some-bytes (x ∷ xs) (λ z. omega arith))) (low-records (x ∷ xs))
 
 -- ---- a block
 
@@ -199,6 +205,7 @@ abbrev pub Low : Verdict → Type 0
 Low accept = Unit {0}
 Low (violation c o a) = Unit {0}
 Low (refusal n p) = p ≤ 65536
+Low emptyCell = Unit {0}
 
 low-for : (f : Option Failure) → Low (verdictFor f)
 low-for none = tt
@@ -232,12 +239,9 @@ low-routine s q e =
     (mostVisits (length (q .blocks)) (q .locals)) _ tt)
 
 pub low-answer : (words : ℕ) (s : List ℕ) → Low (verify words s .verdict)
-unfolding verify
-low-answer words s =
-    decide (ltb words areaWords)
-    (λ e. rw e (omega arith))
-    (λ e. rw e (go (readListing s) refl (low-reader s)))
+low-answer words s = verify-either words s (λ a. Low (a .verdict)) (omega arith) (λ _. go (readListing s) refl (low-reader s))
   where
     go : (x : Listed Routine) → readListing s ≡ x → LowListed 65536 Any x → Low (answerTo x .verdict)
     go (read q) h l = low-routine s q h
+    go nothing h l = tt
     go (S.refused n p) h l = l

@@ -15,7 +15,7 @@ use Rattle.meaning.specs.Lists.{all, any, empty, upTo}
 use Rattle.meaning.specs.Steps.{Pop, Instr, isRet}
 use Rattle.meaning.specs.Blocks.{instrsOf, Routine}
 use Rattle.meaning.specs.Loop.{Block, noBlock}
-use Rattle.meaning.specs.Listing.{kindAt, bodyAt, nextAt, localsOf, Listed, read, faultAt, Places, fullFor, putAt, ifFine, ifNot, placesFrom, unless, wholeAt, kindInUse, fieldsOf, fitsBody, withinLimits, Field, fieldWidth, fieldRight, fieldWithin, byte, word, words, tokens, frame, fieldsIn, isToken, refused, noPlaces, Row, instructions, callOf, localIndex, tokenAs, instrIn, instrOf, instrAt, firstOf, overlap, repeats, faultySuccessor, faultyBlock, endsBlock, strayRet, routineAt, readPlaces, afterRecords, readListing}
+use Rattle.meaning.specs.Listing.{kindAt, bodyAt, nextAt, localsOf, Listed, read, faultAt, Places, fullFor, putAt, ifFine, ifNot, placesFrom, unless, wholeAt, kindInUse, fieldsOf, fitsBody, withinLimits, Field, fieldWidth, fieldRight, fieldWithin, byte, word, words, tokens, frame, fieldsIn, isToken, nothing, refused, noPlaces, Row, instructions, callOf, localIndex, tokenAs, instrIn, instrOf, instrAt, firstOf, overlap, repeats, faultySuccessor, faultyBlock, endsBlock, strayRet, routineAt, readPlaces, afterRecords, readListing}
 use Rattle.meaning.specs.Laws.Base.{and-l, and-r, leb-le, and-i, all-append, leb-gt, eqb-eq, decide, eqb-ne}
 use Rattle.meaning.specs.Laws.Promised.{withinFrame, retsPlaced, promised}
 
@@ -161,6 +161,9 @@ pub record Good (s : List ℕ) (w : Places) : Type 0 where
 
 refused≢read : {A : Type 0} {n at : ℕ} {a : A} → refused n at ≡ read a → ⊥
 refused≢read e = let z : _≡_ {A = ℕ} 0 1 = cc in omega arith
+
+nothing≢read : {A : Type 0} {a : A} → nothing ≡ read a → ⊥
+nothing≢read e = let z : _≡_ {A = ℕ} 0 1 = cc in omega arith
 
 fine-read : {A : Type 0} (x : Option ℕ) (at : ℕ) (k : Listed A) (a : A) → ifFine x at k ≡ read a → (x ≡ none) × (k ≡ read a)
 fine-read none at k a e = (refl, e)
@@ -415,27 +418,35 @@ not-empty : {A : Type 0} (xs : List A) → empty xs ≡ false → 0 < length xs
 not-empty [] e = absurd (true≢false e)
 not-empty (x ∷ xs) e = omega arith
 
--- the places were read: there are bytes, and each record passed
-pub read-places : (s : List ℕ) (v : Places) → readPlaces s ≡ read v → (0 < length s) × (placesFrom (length s) s 0 noPlaces ≡ read v)
+-- the places were read: each record passed
+pub read-places : (s : List ℕ) (v : Places) → readPlaces s ≡ read v → placesFrom (length s) s 0 noPlaces ≡ read v
 unfolding readPlaces
-read-places s v e =
-    let a = not-read (ltb 65536 (length s)) 6 65536 (ifNot (empty s) 1 0 (placesFrom (length s) s 0 noPlaces)) v e in
-    let b = not-read (empty s) 1 0 (placesFrom (length s) s 0 noPlaces) v (a .1) in
-    (not-empty s (b .0), b .1)
+read-places s v e = not-read (ltb 65536 (length s)) 6 65536 (placesFrom (length s) s 0 noPlaces) v e .1
+
+-- with and without a byte
+pub no-bytes : (s : List ℕ) → length s ≡ 0 → readListing s ≡ nothing
+unfolding readListing
+no-bytes [] h = refl
+no-bytes (x ∷ xs) h = absurd (omega arith)
+
+pub some-bytes : (s : List ℕ) → (length s ≡ 0 → ⊥) → readListing s ≡ afterRecords s (readPlaces s)
+unfolding readListing
+some-bytes [] h = absurd (h refl)
+some-bytes (x ∷ xs) h = refl
 
 pub accepted : (s : List ℕ) (q : Routine) → readListing s ≡ read q → Accepted s q
-unfolding readListing
-accepted s q e = go (readPlaces s) refl e
+accepted [] q e = absurd (nothing≢read (sym (no-bytes [] refl) ∙ e))
+accepted (x ∷ xs) q e = go (x ∷ xs) (readPlaces (x ∷ xs)) (omega arith) refl (sym (some-bytes (x ∷ xs) (λ z. omega arith)) ∙ e)
   where
-    go : (x : Listed Places) → readPlaces s ≡ x → afterRecords s x ≡ read q → Accepted s q
-    go (refused n at) h r = absurd (refused≢read r)
-    go (read v) h r =
+    go : (s : List ℕ) (x : Listed Places) → 0 < length s → readPlaces s ≡ x → afterRecords s x ≡ read q → Accepted s q
+    go s nothing z h r = absurd (nothing≢read r)
+    go s (refused n at) z h r = absurd (refused≢read r)
+    go s (read v) z h r =
         let p : Routine = routineAt s v in
         let c = not-read (empty (p .blocks)) 5 (length s) _ q r in
         let d = not-read (ltb (firstOf (faultyBlock (length (p .code)) (p .blocks)) 0 (length (p .blocks))) (length (p .blocks))) 5 _ _ q (c .1) in
         let f = not-read (ltb (firstOf (strayRet (p .code) (p .blocks)) 0 (length (p .code))) (length (p .code))) 5 _ _ q (d .1) in
-        let g = read-places s v h in
-        record { places = v; read-so = g .1; routine = sym (read-inj (f .1)); some = g .0; some-block = not-empty (p .blocks) (c .0); fine-blocks = d .0; fine-rets = f .0 }
+        record { places = v; read-so = read-places s v h; routine = sym (read-inj (f .1)); some = z; some-block = not-empty (p .blocks) (c .0); fine-blocks = d .0; fine-rets = f .0 }
 
 pub accepted-block : (s : List ℕ) (q : Routine) → readListing s ≡ read q → 0 < length (q .blocks)
 accepted-block s q e = let a : Accepted s q = accepted s q e in subst (λ (r : Routine). 0 < length (r .blocks)) (sym (a .routine)) (a .some-block)

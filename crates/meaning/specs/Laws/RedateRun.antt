@@ -6,7 +6,7 @@ use mathlib.Core.Bool.{Bool, true, false, cond}
 use mathlib.Core.List.{List, [], _∷_, map, map-map}
 use mathlib.Core.Option.{Option, none, some, Option·map}
 use mathlib.Core.Path.{_≡_, refl, sym, ap, _∙_}
-use borrow.Author.Tests.{ltb-true, lt-ltb}
+use borrow.Author.Tests.{ltb-true, ltb-false, lt-ltb}
 use lib.Dec.{ltb, leb}
 use lib.ListN.{length, getD, set, take, drop, length-take, length-drop, List·getD-map}
 use Rattle.meaning.specs.Limits.{areaWords}
@@ -17,8 +17,8 @@ use Rattle.meaning.specs.AbstractState.{State, Operand, Token, join, joi
 use Rattle.meaning.specs.EntryPoints.{Running}
 use Rattle.meaning.specs.Steps.{Instr, Machine, step}
 use Rattle.meaning.specs.Blocks.{Routine, instrsOf, startMachine, endOf, finish, settle, machineAt, runFrom, runBlock, exec}
-use Rattle.meaning.specs.Loop.{Result, Block, Status, fine, failed, Slot, Next, at, stopped, Run, visits, Propagation, position, noBlock, blank, mostVisits, afterChange, afterJoin, toKept, toSuccessor, propagate, keptBlurs, successorBlurs, propagateBlurs, mark, afterBlock, visitBlock, turnAt, turn, turns, startSlots, run, Verdict, accept, violation, refusal, Failure, lower, lowest, verdictFor, verdictAt, verdict}
-use Rattle.meaning.specs.Listing.{Listed, read, readListing}
+use Rattle.meaning.specs.Loop.{Result, Block, Status, fine, failed, Slot, Next, at, stopped, Run, visits, Propagation, position, noBlock, blank, mostVisits, afterChange, afterJoin, toKept, toSuccessor, propagate, keptBlurs, successorBlurs, propagateBlurs, mark, afterBlock, visitBlock, turnAt, turn, turns, startSlots, run, Verdict, accept, violation, refusal, emptyCell, Failure, lower, lowest, verdictFor, verdictAt, verdict}
+use Rattle.meaning.specs.Listing.{Listed, read, nothing, readListing}
 use Rattle.meaning.specs.Listing as S
 use Rattle.meaning.specs.Verify.{runWith, runOf, Answered, answerTo, verify}
 use Rattle.meaning.specs.Laws.Answer.{rules}
@@ -26,6 +26,7 @@ use Rattle.meaning.specs.Laws.Base.{decide, and-i}
 use Rattle.meaning.specs.Laws.Listing.{Ruled, accepted-block}
 use Rattle.meaning.specs.Laws.Redate.{redateGEdge, redateAll, redateState, mapAns, past, canonical-redate, join-redate, joinBlurs-redate, changed-redate}
 use Rattle.meaning.specs.Laws.RedateStep.{redateRunning, redateMachine, Redates, step-redate}
+use Rattle.meaning.specs.Laws.Verify.{verify-short, verify-long, verify-either}
 
 -- ---- the changes: f is for where something was borrowed, g for where a violation was
 
@@ -55,6 +56,7 @@ abbrev pub redateVerdict : (ℕ → ℕ) → (ℕ → ℕ) → Verdict → Verdi
 redateVerdict f g accept = accept
 redateVerdict f g (violation c o a) = violation c (g o) (f a)
 redateVerdict f g (refusal n p) = refusal n p
+redateVerdict f g emptyCell = emptyCell
 
 abbrev pub redateAnswered : (ℕ → ℕ) → (ℕ → ℕ) → Answered → Answered
 redateAnswered f g a = record { verdict = redateVerdict f g (a .verdict); visits = a .visits; blurred = a .blurred }
@@ -83,6 +85,7 @@ runOfBy d q = runBy d q (mostVisits (length (q .blocks)) (q .locals)) (firstStat
 
 abbrev pub answerBy : (ℕ → ℕ) → Listed Routine → Answered
 answerBy d (read q) = record { verdict = verdict (q .blocks) (runOfBy d q); visits = visits (runOfBy d q); blurred = runOfBy d q .blurs }
+answerBy d nothing = record { verdict = emptyCell; visits = 0; blurred = 0 }
 answerBy d (S.refused n p) = record { verdict = refusal n p; visits = 0; blurred = 0 }
 
 unfoldable pub verifyBy : (ℕ → ℕ) → ℕ → List ℕ → Answered
@@ -376,11 +379,14 @@ module _ (f : ℕ → ℕ) (minima : (a b : ℕ) → f (min a b) ≡ min (f a) (
     visits = visits (runOf-redate q j);
     blurred = runOf-redate q j .blurs;
   }
+  answer-redate nothing = refl
   answer-redate (S.refused n p) = refl
 
   pub verify-redate : (words : ℕ) (s : List ℕ) → redateAnswered f (λ o. o) (verify words s) ≡ verifyBy f words s
-  unfolding verify verifyBy
-  verify-redate words s = decide (ltb words areaWords) (λ e. rw e) (λ e. rw e (answer-redate (readListing s)))
+  unfolding verifyBy
+  verify-redate words s = decide (ltb words areaWords)
+      (λ e. rw (e, verify-short words s (ltb-true _ _ e)))
+      (λ e. rw (e, verify-long words s (ltb-false _ _ e)) (answer-redate (readListing s)))
 
 -- ---- forgetting the offsets
 
@@ -463,12 +469,12 @@ module _ (q : Routine) (some-code : 0 < length (q .code)) (blocks : (i : ℕ) �
       (below (length (q .code)) some-code o x, below (length (q .code)) some-code a y)
 
 pub dated : (s : List ℕ) (q : Routine) → readListing s ≡ read q → Dated s q
-unfolding verify runOf
+unfolding runOf
 dated s q e =
     let some-code : 0 < length (q .code) = omega (arith, rules s q e 0 (accepted-block s q e) .inside) in
     record {
-      borrowed-at = λ words c o a h. decide (ltb words areaWords)
-          (λ l. let m : refusal 7 0 ≡ violation c o a = (rw l at h) in let z : _≡_ {A = ℕ} 0 1 = cc in absurd (omega arith))
-          (λ l. verdict-below q some-code (rules s q e) (mostVisits (length (q .blocks)) (q .locals)) c o a (rw (l, e) at h));
+      borrowed-at = λ words c o a. verify-either words s (λ b. b .verdict ≡ violation c o a → (o < length (q .code)) × (a < length (q .code)))
+          (λ h. let z : _≡_ {A = ℕ} 0 1 = cc in absurd (omega arith))
+          (λ l h. verdict-below q some-code (rules s q e) (mostVisits (length (q .blocks)) (q .locals)) c o a (rw e at h));
       kept-at = kept-below q some-code (rules s q e);
     }

@@ -9,12 +9,11 @@ use mathlib.Core.Path.{_≡_, refl, sym, ap, _∙_, subst}
 use lib.Dec.{leb, ltb, eqb}
 use lib.ListN.{length, getD, set}
 use lib.Seq.{getD-set-same, getD-set-other, set-out}
-use Rattle.meaning.specs.Limits.{areaWords}
 use Rattle.meaning.specs.Answers.{Ans, ordinary}
 use Rattle.meaning.specs.Lists.{all}
 use Rattle.meaning.specs.AbstractState.{State, join, changed, Token, firstState, joinBlurs}
 use Rattle.meaning.specs.Blocks.{Routine, exec, instrsOf}
-use Rattle.meaning.specs.Loop.{mostChanges, mostVisits, Result, Block, Status, fine, failed, Slot, Next, at, stopped, Run, visits, Propagation, position, noBlock, blank, afterChange, afterJoin, toKept, toSuccessor, propagate, mark, afterBlock, visitBlock as runLoopBlock, turnAt, turn, turns, startSlots, run, hasEnded, Failure, Verdict, accept, violation, refusal, lowest, verdictFor, verdictAt, verdict}
+use Rattle.meaning.specs.Loop.{mostChanges, mostVisits, Result, Block, Status, fine, failed, Slot, Next, at, stopped, Run, visits, Propagation, position, noBlock, blank, afterChange, afterJoin, toKept, toSuccessor, propagate, mark, afterBlock, visitBlock as runLoopBlock, turnAt, turn, turns, startSlots, run, hasEnded, Failure, Verdict, accept, violation, refusal, emptyCell, lowest, verdictFor, verdictAt, verdict}
 use Rattle.meaning.specs.Listing.{read, readListing}
 use Rattle.meaning.specs.Verify.{runWith, runOf, verify}
 use Rattle.meaning.specs.Laws.Base.{decide, both, not-false, and-i, and-l, eqb-no, eqb-eq, eqb-ne, leb-le, leb-gt}
@@ -27,6 +26,7 @@ use Rattle.meaning.specs.Laws.Promised.{promised, withinFrame, retsPlace
 use Rattle.meaning.specs.Laws.State.{rank, rank-le, join-law, change-lt}
 use Rattle.meaning.specs.Laws.Loop.{Bounds}
 use Rattle.meaning.specs.Laws.Loop as Laws
+use Rattle.meaning.specs.Laws.Verify.{verify-either}
 
 -- ---- `ordinary` says what it is to say: a number other than 8, 9, 16 and 23
 
@@ -190,21 +190,22 @@ abbrev numberIn : Verdict → ℕ
 numberIn accept = 0
 numberIn (violation c o a) = 0
 numberIn (refusal n p) = n
+numberIn emptyCell = 0
 
 module _ (s : List ℕ) (q : Routine) (e : readListing s ≡ read q) where
   pub answer-visits : (words : ℕ) → verify words s .visits ≤ mostVisits (length (q .blocks)) (q .locals)
-  unfolding verify runOf
+  unfolding runOf
   answer-visits words =
-      decide (ltb words areaWords)
-      (λ d. rw d zero-le)
-      (λ d. rw (d, e) (visits-bound q (accepted-promised s q e) (mostVisits (length (q .blocks)) (q .locals))))
+      verify-either words s (λ a. a .visits ≤ mostVisits (length (q .blocks)) (q .locals))
+      zero-le
+      (λ _. rw e (visits-bound q (accepted-promised s q e) (mostVisits (length (q .blocks)) (q .locals))))
 
   pub answer-refusals : (words n p : ℕ) → verify words s .verdict ≡ refusal n p → (n ≢ 8) × (n ≢ 9) × (n ≢ 16) × (n ≢ 23)
-  unfolding verify verdict runOf
+  unfolding verdict runOf
   answer-refusals words n p h =
-      decide (ltb words areaWords)
-      (λ d. ordinary-not n (subst (λ (k : ℕ). ordinary k ≡ true) (ap numberIn (rw d at h)) refl))
-      (λ d. ordinary-not n (go (runOf q .next) (refusals q (accepted-promised s q e) (mostVisits (length (q .blocks)) (q .locals))) (rw (d, e) at h)))
+      ordinary-not n (verify-either words s (λ a. a .verdict ≡ refusal n p → ordinary n ≡ true)
+      (λ z. subst (λ (k : ℕ). ordinary k ≡ true) (ap numberIn z) refl)
+      (λ _ z. go (runOf q .next) (refusals q (accepted-promised s q e) (mostVisits (length (q .blocks)) (q .locals))) (rw e at z)) h)
     where
       none-refused : (f : Option Failure) → verdictFor f ≡ refusal n p → ⊥
       none-refused none z = let y : _≡_ {A = ℕ} 0 1 = cc in omega arith

@@ -1,4 +1,4 @@
--- Listings read: the marked one, and one for each cause of a refusal.
+-- Listings read: none, the marked one, and one for each cause of a refusal.
 use mathlib.Core.Bool.{true}
 use mathlib.Core.List.{[], _∷_}
 use mathlib.Core.Path.{_≡_, refl}
@@ -7,7 +7,9 @@ use Rattle.meaning.specs.Lists.{upTo}
 use Rattle.meaning.specs.AbstractState.{ofValue}
 use Rattle.meaning.specs.Steps.{StLoc, MoveLoc, Values, BorrowLoc}
 use Rattle.meaning.specs.Blocks.{Routine}
-use Rattle.meaning.specs.Listing.{u16At, wholeAt, bodyAt, fieldsIn, inUse, kindInUse, fieldsOf, fitsBody, withinLimits, blockOf, callOf, instrIn, instrOf, faultAt, placesFrom, firstOf, repeats, faultyBlock, strayRet, blockAt, instrAt, readPlaces, readListing, read, refused}
+use Rattle.meaning.specs.Listing.{u16At, wholeAt, bodyAt, fieldsIn, inUse, kindInUse, fieldsOf, fitsBody, withinLimits, blockOf, callOf, instrIn, instrOf, faultAt, placesFrom, firstOf, repeats, faultyBlock, strayRet, blockAt, instrAt, readPlaces, readListing, read, nothing, refused}
+use Rattle.meaning.specs.Loop.{refusal, emptyCell}
+use Rattle.meaning.specs.Verify.{verify}
 use Rattle.meaning.specs.Marked.{listing}
 
 -- load, store 0, mutable borrow of local 0, move 0
@@ -23,6 +25,19 @@ routine = record {
 pub marked-read : readListing listing ≡ read routine
 unfolding u16At wholeAt bodyAt fieldsIn inUse kindInUse fieldsOf fitsBody withinLimits upTo blockOf callOf instrIn instrOf faultAt placesFrom firstOf repeats faultyBlock strayRet blockAt instrAt readPlaces readListing
 marked-read = refl
+
+-- A3: zero bytes; an area that is long enough, and one that lacks a word
+pub empty-cell : readListing [] ≡ nothing
+unfolding readListing
+empty-cell = refl
+
+pub empty-answer : verify 16384 [] ≡ record { verdict = emptyCell; visits = 0; blurred = 0 }
+unfolding verify readListing
+empty-answer = refl
+
+pub empty-short : verify 16383 [] ≡ record { verdict = refusal 7 0; visits = 0; blurred = 0 }
+unfolding verify
+empty-short = refl
 
 -- cut one byte short
 pub marked-cut : readListing (take 40 listing) ≡ refused 1 36

@@ -1,9 +1,8 @@
 -- Whole routines run that document 01 does not mark.
 use Prim.Native.Nat.{ℕ, _-_}
-use mathlib.Core.Bool.{true, Bool, false, _&&_}
+use mathlib.Core.Bool.{true, Bool, false}
 use mathlib.Core.List.{[], _∷_, List}
 use mathlib.Core.Path.{_≡_, refl}
-use lib.Dec.{eqb}
 use lib.ListN.{length}
 use Rattle.meaning.specs.Lists.{all}
 use Rattle.meaning.specs.References.{insert, eqEdge, eqPath, prefix, has, put, ltEdge, ltPath, setOk, ordered, short, isBlur}
@@ -13,6 +12,7 @@ use Rattle.meaning.specs.EntryPoints.{newRef, addBorrow, addLocalBorrow,
 use Rattle.meaning.specs.Steps.{MoveLoc, StLoc, Ret, Call, popValues, popMany, push, pushAll, pushNew, step, Values, Instr, Pop, CopyLoc, FreezeRef, Compare, ReadRef, WriteRef, BorrowLoc, BorrowField, BorrowGlobal, MoveFrom, MoveTo, VectorOp, BorrowElement}
 use Rattle.meaning.specs.Blocks.{Routine, instrsOf, runFrom, runBlock, exec}
 use Rattle.meaning.specs.Loop.{run, verdict, lowest, accept, propagate, turn as loopStep, turns, startSlots, position, refusal, Verdict, violation, Block}
+use Rattle.meaning.specs.Marked.{isVerdict}
 
 -- move 0 to local 1, local 1 absent before; then a call that takes it and returns a reference; then return it: accepted
 abbrev moved : Routine
@@ -43,17 +43,6 @@ unfolding firstState firstLocals firstNames run turns loopStep propagate startSl
 left-refused = refl
 
 -- ---- one block without successors, for each number of document 01
-
-abbrev isVerdict : Verdict → Verdict → Bool
-isVerdict accept accept = true
-isVerdict accept (violation c o a) = false
-isVerdict accept (refusal n o) = false
-isVerdict (violation c o a) accept = false
-isVerdict (violation c o a) (violation d r b) = eqb c d && (eqb o r && eqb a b)
-isVerdict (violation c o a) (refusal n r) = false
-isVerdict (refusal n o) accept = false
-isVerdict (refusal n o) (violation c r a) = false
-isVerdict (refusal n o) (refusal k r) = eqb n k && eqb o r
 
 -- L, the parameters, the number of returns, the instructions
 unfoldable pub whole : ℕ → List Token → ℕ → List Instr → Verdict → Bool

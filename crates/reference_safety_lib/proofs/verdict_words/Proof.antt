@@ -44,6 +44,9 @@ cast-t16 c =
     let low : c .before .ruling2 .given .0 .1 .0 ≤ 65536 = subst (λ (r : Ruling). Low (rulingOf r)) (c .before .ruling2 .given .1) (c .before .before .before .before .before .pre) in
     omega (arith, low)
 
+enum-told-2 : tie.Need-enum-told-2
+enum-told-2 c = search needs
+
 -- the words of a verdict with this ruling
 abbrev words : Verdict → Ruling → List ℕ
 words v r = rulingWords (rulingOf r) (v .visits) ++ blurredWords (v .blurred) ++ borrowedWord (rulingOf r)
@@ -56,6 +59,9 @@ returns-2 c = ap (words (c .before .before .before .before .before .before .befo
 
 returns-3 : tie.Need-returns-3
 returns-3 c = ap (words (c .before .before .before .before .before .args .v)) (sym (c .before .ruling2 .given .1))
+
+returns-4 : tie.Need-returns-4
+returns-4 c = ap (words (c .before .before .before .before .args .v)) (sym (c .enum-told2 .given .1))
 
 pub verdict-words-spec : {M : Type 1} → statement M
 verdict-words-spec =
@@ -71,6 +77,8 @@ verdict-words-spec =
     enum-known-ruling-2
     cast-t15
     cast-t16
+    enum-told-2
     returns
     returns-2
-    returns-3)
+    returns-3
+    returns-4)
