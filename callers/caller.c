@@ -25,7 +25,7 @@ static const uint8_t lends[] = {0x0E, 0x00, 0x01, 0x00, 0x0B, 0x0B, 0x00, 0x00, 
                                 0x00, 0x01, 0x01, 0x00, 0x00, 0x10, 0x00, 0x00, 0x00, 0x0A, 0x00, 0x00, 0x00, 0x17,
                                 0x00};
 
-/* KEPT: docs/ARCHITECTURE.md, the area; the unit of what stands beside a local in its word. */
+/* KEPT and BLOCK_WORDS: docs/ARCHITECTURE.md, the area; the unit of what stands beside a local in its word, and the words of a block. */
 enum { BEYOND = 1, USED = 7, KEPT = 262144, BLOCK_WORDS = 1024 };
 
 static uint32_t area[BUSLATIM_AREA_WORDS + BEYOND];

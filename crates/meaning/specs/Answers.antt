@@ -36,9 +36,10 @@ pub data Outcome (A : Type 0) : Type 0 where
   violated : ℕ → ℕ → ℕ → Outcome A
   refused : ℕ → Outcome A
 
--- a refusal that a run may give: not one of the caller's, 8, 9 and 23, nor 16, which by A2 only a direct rename gives
+-- a refusal that a run may give: not 1, which by A3 is left for records that end too early, nor one of the caller's, 8, 9 and 23, nor 16, which by A2
+-- only a direct rename gives
 abbrev pub ordinary : ℕ → Bool
-ordinary n = not (eqb n 8) && (not (eqb n 9) && (not (eqb n 16) && not (eqb n 23)))
+ordinary n = not (eqb n 1) && (not (eqb n 8) && (not (eqb n 9) && (not (eqb n 16) && not (eqb n 23))))
 
 -- "Later ones follow the Rust's step order, first one ends the run"
 abbrev pub then : {A B : Type 0} → Outcome A → (A → Outcome B) → Outcome B

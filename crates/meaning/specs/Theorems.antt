@@ -16,7 +16,7 @@ use Rattle.meaning.specs.BorrowGraph.{Graph, setAt, held, wellFormed, Ch
 use Rattle.meaning.specs.AbstractState.{State, Form, Parts, joinLocals, join, changed, changes, joinBlurs, newNameOf, canonical}
 use Rattle.meaning.specs.Blocks.{Routine, exec}
 use Rattle.meaning.specs.Loop.{mostChanges, mostVisits, visits, passedUp, blank, hasEnded, ended, stopped, violation, refusal, emptyCell}
-use Rattle.meaning.specs.Listing.{read, refused, wholeAt, readListing}
+use Rattle.meaning.specs.Listing.{read, wholeAt, readListing}
 use Rattle.meaning.specs.Verify.{runWith, runOf, verify}
 use Rattle.meaning.specs.Marked as Marked
 use Rattle.meaning.specs.Laws.Block.{Ended, exec-hands}
@@ -38,6 +38,7 @@ use Rattle.meaning.specs.Laws.State as States
 use Rattle.meaning.specs.Laws.Run as Runs
 use Rattle.meaning.specs.Laws.Tests.{Stays}
 use Rattle.meaning.specs.Laws.Tests as Tests
+use Rattle.meaning.specs.Laws.Verify.{verify-short}
 use Rattle.meaning.specs.Refinement.InTurn.{runInTurn}
 
 -- ---- the marked cases
@@ -73,8 +74,8 @@ pub record Bounded (s : List ℕ) (q : Routine) : Type 0 where
   pub few-blurs : (budget j : ℕ) (k : State) → getD (runWith q budget .slots) j blank .kept ≡ some k → passedUp (exec q j k) ≤ 512 * (144 * 96)
   -- the visits that are answered, for an area of any length
   pub answered : (words : ℕ) → verify words s .visits ≤ mostVisits (length (q .blocks)) (q .locals)
-  -- the caller's refusals 8, 9 and 23 never come out, nor does 16, which by A2 only a direct rename gives
-  pub refused : (words n p : ℕ) → verify words s .verdict ≡ refusal n p → (n ≢ 8) × (n ≢ 9) × (n ≢ 16) × (n ≢ 23)
+  -- the caller's refusals 8, 9 and 23 never come out, nor does 16, which by A2 only a direct rename gives, nor 1, by A3 for a record that ends too early
+  pub refused : (words n p : ℕ) → verify words s .verdict ≡ refusal n p → (n ≢ 1) × (n ≢ 8) × (n ≢ 9) × (n ≢ 16) × (n ≢ 23)
 
 pub demand3 : (s : List ℕ) (q : Routine) → readListing s ≡ read q → Bounded s q
 unfolding runOf
@@ -152,10 +153,11 @@ one-by-one s q e = run-in-turn q (accepted-promised s q e)
 -- "Zero bytes now mean an empty cell", and nothing else does; "the visit count is 0"; "A work area that is too short is still reported first."
 pub empty-cell : ((words : ℕ) → areaWords ≤ words → verify words [] ≡ record { verdict = emptyCell; visits = 0; blurred = 0 })
     × ((words : ℕ) (s : List ℕ) → verify words s .verdict ≡ emptyCell → (s ≡ []) × (areaWords ≤ words))
-empty-cell = (Empty.zero-bytes, Empty.only-zero-bytes)
+    × ((words : ℕ) (s : List ℕ) → words < areaWords → verify words s ≡ record { verdict = refusal 7 0; visits = 0; blurred = 0 })
+empty-cell = (Empty.zero-bytes, Empty.only-zero-bytes, verify-short)
 
 -- "Number 1 is left for records that end too early": a record starts at its place, and is not whole.
-pub ends-early : (s : List ℕ) (p : ℕ) → readListing s ≡ refused 1 p → (p < length s) × (wholeAt s p ≡ false)
+pub ends-early : (words : ℕ) (s : List ℕ) (p : ℕ) → verify words s .verdict ≡ refusal 1 p → (p < length s) × (wholeAt s p ≡ false)
 ends-early = Empty.ends-early
 
 -- What has a byte is read as document 01 has it.

@@ -1,10 +1,11 @@
--- The place of a refusal is at most 65,536.
+-- What a refusal says: its place is at most 65,536, and number 1 is for a record that ends too early.
 use Prim.Native.Nat.{ℕ, _≤_, zero, suc, _<_, _+_, _-_}
 use native.Mathlib.Omega.{arith}
-use mathlib.Core.Bool.{Bool, true, false}
+use mathlib.Core.Bool.{Bool, true, false, Bool·beq}
 use mathlib.Core.List.{List, [], _∷_, _++_}
-use mathlib.Core.Option.{none, Option, some}
-use mathlib.Core.Path.{_≡_, refl, sym, subst}
+use mathlib.Core.Logic.{_≢_}
+use mathlib.Core.Option.{none, Option, some, Option·none-ne-some}
+use mathlib.Core.Path.{_≡_, refl, sym, ap, subst, _∙_}
 use borrow.Author.Tests.{leb-false, ltb-false, ltb-true, leb-true}
 use lib.Dec.{eqb, leb, ltb}
 use lib.ListN.{getD, length, take, drop, length-take, length-drop}
@@ -15,7 +16,7 @@ use Rattle.meaning.specs.EntryPoints.{Running}
 use Rattle.meaning.specs.Steps.{Instr, Machine, step}
 use Rattle.meaning.specs.Blocks.{Routine, machineAt, runFrom, finish, settle, endOf, exec, runBlock, instrsOf, startMachine}
 use Rattle.meaning.specs.Loop.{mostVisits, Failure, verdictFor, Result, Block, noBlock, Next, at, stopped, Run, Slot, Propagation, propagate, afterChange, afterJoin, toKept, toSuccessor, afterBlock, turnAt, turns, blank, Verdict, accept, violation, refusal, emptyCell, lowest, verdictAt, verdict, run}
-use Rattle.meaning.specs.Listing.{Places, Listed, read, nothing, ifFine, ifNot, putAt, fullFor, placesFrom, faultAt, kindAt, nextAt, bodyAt, localsOf, faultyBlock, strayRet, firstOf, ruled, routineAt, afterRecords, noPlaces, readPlaces, readListing}
+use Rattle.meaning.specs.Listing.{wholeAt, kindInUse, fieldsOf, fitsBody, withinLimits, unless, Places, Listed, read, nothing, ifFine, ifNot, putAt, fullFor, placesFrom, faultAt, kindAt, nextAt, bodyAt, localsOf, faultyBlock, strayRet, firstOf, ruled, routineAt, afterRecords, noPlaces, readPlaces, readListing}
 use Rattle.meaning.specs.Verify.{runOf, verify, answerTo}
 use Rattle.meaning.specs.Laws.Base.{decide, and-l, and-r}
 use Rattle.meaning.specs.Laws.Listing.{Ruled, accepted-promised, ruled-block, first-none-below, Accepted, accepted, no-bytes, some-bytes}
@@ -39,18 +40,42 @@ pub record LowPlaces (m : ℕ) (w : Places) : Type 0 where
   pub blocks : Below m (w .blocks)
   pub code : Below m (w .code)
 
-abbrev LowListed : {A : Type 0} → ℕ → (A → Type 0) → Listed A → Type 0
-LowListed m P (read a) = P a
-LowListed m P nothing = Unit {0}
-LowListed m P (S.refused n p) = p ≤ m
+-- what a refusal says: its place is at most m, and number 1 stands for a record that starts there and is not whole
+abbrev Told : List ℕ → ℕ → ℕ → ℕ → Type 0
+Told s m n p = (p ≤ m) × (n ≡ 1 → (p < length s) × (wholeAt s p ≡ false))
 
-low-fine : {A : Type 0} (m : ℕ) (P : A → Type 0) (x : Option ℕ) (p : ℕ) (k : Listed A) → p ≤ m → LowListed m P k → LowListed m P (ifFine x p k)
-low-fine m P none p k h l = l
-low-fine m P (some x) p k h l = h
+-- what is read of records, so never nothing
+abbrev pub LowListed : {A : Type 0} → List ℕ → ℕ → (A → Type 0) → Listed A → Type 0
+LowListed s m P (read a) = P a
+LowListed s m P nothing = ⊥
+LowListed s m P (S.refused n p) = Told s m n p
 
-low-not : {A : Type 0} (m : ℕ) (P : A → Type 0) (b : Bool) (n p : ℕ) (k : Listed A) → p ≤ m → (b ≡ false → LowListed m P k) → LowListed m P (ifNot b n p k)
-low-not m P true n p k h l = h
-low-not m P false n p k h l = l refl
+low-fine : {A : Type 0} (s : List ℕ) (m : ℕ) (P : A → Type 0) (x : Option ℕ) (p : ℕ) (k : Listed A) → ((n : ℕ) → x ≡ some n → Told s m n p) → LowListed s m P k
+    → LowListed s m P (ifFine x p k)
+low-fine s m P none p k h l = l
+low-fine s m P (some n) p k h l = h n refl
+
+low-not : {A : Type 0} (s : List ℕ) (m : ℕ) (P : A → Type 0) (b : Bool) (n p : ℕ) (k : Listed A) → n ≢ 1 → p ≤ m → (b ≡ false → LowListed s m P k)
+    → LowListed s m P (ifNot b n p k)
+low-not s m P true n p k d h l = (h, λ e. absurd (d e))
+low-not s m P false n p k d h l = l refl
+
+later : (b : Bool) (n : ℕ) (k : Option ℕ) → n ≢ 1 → k ≢ some 1 → unless b n k ≢ some 1
+later true n k h g e = g e
+later false n k h g e = h cc
+
+-- the tests of a record behind its first have other numbers
+early : (s : List ℕ) (l p : ℕ) → faultAt s l p ≡ some 1 → wholeAt s p ≡ false
+unfolding faultAt
+early s l p e =
+    decide (wholeAt s p)
+    (λ w. absurd (
+    later (kindInUse (kindAt s p)) 2 _ (λ z. omega arith)
+    (later (Bool·beq (eqb (kindAt s p) 1) (eqb p 0)) 4 _ (λ z. omega arith)
+    (later (fitsBody l (fieldsOf (kindAt s p)) (bodyAt s p)) 3 _ (λ z. omega arith)
+    (later (withinLimits (fieldsOf (kindAt s p)) (bodyAt s p)) 6 none (λ z. omega arith)
+    (Option·none-ne-some 1)))) (rw w at e)))
+    (λ w. w)
 
 low-put : (m k p : ℕ) (w : Places) → LowPlaces m w → p ≤ m → LowPlaces m (putAt k p w)
 low-put m k p w l h =
@@ -60,39 +85,42 @@ low-put m k p w l h =
     (λ d. rw (e, d) (record { blocks = below-more m (w .blocks) p (l .blocks) h; code = l .code }))
     (λ d. rw (e, d) (record { blocks = l .blocks; code = below-more m (w .code) p (l .code) h })))
 
-low-from : (f : ℕ) (s : List ℕ) (p : ℕ) (w : Places) → LowPlaces (length s) w → LowListed (length s) (LowPlaces (length s)) (placesFrom f s p w)
+low-from : (f : ℕ) (s : List ℕ) (p : ℕ) (w : Places) → LowPlaces (length s) w → LowListed s (length s) (LowPlaces (length s)) (placesFrom f s p w)
 unfolding placesFrom
 low-from zero s p w l = l
 low-from (suc f) s p w l =
+    let b : ℕ = localsOf (bodyAt s 0) in
     decide (leb (length s) p)
     (λ e. rw e l)
     (λ e. let h : p < length s = leb-false _ _ e in
     rw e
-    (low-fine (length s) _ (faultAt s (localsOf (bodyAt s 0)) p) p _ (omega (arith, h))
-    (low-not (length s) _ (fullFor (kindAt s p) w) 6 p _ (omega (arith, h)) (λ _. low-from f s (nextAt s p) (putAt (kindAt s p) p w) (low-put (length s) (kindAt s p) p w l (omega (arith, h)))))))
+    (low-fine s (length s) _ (faultAt s b p) p _ (λ n x. (omega (arith, h), λ z. (h, early s b p (x ∙ ap some z))))
+    (low-not s (length s) _ (fullFor (kindAt s p) w) 6 p _ (λ z. omega arith) (omega (arith, h))
+    (λ _. low-from f s (nextAt s p) (putAt (kindAt s p) p w) (low-put (length s) (kindAt s p) p w l (omega (arith, h)))))))
 
-abbrev Any : Routine → Type 0
+abbrev pub Any : Routine → Type 0
 Any q = Unit {0}
 
-low-ruled : (m : ℕ) (w : Places) (q : Routine) → LowPlaces m w → LowListed m Any (ruled m w q)
-low-ruled m w q l =
+low-ruled : (s : List ℕ) (w : Places) (q : Routine) → LowPlaces (length s) w → LowListed s (length s) Any (ruled (length s) w q)
+low-ruled s w q l =
+    let five : _≢_ {A = ℕ} 5 1 = λ z. omega arith in
     let b : ℕ = firstOf (faultyBlock (length (q .code)) (q .blocks)) 0 (length (q .blocks)) in
     let r : ℕ = firstOf (strayRet (q .code) (q .blocks)) 0 (length (q .code)) in
     let last : Listed Routine = ifNot (ltb r (length (q .code))) 5 (getD (w .code) r 0) (read q) in
     let blocks : Listed Routine = ifNot (ltb b (length (q .blocks))) 5 (getD (w .blocks) b 0) last in
-    low-not m Any (empty (q .blocks)) 5 m blocks (omega arith) (λ _.
-    low-not m Any (ltb b (length (q .blocks))) 5 (getD (w .blocks) b 0) last (l .blocks b) (λ _.
-    low-not m Any (ltb r (length (q .code))) 5 (getD (w .code) r 0) (read q) (l .code r) (λ _. tt)))
+    low-not s (length s) Any (empty (q .blocks)) 5 (length s) blocks five (omega arith) (λ _.
+    low-not s (length s) Any (ltb b (length (q .blocks))) 5 (getD (w .blocks) b 0) last five (l .blocks b) (λ _.
+    low-not s (length s) Any (ltb r (length (q .code))) 5 (getD (w .code) r 0) (read q) five (l .code r) (λ _. tt)))
 
-low-after : (s : List ℕ) (x : Listed Places) → length s ≤ 65536 → LowListed (length s) (LowPlaces (length s)) x → LowListed 65536 Any (afterRecords s x)
-low-after s (read w) h l = raise (ruled (length s) w (routineAt s w)) (low-ruled (length s) w (routineAt s w) l)
+low-after : (s : List ℕ) (x : Listed Places) → length s ≤ 65536 → LowListed s (length s) (LowPlaces (length s)) x → LowListed s 65536 Any (afterRecords s x)
+low-after s (read w) h l = raise (ruled (length s) w (routineAt s w)) (low-ruled s w (routineAt s w) l)
   where
-    raise : (x : Listed Routine) → LowListed (length s) Any x → LowListed 65536 Any x
+    raise : (x : Listed Routine) → LowListed s (length s) Any x → LowListed s 65536 Any x
     raise (read q) k = tt
-    raise nothing k = tt
-    raise (S.refused n p) k = omega (arith, h, k)
-low-after s nothing h l = tt
-low-after s (S.refused n p) h l = omega (arith, h, l)
+    raise nothing k = k
+    raise (S.refused n p) k = (omega (arith, h, k .0), k .1)
+low-after s nothing h l = l
+low-after s (S.refused n p) h l = (omega (arith, h, l .0), l .1)
 
 none-low : (m : ℕ) → LowPlaces m noPlaces
 none-low m = record { blocks = λ i. none i; code = λ i. none i }
@@ -101,17 +129,17 @@ none-low m = record { blocks = λ i. none i; code = λ i. none i }
     none zero = omega arith
     none (suc i) = omega arith
 
-low-records : (s : List ℕ) → LowListed 65536 Any (afterRecords s (readPlaces s))
+low-records : (s : List ℕ) → LowListed s 65536 Any (afterRecords s (readPlaces s))
 unfolding readPlaces
 low-records s =
     decide (ltb 65536 (length s))
-    (λ e. rw e (omega arith))
+    (λ e. rw e (omega arith, λ z. absurd (omega arith)))
     (λ e. let h : length s ≤ 65536 = ltb-false _ _ e in
     rw e (low-after s (placesFrom (length s) s 0 noPlaces) h (low-from (length s) s 0 noPlaces (none-low (length s)))))
 
-pub low-reader : (s : List ℕ) → LowListed 65536 Any (readListing s)
-low-reader [] = subst (LowListed 65536 Any) (sym (no-bytes [] refl)) tt
-low-reader (x ∷ xs) = subst (LowListed 65536 Any) (sym (some-bytes (x ∷ xs) (λ z. omega arith))) (low-records (x ∷ xs))
+-- a listing with a byte
+pub low-bytes : (x : ℕ) (xs : List ℕ) → LowListed (x ∷ xs) 65536 Any (readListing (x ∷ xs))
+low-bytes x xs = subst (LowListed (x ∷ xs) 65536 Any) (sym (some-bytes (x ∷ xs) (λ z. omega arith))) (low-records (x ∷ xs))
 
 -- ---- a block
 
@@ -239,9 +267,13 @@ low-routine s q e =
     (mostVisits (length (q .blocks)) (q .locals)) _ tt)
 
 pub low-answer : (words : ℕ) (s : List ℕ) → Low (verify words s .verdict)
-low-answer words s = verify-either words s (λ a. Low (a .verdict)) (omega arith) (λ _. go (readListing s) refl (low-reader s))
+low-answer words s = verify-either words s (λ a. Low (a .verdict)) (omega arith) (λ _. bytes s)
   where
-    go : (x : Listed Routine) → readListing s ≡ x → LowListed 65536 Any x → Low (answerTo x .verdict)
-    go (read q) h l = low-routine s q h
-    go nothing h l = tt
-    go (S.refused n p) h l = l
+    go : (s : List ℕ) (x : Listed Routine) → readListing s ≡ x → LowListed s 65536 Any x → Low (answerTo x .verdict)
+    go s (read q) h l = low-routine s q h
+    go s nothing h l = absurd l
+    go s (S.refused n p) h l = l .0
+
+    bytes : (s : List ℕ) → Low (answerTo (readListing s) .verdict)
+    bytes [] = subst (λ (x : Listed Routine). Low (answerTo x .verdict)) (sym (no-bytes [] refl)) tt
+    bytes (x ∷ xs) = go (x ∷ xs) (readListing (x ∷ xs)) refl (low-bytes x xs)

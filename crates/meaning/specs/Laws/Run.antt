@@ -28,16 +28,17 @@ use Rattle.meaning.specs.Laws.Loop.{Bounds}
 use Rattle.meaning.specs.Laws.Loop as Laws
 use Rattle.meaning.specs.Laws.Verify.{verify-either}
 
--- ---- `ordinary` says what it is to say: a number other than 8, 9, 16 and 23
+-- ---- `ordinary` says what it is to say: a number other than 1, 8, 9, 16 and 23
 
-pub ordinary-not : (n : ℕ) → ordinary n ≡ true → (n ≢ 8) × (n ≢ 9) × (n ≢ 16) × (n ≢ 23)
-ordinary-not n h = (no 8 refl, no 9 refl, no 16 refl, no 23 refl)
+pub ordinary-not : (n : ℕ) → ordinary n ≡ true → (n ≢ 1) × (n ≢ 8) × (n ≢ 9) × (n ≢ 16) × (n ≢ 23)
+ordinary-not n h = (no 1 refl, no 8 refl, no 9 refl, no 16 refl, no 23 refl)
   where
     no : (k : ℕ) → ordinary k ≡ false → n ≢ k
     no k f e = both (subst (λ (m : ℕ). ordinary m ≡ true) e h) f
 
-pub not-ordinary : (n : ℕ) → n ≢ 8 → n ≢ 9 → n ≢ 16 → n ≢ 23 → ordinary n ≡ true
-not-ordinary n a b c d = and-i (not-false (eqb-no a)) (and-i (not-false (eqb-no b)) (and-i (not-false (eqb-no c)) (not-false (eqb-no d))))
+pub not-ordinary : (n : ℕ) → n ≢ 1 → n ≢ 8 → n ≢ 9 → n ≢ 16 → n ≢ 23 → ordinary n ≡ true
+not-ordinary n o a b c d =
+    and-i (not-false (eqb-no o)) (and-i (not-false (eqb-no a)) (and-i (not-false (eqb-no b)) (and-i (not-false (eqb-no c)) (not-false (eqb-no d)))))
 
 -- ---- the run of a routine
 
@@ -179,7 +180,7 @@ module _ (q : Routine) (p : promised q ≡ true) where
       go (c ∷ cs) zero = tt
       go (c ∷ cs) (suc i) = go cs i
 
-  -- A run that a refusal ended: not 8, 9, 16 or 23.
+  -- A run that a refusal ended: not 1, 8, 9, 16 or 23.
   pub refusals : (f : ℕ) → NextOk (runWith q f .next)
   unfolding run
   refusals f = steps-ok f (record { slots = startSlots State join joinBlurs changed (exec q) blocks blocks (firstState l ts); next = at 0; trail = []; blurs = 0 }) (first-ok blocks, tt) .1
@@ -200,7 +201,7 @@ module _ (s : List ℕ) (q : Routine) (e : readListing s ≡ read q) where
       zero-le
       (λ _. rw e (visits-bound q (accepted-promised s q e) (mostVisits (length (q .blocks)) (q .locals))))
 
-  pub answer-refusals : (words n p : ℕ) → verify words s .verdict ≡ refusal n p → (n ≢ 8) × (n ≢ 9) × (n ≢ 16) × (n ≢ 23)
+  pub answer-refusals : (words n p : ℕ) → verify words s .verdict ≡ refusal n p → (n ≢ 1) × (n ≢ 8) × (n ≢ 9) × (n ≢ 16) × (n ≢ 23)
   unfolding verdict runOf
   answer-refusals words n p h =
       ordinary-not n (verify-either words s (λ a. a .verdict ≡ refusal n p → ordinary n ≡ true)
