@@ -13,8 +13,8 @@
 extern "C" {
 #endif
 
-#define BUSLATIM_VERSION "5.0.0"
-#define BUSLATIM_VERSION_MAJOR 5
+#define BUSLATIM_VERSION "6.0.0"
+#define BUSLATIM_VERSION_MAJOR 6
 #define BUSLATIM_VERSION_MINOR 0
 #define BUSLATIM_VERSION_PATCH 0
 
@@ -68,6 +68,7 @@ enum {
     BUSLATIM_REFUSED_FUNCTION = 4,     /* the first record is not the function's, or a later one is */
     BUSLATIM_REFUSED_BLOCKS = 5,       /* the blocks, or where a Ret stands; with no block answer[2] is the listing's length */
     BUSLATIM_REFUSED_TOO_LARGE = 6,    /* too long or too many; answer[2] is 65,536 for the length */
+    BUSLATIM_REFUSED_LATE_BLOCK = 33,  /* a block's record stands after an instruction */
     /* the caller; answer[2] is 0 */
     BUSLATIM_REFUSED_AREA = 7, /* the area has fewer than BUSLATIM_AREA_WORDS words */
     /* the routine; answer[2] is the instruction's offset, for 14 and 15 the exit of the block just run */
@@ -89,7 +90,7 @@ enum {
  * answer[0]: BUSLATIM_ACCEPT, BUSLATIM_VIOLATION, BUSLATIM_REFUSED or BUSLATIM_EMPTY
  * answer[1]: the violation's code or the refusal's number; else 0
  * answer[2]: the instruction's offset or the refusal's place; else 0
- * answer[3]: how often a block was run; 0 for refusals 1 to 7 and for an empty cell
+ * answer[3]: how often a block was run; 0 for refusals 1 to 7 and 33 and for an empty cell
  * answer[4], answer[5]: how many sets of edges were blurred in the run, as 2^32 * answer[5] + answer[4]; 0 where no block was run
  * answer[6]: for a violation the offset of the instruction that borrowed what it fails on; else 0
  *
@@ -112,9 +113,9 @@ bool reference_safety_verify(const uint8_t *listing, size_t listing_len, uint32_
                              size_t answer_len);
 
 /*
- * The same answer, but the area is not zeroed. Refusals 1 to 7 leave it as it was. An empty cell has no kept state: the first of each 1,024
- * words is zero then, and the others are as they were. After any other answer, refusals 10 to 22 among them, the block listed at position b
- * has its kept state, as the run left it, in the 1,024 words from 1,024 * b on (docs/ARCHITECTURE.md has their layout; the first of them tells
+ * The same answer, but the area is not zeroed. Refusals 1 to 7 and 33 leave it as it was. An empty cell has no kept state: the first of each
+ * 1,024 words is zero then, and the others are as they were. After any other answer, refusals 10 to 22 among them, the block listed at position
+ * b has its kept state, as the run left it, in the 1,024 words from 1,024 * b on (docs/ARCHITECTURE.md has their layout; the first of them tells
  * whether there is one). Words that no kept state takes are free.
  */
 bool reference_safety_analyze(const uint8_t *listing, size_t listing_len, uint32_t *area, size_t area_len, uint32_t *answer,

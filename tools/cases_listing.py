@@ -76,6 +76,8 @@ def read(s):
             return 2, at
         if (kind == 1) != (at == 0):
             return 4, at
+        if kind == 2 and code:
+            return 33, at
         fault = body_fault(SHAPES[kind], b, locals_)
         if fault:
             return fault, at
@@ -157,6 +159,19 @@ def cases():
     yield B0, (4, 0)
     yield head() + head(), (4, 7)
     yield OK + rec(1), (4, len(OK))
+    # 33: a block after an instruction, of each kind; after 1, 2 and 4, before 3 and 6
+    yield OK + B0, (33, len(OK))
+    yield head() + POP + B0, (33, 11)
+    for kind in sorted(plain):
+        one = rec(kind, *plain[kind])
+        yield head() + one + B0, (33, 7 + len(one))
+        yield head() + B0 + block(1, 1) + POP + one + B0 + POP, (33, 29 + len(one))
+    yield head() + call(1, 1, 1) + B0, (33, 7 + len(call(1, 1, 1)))
+    yield OK + B0[:8], (1, len(OK))
+    yield OK + rec(258), (2, len(OK))
+    yield OK + head() + B0, (4, len(OK))
+    for body in ((), (0, 0, 0, 0), (0, 0, 0, 0, 0, 0), (0, 0, 0, 0, 3, 0, 0, 0, 0, 0, 0), (0, 0, 0, 0, 255)):
+        yield OK + rec(2, *body), (33, len(OK))
     # 3: body length of each kind, one short and one long
     for kind in sorted(plain):
         yield head() + rec(kind, *plain[kind], 0), (3, 7)
@@ -212,14 +227,16 @@ def cases():
     yield head() + B0 + POP * 512 + rec(13, 1), (3, 16 + 4 * 512)
     sixteen = head() + b"".join(block(k, k) for k in range(16))
     yield sixteen + POP * 16, (0, 16)
-    yield sixteen + POP * 16 + block(16, 16) + POP, (6, 7 + 9 * 16 + 64)
+    yield sixteen + block(16, 16) + POP * 17, (6, 7 + 9 * 16)
+    yield sixteen + POP * 16 + block(16, 16) + POP, (33, 7 + 9 * 16 + 64)
     yield sixteen + block(0, 0), (6, 7 + 9 * 16)
+    yield head() + B0 + POP * 512 + B0, (33, 16 + 4 * 512)
     # 5: no block; each rule on blocks, at the first block and at a later one
     yield head(), (5, 7)
     yield head() + POP * 3, (5, 19)
     yield head() + B0, (5, 7)
     yield head() + block(1, 1) + POP * 2, (5, 7)
-    yield head() + POP + block(0, 1), (5, 11)
+    yield head() + block(0, 1) + POP, (5, 7)
     yield head() + block(0, 65535) + POP, (5, 7)
     yield head() + B0 + block(2, 1) + POP * 3, (5, 16)
     yield head() + B0 + block(1, 2) + POP * 2, (5, 16)
@@ -249,7 +266,7 @@ def cases():
     yield head() + block(5, 1) + rec(99) + POP[:2], (2, 16)
     yield head() + block(5, 1) + POP[:2], (1, 16)
     yield head() + rec(1, 9), (4, 7)
-    yield head() + block(0, 1) + RET + block(2, 1) + POP, (5, 7 + 9 + 4)
+    yield head() + block(0, 1) + block(2, 1) + RET + POP, (5, 16)
     # each instruction, in one block
     yield head() + block(0, len(plain)) + b"".join(rec(k, *plain[k]) for k in sorted(plain) if k != 23) + call(1, 2, 1, 1) + RET, (0, len(plain) + 1)
     # the marked listing
@@ -260,7 +277,7 @@ def agreed():
     for n, (s, answer) in enumerate(cases()):
         if read(s) != answer:
             sys.exit(f"case {n}: {s[:40].hex()} ({len(s)} bytes): stated {answer}, read {read(s)}")
-        yield s, "{} {:05}".format(*answer) if answer else "EMPTY"
+        yield s, "{:02} {:05}".format(*answer) if answer else "EMPTY"
 
 
 if sys.argv[1:]:

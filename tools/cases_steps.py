@@ -11,9 +11,10 @@ from records import (EQ, FREEZE, LOAD, MOVE_TO, MUT, POP, READ, REF, RET, VALUE,
 
 def routine(params, locals_, returns, code, successor=False):
     n = len(code)
-    first = block(0, n - 1, *([n] if successor else []))
-    second = block(n, n) + RET if successor else b""
-    return function(params, locals_, returns) + first + b"".join(code) + second
+    blocks, code = block(0, n - 1), b"".join(code)
+    if successor:
+        blocks, code = block(0, n - 1, n) + block(n, n), code + RET
+    return function(params, locals_, returns) + blocks + code
 
 
 def cases():

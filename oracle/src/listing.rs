@@ -1,5 +1,5 @@
-//! Listings of document 01: the routine they hold, word that there is none (request A3), or the exporter's refusal (1 to 6)
-//! and its place.
+//! Listings of document 01: the routine they hold, word that there is none (request A3), or the exporter's refusal (1 to 6,
+//! and 33 by request A5) and its place.
 
 #[derive(Clone, Debug, Eq, PartialEq)]
 pub enum Instruction {
@@ -195,6 +195,9 @@ impl Reading {
         if (kind == 1) != (start == 0) {
             return Err(4);
         }
+        if kind == 2 && !self.routine.code.is_empty() {
+            return Err(33);
+        }
         let mut body = Body(body);
         let record = body.record(kind, self.routine.locals).filter(|_| body.0.is_empty()).ok_or(3u32)?;
         if self.add(record, start) {
@@ -269,7 +272,7 @@ fn record(kind: u16, body: &[u8], out: &mut Vec<u8>) {
     out.extend(body);
 }
 
-pub fn write_function(routine: &Routine, out: &mut Vec<u8>) {
+fn write_function(routine: &Routine, out: &mut Vec<u8>) {
     let mut body = vec![routine.parameters.len() as u8, routine.locals];
     body.extend(&routine.parameters);
     body.push(routine.returns.len() as u8);
@@ -277,7 +280,7 @@ pub fn write_function(routine: &Routine, out: &mut Vec<u8>) {
     record(1, &body, out)
 }
 
-pub fn write_block(block: &Block, out: &mut Vec<u8>) {
+fn write_block(block: &Block, out: &mut Vec<u8>) {
     let mut body = vec![];
     body.extend(block.entry.to_le_bytes());
     body.extend(block.exit.to_le_bytes());
@@ -324,7 +327,7 @@ pub fn write_instruction(instruction: &Instruction, out: &mut Vec<u8>) {
     record(kind, &body, out)
 }
 
-/// The listing with its blocks before its instructions.
+/// The listing: its blocks stand before its instructions.
 pub fn write(routine: &Routine) -> Vec<u8> {
     let mut out = vec![];
     write_function(routine, &mut out);

@@ -43,7 +43,7 @@ const LONGEST_BLURRING: usize = 700;
 /// with and without crossings; more where nothing of that varies.
 fn of_each(answer: &Answer) -> u32 {
     match answer {
-        Answer { kind: 2, number: 1..=6, .. } => 30,
+        Answer { kind: 2, number: 1..=6 | 33, .. } => 30,
         // there is one such listing, and it is a case worked out by hand
         Answer { kind: 3, .. } => 0,
         _ => 5,

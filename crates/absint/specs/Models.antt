@@ -169,7 +169,7 @@ module _ (s cs : List ℕ) (d : D.Routine) where
 
 -- What `analyze` leaves in the area. Where the listing is read: at every position the kept state of the definition's run, so none past the
 -- last block. Words that `keptOf` does not read are free, and later ones as they were. An empty cell leaves no block with a kept state, and all words
--- but the sixteen that tell so as they were; refusals 1 to 7 the whole area.
+-- but the sixteen that tell so as they were; refusals 1 to 7 and 33 the whole area.
 pub record Left (s : List ℕ) (ws ws′ : List ℕ) : Type 0 where
   pub kept : areaWords ≤ length ws → (q : Routine) → readListing s ≡ read q → (j : ℕ) → keptOf (q .locals) ws′ j ≡ keptBy (read q) j
   pub bare : readListing s ≡ nothing → ws′ ≡ forgotten ws

@@ -36,6 +36,7 @@ fn digit(n: usize) -> u8 {
 
 fn write_line(number: u8, place: usize) -> bool {
     let line = [
+        digit(number as usize / 10),
         digit(number as usize),
         b' ',
         digit(place / 10000),

@@ -1,9 +1,8 @@
 -- Laws of the whole listing: the rules of number 5 over the places that were read, and what is known of those places.
 -- Assumes nothing.
 use mathlib.Core.Path.{_≡_, refl, sym, ap, _∙_}
-use mathlib.Core.Bool.{Bool, true, not, _&&_}
+use mathlib.Core.Bool.{Bool, true}
 use mathlib.Core.List.{List, [], _∷_, map}
-use mathlib.Core.Option.{none}
 use Prim.Native.Nat.{ℕ, zero, suc, _+_, _*_, _≤_, _<_}
 use native.Mathlib.Omega.{arith}
 use lib.ListN.{length, take, getD}
@@ -17,7 +16,7 @@ use Rattle.meaning.specs.Loop as M
 use Rattle.meaning.specs.Steps as I
 use Rattle.meaning.specs.Blocks as Q
 use Rattle.meaning.specs.Listing as D
-use Rattle.meaning.specs.Laws.Listing.{fine, fine-none, passed, two-successors, call-limits, frame-limits, okBlock, okCode, Good, places-good, none-good, first-passed, first-kind, read-places}
+use Rattle.meaning.specs.Laws.Listing.{ok-block, ok-code, two-successors, call-limits, frame-limits, okBlock, okCode, Good, places-good, first-passed, first-kind, read-places}
 use Rattle.listing_records.specs.declared.Places.{Places}
 use Rattle.listing.specs.Models.{callFor, decodedAt, twoAt, Sound, ruledPlaces, bytesAt}
 use Rattle.listing_records.specs.Models.{placesIn, placesOf, ReadInto}
@@ -96,20 +95,15 @@ call-same b h k = rw (le-leb h, le-leb k)
 decoded-same : (s : List ℕ) (p : ℕ) → okCode s p ≡ true → decodedAt s p ≡ D.instrAt s p
 unfolding decodedAt D.instrAt D.instrOf D.instrIn
 decoded-same s p e =
-    let f : D.faultAt s (D.localsOf (D.bodyAt s 0)) p ≡ none = fine-none _ (and-l (fine (D.faultAt s (D.localsOf (D.bodyAt s 0)) p)) (not (eqb (D.kindAt s p) 1) && not (eqb (D.kindAt s p) 2)) e) in
     decide (eqb (D.kindAt s p) 22)
     (λ q. let k : D.kindAt s p ≡ 22 = eqb-eq q in
-    let c = call-limits s (D.localsOf (D.bodyAt s 0)) p (passed s (D.localsOf (D.bodyAt s 0)) p f) k in
+    let c = call-limits s (D.localsOf (D.bodyAt s 0)) p (ok-code s p e .0) k in
     let g : callFor (D.bodyAt s p) ≡ D.callOf (D.bodyAt s p) = call-same (D.bodyAt s p) (c .0) (c .1) in
     rw (k, g))
     (λ q. rw q)
 
 two-of : (s : List ℕ) (p : ℕ) → okBlock s p ≡ true → twoAt s p ≡ true
-two-of s p e =
-    let a : Bool = fine (D.faultAt s (D.localsOf (D.bodyAt s 0)) p) in
-    let b : Bool = eqb (D.kindAt s p) 2 in
-    let f : D.faultAt s (D.localsOf (D.bodyAt s 0)) p ≡ none = fine-none _ (and-l a b e) in
-    le-leb (two-successors s (D.localsOf (D.bodyAt s 0)) p (passed s (D.localsOf (D.bodyAt s 0)) p f) (eqb-eq (and-r a b e)))
+two-of s p e = let f = ok-block s p e in le-leb (two-successors s (D.localsOf (D.bodyAt s 0)) p (f .0) (f .1))
 
 module _ (s ps cs : List ℕ) (w : Places) (number : w .number ≡ 0) (told : ReadInto (D.readPlaces s) s ps cs w) where
   pub were-read : D.readPlaces s ≡ D.Listed.read (placesIn ps cs w)
@@ -118,7 +112,7 @@ module _ (s ps cs : List ℕ) (w : Places) (number : w .number ≡ 0) (told : Re
   pub sound : 0 < length s → (head : List ℕ) → head ≡ D.bodyAt s 0 → Sound s head w ps cs
   sound some head h =
       let r = read-places s (placesIn ps cs w) were-read in
-      let g : Good s (placesIn ps cs w) = places-good (length s) s 0 D.noPlaces (placesIn ps cs w) (none-good s) r in
+      let g : Good s (placesIn ps cs w) = places-good s (placesIn ps cs w) r in
       let l : ℕ = D.localsOf (D.bodyAt s 0) in
       let p = first-passed s (placesIn ps cs w) some r in
       let f = frame-limits s l 0 p (first-kind s l p) in

@@ -1,4 +1,4 @@
-// The listing of one routine (document 01): its bytes are read into a routine, are none, or are refused by a number of 1 to 6 with a place.
+// The listing of one routine (document 01): its bytes are read into a routine, are none, or are refused by a number of 1 to 6 or by 33 with a place.
 pub mod decode;
 mod rules;
 

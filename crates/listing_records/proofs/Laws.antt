@@ -5,13 +5,14 @@ use mathlib.Core.Bool.{Bool, true, false, not, _&&_, _||_, cond, and-assoc, and-
 use mathlib.Core.List.{List, [], _∷_}
 use mathlib.Core.Option.{Option, none, some}
 use Prim.Native.Nat.{ℕ, zero, suc, _+_, _*_, _-_, _/_, _%_, _≤_, _<_}
+use native.Mathlib.Nat.{not-suc-le-zero}
 use native.Mathlib.Numerals.{add-one}
 use native.Mathlib.Omega.{arith}
 use lib.ListN.{length, take, drop, getD, set, length-drop, List·getD-eq-default}
 use lib.Seq.{drop-drop, take-suc-set, take-all, length-take-le}
 use lib.Dec.{leb, ltb, eqb}
 use borrow.Author.Tests.{lt-leb, lt-ltb, le-ltb, eq-eqb, ne-eqb, ltb-true, ltb-false, not-false}
-use Rattle.meaning.specs.Lists.{all}
+use Rattle.meaning.specs.Lists.{all, empty}
 use Rattle.meaning.specs.Laws.Base.{decide, leb-le, leb-gt, le-leb, and-i, and-l, and-r, not-true}
 use Rattle.meaning.specs.Listing as D
 use Rattle.meaning.specs.Laws.Listing.{places-step}
@@ -20,7 +21,7 @@ use Rattle.listing_records.specs.declared.Found.{Found}
 use Rattle.listing_records.specs.declared.Found.the-variants.{Record, Short, End}
 use Rattle.listing_records.specs.declared.Test.{Test}
 use Rattle.listing_records.specs.declared.Places.{Places}
-use Rattle.listing_records.specs.Models.{fieldList, fieldOf, packed, limitOf, faultOf, Head, foundOf, foundAt, bodyFault, Tested, fullOf, beforeRet, placesOf, ReadInto}
+use Rattle.listing_records.specs.Models.{fieldList, fieldOf, packed, limitOf, faultOf, Head, foundOf, foundAt, bodyFault, Tested, placeFault, fullOf, beforeRet, placesOf, ReadInto}
 use Rattle.listing_records.proofs.Lists.{or-none, leb-iff}
 
 -- ---- fields
@@ -202,8 +203,17 @@ unused-kind k a b far = unused k D.shapes tests
 
 -- ---- the tests of a record
 
-absent : {n : ℕ} {A : Type 0} → suc n ≡ 0 → A
-absent e = absurd (omega arith)
+-- where a record stands: a number ends the tests, and else those of the body follow
+place-stops : (a b : Bool) (k : Option ℕ) (n : ℕ) → faultOf n ≡ D.unless a 4 (D.unless b 33 none) → (n ≡ 0 → ⊥) → D.unless a 4 (D.unless b 33 k) ≡ faultOf n
+place-stops true true k zero e z = absurd (z refl)
+place-stops true true k (suc n) e z = let y : _≡_ {A = ℕ} 0 1 = cc in absurd (omega arith)
+place-stops true false k n e z = sym e
+place-stops false b k n e z = sym e
+
+place-goes : (a b : Bool) (k : Option ℕ) → none ≡ D.unless a 4 (D.unless b 33 none) → D.unless a 4 (D.unless b 33 k) ≡ k
+place-goes true true k e = refl
+place-goes true false k e = let y : _≡_ {A = ℕ} 0 1 = cc in absurd (omega arith)
+place-goes false b k e = let y : _≡_ {A = ℕ} 0 1 = cc in absurd (omega arith)
 
 -- what was found, known by its constructor
 module _ (s : List ℕ) (at : ℕ) (f : Found) (told : foundOf at f ≡ foundAt s at) where
@@ -240,43 +250,36 @@ module _ (s : List ℕ) (at : ℕ) (f : Found) (told : foundOf at f ≡ foundAt 
       go false h false q = let z : _≡_ {A = ℕ} 0 1 = cc in absurd (omega arith)
 
 module _ (s : List ℕ) (at : ℕ) where
-  module _ (l : ℕ) where
-    pub refused-test : (r : Test) (n : ℕ) → r .number ≡ suc n → D.faultAt s l at ≡ some (suc n) → Tested s l at r
-    refused-test r n e f = record {
+  module _ (l : ℕ) (coded : Bool) where
+    pub refused-test : (r : Test) (n : ℕ) → r .number ≡ n → (n ≡ 0 → ⊥) → D.faultAt s l coded at ≡ faultOf n → Tested s l coded at r
+    refused-test r n e z f = record {
       number = ap faultOf e ∙ sym f;
-      kind = λ h. absent (sym e ∙ h);
-      next = λ h. absent (sym e ∙ h);
-      inside = λ h. absent (sym e ∙ h);
+      kind = λ h. absurd (z (sym e ∙ h));
+      next = λ h. absurd (z (sym e ∙ h));
+      inside = λ h. absurd (z (sym e ∙ h));
     }
 
-    pub fault-1 : D.wholeAt s at ≡ false → D.faultAt s l at ≡ some 1
+    pub fault-1 : D.wholeAt s at ≡ false → D.faultAt s l coded at ≡ some 1
     unfolding D.faultAt
     fault-1 w = rw w
 
-    pub fault-2 : D.wholeAt s at ≡ true → D.kindInUse (D.kindAt s at) ≡ false → D.faultAt s l at ≡ some 2
+    pub fault-2 : D.wholeAt s at ≡ true → D.kindInUse (D.kindAt s at) ≡ false → D.faultAt s l coded at ≡ some 2
     unfolding D.faultAt
     fault-2 w k = rw (w, k)
 
-    pub fault-4 : D.wholeAt s at ≡ true → D.kindInUse (D.kindAt s at) ≡ true → Bool·beq (eqb (D.kindAt s at) 1) (eqb at 0) ≡ false → D.faultAt s l at ≡ some 4
-    unfolding D.faultAt
-    fault-4 w k b = rw (w, k, b)
+    module _ (whole : D.wholeAt s at ≡ true) (used : D.kindInUse (D.kindAt s at) ≡ true) where
+      pub fault-place : (n : ℕ) → faultOf n ≡ placeFault (D.kindAt s at) at coded → (n ≡ 0 → ⊥) → D.faultAt s l coded at ≡ faultOf n
+      unfolding D.faultAt placeFault
+      fault-place n e z = rw (whole, used) (place-stops (Bool·beq (eqb (D.kindAt s at) 1) (eqb at 0)) (not (coded && eqb (D.kindAt s at) 2)) _ n e z)
 
-    pub fault-body : D.wholeAt s at ≡ true → D.kindInUse (D.kindAt s at) ≡ true → Bool·beq (eqb (D.kindAt s at) 1) (eqb at 0) ≡ true
-        → D.faultAt s l at ≡ bodyFault l (D.fieldsOf (D.kindAt s at)) (D.bodyAt s at)
-    unfolding D.faultAt bodyFault
-    fault-body w k b = rw (w, k, b)
+      pub fault-body : faultOf 0 ≡ placeFault (D.kindAt s at) at coded
+          → D.faultAt s l coded at ≡ bodyFault l (D.fieldsOf (D.kindAt s at)) (D.bodyAt s at)
+      unfolding D.faultAt placeFault bodyFault
+      fault-body e = rw (whole, used) (place-goes (Bool·beq (eqb (D.kindAt s at) 1) (eqb at 0)) (not (coded && eqb (D.kindAt s at) 2)) _ e)
 
   pub inside : D.wholeAt s at ≡ true → D.nextAt s at ≤ length s
   unfolding D.wholeAt
   inside w = leb-le w
-
-pub beq-first : (a : Bool) → Bool·beq a true ≡ a
-beq-first true = refl
-beq-first false = refl
-
-pub beq-later : (a : Bool) → not (Bool·beq a false) ≡ a
-beq-later true = refl
-beq-later false = refl
 
 pub tail-part : (b : List ℕ) (i : ℕ) → take (length b - i) (drop i b) ≡ drop i b
 tail-part b i = let d : length (drop i b) ≡ length b - i = length-drop i b in take-all (length b - i) (drop i b) (omega arith)
@@ -315,25 +318,31 @@ module _ (k nb nc : ℕ) (room : fullOf k nb nc ≡ false) where
   pub room-code : (k ≡ 1 → ⊥) → (k ≡ 2 → ⊥) → nc < 512
   room-code f g = leb-gt (rw (ne-eqb k 1 f, ne-eqb k 2 g) at room)
 
+-- the code counts the instructions that it found
+pub some-code : (cs : List ℕ) (n : ℕ) → n ≤ length cs → not (eqb n 0) ≡ not (empty (take n cs))
+some-code cs zero h = refl
+some-code [] (suc n) h = absurd (not-suc-le-zero h)
+some-code (c ∷ cs) (suc n) h = ap not (ne-eqb (suc n) 0 (λ z. omega arith))
+
 module _ (s bs cs : List ℕ) (nb nc at l : ℕ) (r : D.Listed D.Places) (here : at < length s) (locals : l ≡ D.localsOf (D.bodyAt s 0))
-    (inv : D.placesFrom (length s) s at (record { blocks = take nb bs; code = take nc cs }) ≡ r) where
+    (counted : nc ≤ length cs) (inv : D.placesFrom (length s) s at (record { blocks = take nb bs; code = take nc cs }) ≡ r) where
   abbrev now : D.Places
   now = record { blocks = take nb bs; code = take nc cs }
 
-  opened : D.ifFine (D.faultAt s l at) at (D.ifNot (D.fullFor (D.kindAt s at) now) 6 at (D.placesFrom (length s) s (D.nextAt s at) (D.putAt (D.kindAt s at) at now))) ≡ r
-  opened = rw locals (sym (places-step s at now here) ∙ inv)
+  opened : D.ifFine (D.faultAt s l (not (eqb nc 0)) at) at (D.ifNot (D.fullFor (D.kindAt s at) now) 6 at (D.placesFrom (length s) s (D.nextAt s at) (D.putAt (D.kindAt s at) at now))) ≡ r
+  opened = rw (locals, some-code cs nc counted) (sym (places-step s at now here) ∙ inv)
 
-  pub stop-fault : (n : ℕ) → faultOf n ≡ D.faultAt s l at → (n ≡ 0 → ⊥) → D.Listed.refused n at ≡ r
+  pub stop-fault : (n : ℕ) → faultOf n ≡ D.faultAt s l (not (eqb nc 0)) at → (n ≡ 0 → ⊥) → D.Listed.refused n at ≡ r
   stop-fault n e h = sym (fine-not n at (D.ifNot (D.fullFor (D.kindAt s at) now) 6 at (D.placesFrom (length s) s (D.nextAt s at) (D.putAt (D.kindAt s at) at now))) h) ∙ (rw (← e) at opened)
 
-  module _ (fine : D.faultAt s l at ≡ none) where
+  module _ (fine : D.faultAt s l (not (eqb nc 0)) at ≡ none) where
     open-fine : D.ifNot (D.fullFor (D.kindAt s at) now) 6 at (D.placesFrom (length s) s (D.nextAt s at) (D.putAt (D.kindAt s at) at now)) ≡ r
     open-fine = rw fine at opened
 
-    pub stop-full : nb ≤ length bs → nc ≤ length cs → fullOf (D.kindAt s at) nb nc ≡ true → D.Listed.refused 6 at ≡ r
-    stop-full f g h =
+    pub stop-full : nb ≤ length bs → fullOf (D.kindAt s at) nb nc ≡ true → D.Listed.refused 6 at ≡ r
+    stop-full f h =
         let c : length (take nb bs) ≡ nb = length-take-le nb bs f in
-        let d : length (take nc cs) ≡ nc = length-take-le nc cs g in
+        let d : length (take nc cs) ≡ nc = length-take-le nc cs counted in
         rw (c, d, h) at open-fine
 
     pub go-block : D.kindAt s at ≡ 2 → nb < 16 → nb < length bs
@@ -347,8 +356,7 @@ module _ (s bs cs : List ℕ) (nb nc at l : ℕ) (r : D.Listed D.Places) (here :
     pub go-code : (D.kindAt s at ≡ 1 → ⊥) → (D.kindAt s at ≡ 2 → ⊥) → nc < 512 → nc < length cs
         → D.placesFrom (length s) s (D.nextAt s at) (record { blocks = take nb bs; code = take (nc + 1) (set cs nc at) }) ≡ r
     go-code k j h f =
-        let i : nc ≤ length cs = omega arith in
-        let c : length (take nc cs) ≡ nc = length-take-le nc cs i in
+        let c : length (take nc cs) ≡ nc = length-take-le nc cs counted in
         let g : leb 512 (length (take nc cs)) ≡ false = rw c (lt-leb 512 nc h) in
         rw (add-one, take-suc-set cs nc at f) (rw (ne-eqb (D.kindAt s at) 1 k, ne-eqb (D.kindAt s at) 2 j, g) at open-fine)
 

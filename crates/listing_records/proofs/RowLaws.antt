@@ -1,7 +1,7 @@
 -- Laws of the rows of limits: a record that keeps to the row of its kind has no fault. The rule of the whole table is one computed test.
 -- Assumes nothing.
 use mathlib.Core.Path.{_≡_, refl, sym, ap, _∙_}
-use mathlib.Core.Bool.{Bool, true, false, _&&_, false≢true, Bool·beq}
+use mathlib.Core.Bool.{Bool, true, false, _&&_, false≢true, and-false}
 use mathlib.Core.List.{List, [], _∷_}
 use mathlib.Core.Option.{none}
 use Prim.Native.Nat.{ℕ, zero, suc, _+_, _-_, _≤_, _<_, min}
@@ -14,7 +14,7 @@ use borrow.Author.Tests.{ltb-true, ne-eqb}
 use Rattle.meaning.specs.Lists.{all, upTo}
 use Rattle.meaning.specs.Laws.Base.{and-l, and-r, and-i, le-leb, leb-le, eqb-eq}
 use Rattle.meaning.specs.Listing as D
-use Rattle.listing_records.specs.Models.{bodyLimits, padded, limitRow, limitRows, keepsTo, bodyFault}
+use Rattle.listing_records.specs.Models.{bodyLimits, padded, limitRow, limitRows, keepsTo, placeFault, bodyFault}
 use Rattle.listing_records.proofs.Laws.{fault-body, inside}
 
 -- each byte is below its limit, and there are as many bytes as limits
@@ -175,11 +175,12 @@ module _ (s : List ℕ) (l at k : ℕ) (here : at + 9 ≤ length s) (small : k <
   unfolding D.bodyAt
   fit = rw (whole, parts .0, ← take-take (length limits) 5 (drop (at + 4) s) short) (padded-below 5 limits (take 5 (drop (at + 4) s)) short bytes)
 
-  pub keeps-fine : (at ≡ 0 → ⊥) → D.faultAt s l at ≡ none
-  unfolding bodyFault
-  keeps-fine z =
+  pub keeps-fine : (coded : Bool) → (at ≡ 0 → ⊥) → D.faultAt s l coded at ≡ none
+  unfolding bodyFault placeFault
+  keeps-fine coded z =
       let f = fits l (D.fieldsOf (10 + k)) (D.bodyAt s at) fit in
       let u : D.kindInUse (D.kindAt s at) ≡ true = rw kind (and-l (D.kindInUse (10 + k)) (leb (length limits) 5) right) in
       let o : eqb (D.kindAt s at) 1 ≡ false = ne-eqb (D.kindAt s at) 1 (λ e. omega arith) in
-      let b : Bool·beq (eqb (D.kindAt s at) 1) (eqb at 0) ≡ true = rw (o, ne-eqb at 0 z) in
-      fault-body s at l whole u b ∙ rw (kind, f .0, f .1)
+      let n : eqb (D.kindAt s at) 2 ≡ false = ne-eqb (D.kindAt s at) 2 (λ e. omega arith) in
+      let b : none ≡ placeFault (D.kindAt s at) at coded = rw (o, ne-eqb at 0 z, n, and-false) in
+      fault-body s at l coded whole u b ∙ rw (kind, f .0, f .1)

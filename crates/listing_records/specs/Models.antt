@@ -1,7 +1,7 @@
 -- What the structs of the code mean in the definitions.
 use Prim.Native.Nat.{ℕ, zero, suc, _+_, _/_, _%_, _≤_, _<_, min}
 use mathlib.Core.Path.{_≡_}
-use mathlib.Core.Bool.{Bool, true, false, cond, not, _&&_}
+use mathlib.Core.Bool.{Bool, true, false, cond, not, _&&_, Bool·beq}
 use mathlib.Core.List.{List, [], _∷_, _++_}
 use mathlib.Core.Option.{Option, none, some}
 use lib.ListN.{length, getD, take}
@@ -131,12 +131,16 @@ foundAt s at =
     (D.ifNot (not (D.wholeAt s at)) 1 at
     (D.Listed.read (some (record { kind = D.kindAt s at; next = D.nextAt s at }))))
 
+-- the tests of where a record of a kind stands: 4, 33, or none of them
+unfoldable pub placeFault : ℕ → ℕ → Bool → Option ℕ
+placeFault k at coded = D.unless (Bool·beq (eqb k 1) (eqb at 0)) 4 (D.unless (not (coded && eqb k 2)) 33 none)
+
 -- the tests of a body: 3, 6, or none of them
 unfoldable pub bodyFault : ℕ → List D.Field → List ℕ → Option ℕ
 bodyFault l fs b = D.unless (D.fitsBody l fs b) 3 (D.unless (D.withinLimits fs b) 6 none)
 
-pub record Tested (s : List ℕ) (l at : ℕ) (r : Test) : Type 0 where
-  pub number : faultOf (r .number) ≡ D.faultAt s l at
+pub record Tested (s : List ℕ) (l : ℕ) (coded : Bool) (at : ℕ) (r : Test) : Type 0 where
+  pub number : faultOf (r .number) ≡ D.faultAt s l coded at
   pub kind : r .number ≡ 0 → r .kind ≡ D.kindAt s at
   pub next : r .number ≡ 0 → r .next ≡ D.nextAt s at
   pub inside : r .number ≡ 0 → r .next ≤ length s

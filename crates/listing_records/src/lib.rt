@@ -1,4 +1,4 @@
-// The records of a listing (document 01): a cursor over the lent bytes, a record's body, the tests of a record, and where all of them start.
+// The records of a listing (document 01, request A5): a cursor over the lent bytes, a record's body, its tests, and where all records start.
 pub mod shapes;
 
 use meaning::MAX_ACQUIRED;
@@ -20,14 +20,13 @@ use shapes::TOKEN;
 use shapes::WORD;
 ghost use mathlib.Core.Path.{_≡_};
 ghost use Prim.Native.Nat.{_+_, _≤_, _<_};
-ghost use mathlib.Core.Bool.{not, Bool·beq};
 ghost use mathlib.Core.List.{[]};
-ghost use lib.Dec.{eqb, ltb};
+ghost use lib.Dec.{ltb};
 ghost use lib.ListN.{length, getD, take, drop};
 ghost use Rattle.meaning.specs.Limits.{maxBytes, maxInstructions, maxBlocks};
 ghost use Rattle.meaning.specs.Lists.{all};
 ghost use Rattle.meaning.specs.Listing.{u16At, wholeAt, bodyAt, localsOf, isToken, noPlaces, placesFrom, readPlaces};
-ghost use Rattle.listing_records.specs.Models.{foundOf, foundAt, fieldOf, fieldsIn, limitOf, FieldFor, faultOf, bodyFault, Tested, limitRows, keepsTo, fullOf, oneMore, ReadInto};
+ghost use Rattle.listing_records.specs.Models.{foundOf, foundAt, fieldOf, fieldsIn, limitOf, FieldFor, faultOf, placeFault, bodyFault, Tested, limitRows, keepsTo, fullOf, oneMore, ReadInto};
 
 pub struct Cursor {
     pub at: usize,
@@ -247,7 +246,7 @@ fn test_body(b: &[u8], shape: Shape, locals: u8) -> u8
 
 // ---- the tests of a record
 
-// `number` is 1, 2, 4, 3, 6, or 0 where none of these tests fails; then `kind` and `next` are the record's. Beside another number they
+// `number` is 1, 2, 4, 33, 3, 6, or 0 where none of these tests fails; then `kind` and `next` are the record's. Beside another number they
 // are free, and nothing is said of them.
 struct Test {
     number: u8,
@@ -265,16 +264,22 @@ fn failed(number: u8) -> Test
     }
 }
 
-// The first record is of kind 1, and no other.
-fn misplaced(kind: u16, at: usize) -> bool
-    ensures { λ r. ⌜ r ≡ not (Bool·beq (eqb kind 1) (eqb at 0)) ⌝ }
+// Where a record may stand: 4, unless the first one and no other is of kind 1; 33, if a block stands behind an instruction; else 0.
+fn misplaced(kind: u16, at: usize, coded: bool) -> u8
+    ensures { λ r. ⌜ faultOf r ≡ placeFault kind at coded ⌝ }
 {
-    if at == 0 { kind != 1 } else { kind == 1 }
+    if (kind == 1) != (at == 0) {
+        return 4;
+    }
+    if coded & (kind == 2) {
+        return 33;
+    }
+    0
 }
 
-// The first test of the record at a place that fails.
-fn test_record(s: &[u8], at: usize, locals: u8) -> Test
-    ensures { λ r. ⌜ Tested (now (s .entry)) locals at r ⌝ }
+// The first test of the record at a place that fails; `coded`: an instruction stands before it.
+fn test_record(s: &[u8], at: usize, locals: u8, coded: bool) -> Test
+    ensures { λ r. ⌜ Tested (now (s .entry)) locals coded at r ⌝ }
 {
     match read(s, Cursor { at }) {
         Found::Record { kind, next } => {
@@ -282,8 +287,9 @@ fn test_record(s: &[u8], at: usize, locals: u8) -> Test
             if !shape.known {
                 return failed(2);
             }
-            if misplaced(kind, at) {
-                return failed(4);
+            let number = misplaced(kind, at, coded);
+            if number != 0 {
+                return failed(number);
             }
             Test {
                 number: test_body(body(s, Cursor { at }), shape, locals),
@@ -320,9 +326,9 @@ fn keeps_to_row(s: &[u8], at: usize, n: u16, row: &[u16; 6]) -> bool
 }
 
 // What `test_record` says. Where the record keeps to its row no test fails, and it is not asked; the kinds 10 to 27 have rows.
-fn test_by_row(s: &[u8], at: usize, locals: u8, rows: &[[u16; 6]; 18]) -> Test
+fn test_by_row(s: &[u8], at: usize, locals: u8, coded: bool, rows: &[[u16; 6]; 18]) -> Test
     requires { ⌜ (at < length (now s)) × (now rows ≡ limitRows locals) ⌝ }
-    ensures { λ r. ⌜ Tested (now (s .entry)) locals at r ⌝ }
+    ensures { λ r. ⌜ Tested (now (s .entry)) locals coded at r ⌝ }
 {
     let left = s.len() - at;
     if (at != 0) & (9 <= left) {
@@ -338,7 +344,7 @@ fn test_by_row(s: &[u8], at: usize, locals: u8, rows: &[[u16; 6]; 18]) -> Test
             }
         }
     }
-    test_record(s, at, locals)
+    test_record(s, at, locals, coded)
 }
 
 // ---- all records
@@ -403,7 +409,7 @@ fn read_records(
     let mut first_ret: usize = 0;
     let mut at: usize = 0;
     while at < s.len() {
-        let t = test_by_row(s, at, locals, &rows);
+        let t = test_by_row(s, at, locals, code_count != 0, &rows);
         if t.number != 0 {
             return refused_at(t.number, at);
         }

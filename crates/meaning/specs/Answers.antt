@@ -1,9 +1,9 @@
 -- What a call answers: a value, a violation or a refusal. Document 01: "a violation (code, offset) or a refusal (number, place)"; the place is
 -- added where a block or the reader knows it.
 use Prim.Native.Nat.{ℕ}
-use mathlib.Core.Bool.{Bool, true, false, not, _&&_}
+use mathlib.Core.Bool.{Bool, true, false, _&&_, _||_}
 use mathlib.Core.Option.{Option, none, some}
-use lib.Dec.{eqb}
+use lib.Dec.{leb}
 
 -- ---- an answer: a value, or the number of a refusal
 
@@ -36,10 +36,9 @@ pub data Outcome (A : Type 0) : Type 0 where
   violated : ℕ → ℕ → ℕ → Outcome A
   refused : ℕ → Outcome A
 
--- a refusal that a run may give: not 1, which by A3 is left for records that end too early, nor one of the caller's, 8, 9 and 23, nor 16, which by A2
--- only a direct rename gives
+-- a refusal that a run may give: the "Routine's author", 10 to 15 (by A2 without 16), or the "Size of the controller", 20 to 22
 abbrev pub ordinary : ℕ → Bool
-ordinary n = not (eqb n 1) && (not (eqb n 8) && (not (eqb n 9) && (not (eqb n 16) && not (eqb n 23))))
+ordinary n = (leb 10 n && leb n 15) || (leb 20 n && leb n 22)
 
 -- "Later ones follow the Rust's step order, first one ends the run"
 abbrev pub then : {A B : Type 0} → Outcome A → (A → Outcome B) → Outcome B

@@ -15,6 +15,7 @@ pub mod Chain
 pub mod Change
 pub mod Cover
 pub mod Cut
+pub mod Decode
 pub mod Empty
 pub mod Exchange
 pub mod First
@@ -31,6 +32,7 @@ pub mod Listing
 pub mod Loop
 pub mod Lowest
 pub mod Offsets
+pub mod Order
 pub mod Overwrite
 pub mod Own
 pub mod Pair
@@ -54,4 +56,5 @@ pub mod Spliced
 pub mod State
 pub mod Step
 pub mod Tests
+pub mod Told
 pub mod Verify

@@ -248,15 +248,17 @@ abbrev pub unless : Bool → ℕ → Option ℕ → Option ℕ
 unless true n k = k
 unless false n k = some n
 
--- "each record 1, 2, 4, 3, 6", or none; 4 is "first record not kind 1, or a second one"
-unfoldable pub faultAt : List ℕ → ℕ → ℕ → Option ℕ
-faultAt s l at =
+-- "each record 1, 2, 4, 3, 6", or none; 4 is "first record not kind 1, or a second one". A5: "every block record in a kind 1 listing stands before the
+-- first instruction"; 33 is "a block record found after an instruction", "tested after number 4". That one was found is what coded says.
+unfoldable pub faultAt : List ℕ → ℕ → Bool → ℕ → Option ℕ
+faultAt s l coded at =
     unless (wholeAt s at) 1
     (unless (kindInUse (kindAt s at)) 2
     (unless (Bool·beq (eqb (kindAt s at) 1) (eqb at 0)) 4
+    (unless (not (coded && eqb (kindAt s at) 2)) 33
     (unless (fitsBody l (fieldsOf (kindAt s at)) (bodyAt s at)) 3
     (unless (withinLimits (fieldsOf (kindAt s at)) (bodyAt s at)) 6
-    none))))
+    none)))))
 
 -- the places of the block records and of the instruction records so far
 pub record Places : Type 0 where
@@ -267,11 +269,15 @@ pub record Places : Type 0 where
 abbrev pub noPlaces : Places
 noPlaces = record { blocks = []; code = [] }
 
+-- an instruction was found
+abbrev pub someCode : Places → Bool
+someCode w = not (empty (w .code))
+
 -- "6: .. more than 512 instructions or 16 blocks": there is no room for one more
 abbrev pub fullFor : ℕ → Places → Bool
 fullFor k w = cond (eqb k 1) false (cond (eqb k 2) (leb maxBlocks (length (w .blocks))) (leb maxInstructions (length (w .code))))
 
--- "Block and instruction records may stand mixed."
+-- the places, with one record more
 abbrev pub putAt : ℕ → ℕ → Places → Places
 putAt k at w =
     cond (eqb k 1) w
@@ -295,7 +301,7 @@ unfolding faultAt
 placesFrom zero s at w = read w
 placesFrom (suc f) s at w =
     cond (leb (length s) at) (read w)
-    (ifFine (faultAt s (localsOf (bodyAt s 0)) at) at
+    (ifFine (faultAt s (localsOf (bodyAt s 0)) (someCode w) at) at
     (ifNot (fullFor (kindAt s at) w) 6 at
     (placesFrom f s (nextAt s at) (putAt (kindAt s at) at w))))
 

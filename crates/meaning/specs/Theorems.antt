@@ -2,10 +2,10 @@
 use Prim.Native.Nat.{ℕ, _≤_, _<_, _*_}
 use native.Mathlib.Omega.{arith}
 use mathlib.Core.Bool.{true, false}
-use mathlib.Core.List.{List, [], _∷_}
-use mathlib.Core.Logic.{_⊎_, _≢_}
+use mathlib.Core.List.{List, [], _∷_, _++_, map}
+use mathlib.Core.Logic.{_⊎_}
 use mathlib.Core.Option.{some}
-use mathlib.Core.Path.{_≡_}
+use mathlib.Core.Path.{_≡_, refl}
 use lib.Dec.{ltb}
 use lib.ListN.{length, getD}
 use Rattle.meaning.specs.Limits.{areaWords}
@@ -16,11 +16,11 @@ use Rattle.meaning.specs.BorrowGraph.{Graph, setAt, held, wellFormed, Ch
 use Rattle.meaning.specs.AbstractState.{State, Form, Parts, joinLocals, join, changed, changes, joinBlurs, newNameOf, canonical}
 use Rattle.meaning.specs.Blocks.{Routine, exec}
 use Rattle.meaning.specs.Loop.{mostChanges, mostVisits, visits, passedUp, blank, hasEnded, ended, stopped, violation, refusal, emptyCell}
-use Rattle.meaning.specs.Listing.{read, wholeAt, readListing}
+use Rattle.meaning.specs.Listing.{Listed, read, wholeAt, Places, readPlaces, readListing}
 use Rattle.meaning.specs.Verify.{runWith, runOf, verify}
 use Rattle.meaning.specs.Marked as Marked
 use Rattle.meaning.specs.Laws.Block.{Ended, exec-hands}
-use Rattle.meaning.specs.Laws.Empty.{readBefore}
+use Rattle.meaning.specs.Laws.Decode.{Bytes, joined}
 use Rattle.meaning.specs.Laws.Empty as Empty
 use Rattle.meaning.specs.Laws.Exchange.{Carried, Exchanged, Stepwise}
 use Rattle.meaning.specs.Laws.Exchange as Exchange
@@ -29,6 +29,8 @@ use Rattle.meaning.specs.Laws.Forms.{Settled}
 use Rattle.meaning.specs.Laws.InTurnRun.{run-in-turn}
 use Rattle.meaning.specs.Laws.Listing.{accepted-promised}
 use Rattle.meaning.specs.Laws.Offsets as Offsets
+use Rattle.meaning.specs.Laws.Order.{recordAt, Late, readBefore}
+use Rattle.meaning.specs.Laws.Order as Order
 use Rattle.meaning.specs.Laws.Own.{times}
 use Rattle.meaning.specs.Laws.Promised.{promised}
 use Rattle.meaning.specs.Laws.RedateRun.{redateAnswered, forget, undated, verifyBy}
@@ -38,6 +40,7 @@ use Rattle.meaning.specs.Laws.State as States
 use Rattle.meaning.specs.Laws.Run as Runs
 use Rattle.meaning.specs.Laws.Tests.{Stays}
 use Rattle.meaning.specs.Laws.Tests as Tests
+use Rattle.meaning.specs.Laws.Told.{told}
 use Rattle.meaning.specs.Laws.Verify.{verify-short}
 use Rattle.meaning.specs.Refinement.InTurn.{runInTurn}
 
@@ -74,8 +77,8 @@ pub record Bounded (s : List ℕ) (q : Routine) : Type 0 where
   pub few-blurs : (budget j : ℕ) (k : State) → getD (runWith q budget .slots) j blank .kept ≡ some k → passedUp (exec q j k) ≤ 512 * (144 * 96)
   -- the visits that are answered, for an area of any length
   pub answered : (words : ℕ) → verify words s .visits ≤ mostVisits (length (q .blocks)) (q .locals)
-  -- the caller's refusals 8, 9 and 23 never come out, nor does 16, which by A2 only a direct rename gives, nor 1, by A3 for a record that ends too early
-  pub refused : (words n p : ℕ) → verify words s .verdict ≡ refusal n p → (n ≢ 1) × (n ≢ 8) × (n ≢ 9) × (n ≢ 16) × (n ≢ 23)
+  -- it is refused with 7, for a short area, or by the run: with 10 to 15, the author's, or 20 to 22, the controller's
+  pub refused : (words n p : ℕ) → verify words s .verdict ≡ refusal n p → (n ≡ 7) ⊎ (((10 ≤ n) × (n ≤ 15)) ⊎ ((20 ≤ n) × (n ≤ 22)))
 
 pub demand3 : (s : List ℕ) (q : Routine) → readListing s ≡ read q → Bounded s q
 unfolding runOf
@@ -88,7 +91,7 @@ demand3 s q e =
       same = Runs.same-run q p;
       few-blurs = λ f j k h. exec-few q p j k (Runs.kept-strong q p f j k h);
       answered = Runs.answer-visits s q e;
-      refused = Runs.answer-refusals s q e;
+      refused = Runs.answer-numbers s q e;
     }
 
 -- ---- A9: where it was borrowed
@@ -158,8 +161,32 @@ empty-cell = (Empty.zero-bytes, Empty.only-zero-bytes, verify-short)
 
 -- "Number 1 is left for records that end too early": a record starts at its place, and is not whole.
 pub ends-early : (words : ℕ) (s : List ℕ) (p : ℕ) → verify words s .verdict ≡ refusal 1 p → (p < length s) × (wholeAt s p ≡ false)
-ends-early = Empty.ends-early
+ends-early words s p e = told words 1 p (λ z. omega arith) refl s e .1 refl
 
--- What has a byte is read as document 01 has it.
-pub bytes-stay : (x : ℕ) (xs : List ℕ) → readListing (x ∷ xs) ≡ readBefore (x ∷ xs)
-bytes-stay = Empty.bytes-stay
+-- ---- A5: blocks before code
+
+-- "every block record in a kind 1 listing stands before the first instruction": a listing that is read is its first record, its blocks and its
+-- instructions, one after the other.
+pub blocks-first : (s : List ℕ) (w : Places) → readPlaces s ≡ read w
+    → s ≡ recordAt s 0 ++ joined (map (recordAt s) (w .blocks)) ++ joined (map (recordAt s) (w .code))
+blocks-first = Order.blocks-first
+
+-- "Two people exported one routine and got files that differ": not any more. Of two listings with the same first record, the same block records and
+-- the same instruction records at most one order is read.
+pub one-order : (s t : List ℕ) (v w : Places) → readPlaces s ≡ read v → readPlaces t ≡ read w → recordAt s 0 ≡ recordAt t 0
+    → map (recordAt s) (v .blocks) ≡ map (recordAt t) (w .blocks) → map (recordAt s) (v .code) ≡ map (recordAt t) (w .code) → s ≡ t
+one-order = Order.one-order
+
+-- So a routine has one listing of kind 1: what is read as one routine is the same bytes, but for the first record, since a routine counts its returns
+-- and does not name their tokens.
+pub one-listing : (s t : List ℕ) → Bytes s → Bytes t → (q : Routine) → readListing s ≡ read q → readListing t ≡ read q → recordAt s 0 ≡ recordAt t 0
+    → s ≡ t
+one-listing = Order.one-listing
+
+-- "It refuses with 33 a block record found after an instruction, at that record's start", and nothing else.
+pub block-late : (words : ℕ) (s : List ℕ) (p : ℕ) → verify words s .verdict ≡ refusal 33 p → Late s p
+block-late words s p e = told words 33 p (λ z. omega arith) refl s e .2 refl
+
+-- What has a byte is read as document 01 has it, unless it is refused with 33.
+pub bytes-stay : (x : ℕ) (xs : List ℕ) → (readListing (x ∷ xs) ≡ readBefore (x ∷ xs)) ⊎ ((p : ℕ) × (readListing (x ∷ xs) ≡ Listed.refused 33 p))
+bytes-stay = Order.bytes-stay

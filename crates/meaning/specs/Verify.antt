@@ -25,7 +25,7 @@ pub record Answered : Type 0 where
   pub visits : ℕ
   pub blurred : ℕ
 
--- "0 for refusals 1–7"; A3: an empty cell, and "the visit count is 0"
+-- "0 for refusals 1–7", and by A5 for 33; A3: an empty cell, and "the visit count is 0"
 abbrev pub answerTo : Listed Routine → Answered
 answerTo (read q) = record { verdict = verdict (q .blocks) (runOf q); visits = visits (runOf q); blurred = runOf q .blurs }
 answerTo nothing = record { verdict = emptyCell; visits = 0; blurred = 0 }

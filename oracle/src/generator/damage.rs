@@ -1,7 +1,7 @@
 //! Byte strings around the exporter's refusals.
 
 use super::{conflicts, draft::any_instruction, typed, Rng};
-use crate::listing::{write_block, write_function, write_instruction, Block, Instruction, Routine};
+use crate::listing::{self, write_instruction, Block, Instruction, Routine};
 
 type Record = (u16, Vec<u8>);
 
@@ -31,6 +31,7 @@ pub fn listing(rng: &mut Rng) -> Vec<u8> {
         _ => conflicts::draft(rng).listing(rng),
     };
     match rng.below(12) {
+        0 if rng.percent(50) => mixed(rng, &whole),
         0 => cut(rng, whole),
         1 => one_byte(rng, whole),
         2 => limits(rng),
@@ -72,10 +73,7 @@ fn limits(rng: &mut Rng) -> Vec<u8> {
     let exit = |at: usize| if at + 1 == blocks { length - 1 } else { at };
     let block = |at: usize| Block { entry: at as u16, exit: exit(at) as u16, successors: vec![] };
     routine.blocks = (0..blocks).map(block).collect();
-    let mut out = vec![];
-    write_function(&routine, &mut out);
-    routine.code.iter().for_each(|i| write_instruction(i, &mut out));
-    routine.blocks.iter().for_each(|b| write_block(b, &mut out));
+    let mut out = listing::write(&routine);
     if rng.percent(3) {
         out.resize(rng.pick(&[65_535, 65_536, 65_537, 70_000]), 0)
     }
@@ -97,6 +95,24 @@ fn in_a_body(rng: &mut Rng, listing: &[u8]) -> Vec<u8> {
             body[byte] = rng.pick(&[0, 1, 2, 3, 4, 255])
         }
     }
+    bytes(&records)
+}
+
+/// A place behind the blocks.
+fn in_the_code(rng: &mut Rng, records: &[Record]) -> usize {
+    rng.between(1 + records.iter().filter(|r| r.0 == 2).count(), records.len())
+}
+
+/// A block among the instructions or behind them, sometimes with a body that does not fit.
+fn mixed(rng: &mut Rng, listing: &[u8]) -> Vec<u8> {
+    let mut records = records(listing);
+    let blocks: Vec<usize> = (0..records.len()).filter(|r| records[*r].0 == 2).collect();
+    let mut block = records.remove(rng.pick(&blocks));
+    if rng.percent(25) {
+        block.1.pop();
+    }
+    let at = in_the_code(rng, &records);
+    records.insert(at, block);
     bytes(&records)
 }
 
@@ -133,7 +149,7 @@ fn of_a_call(rng: &mut Rng, listing: &[u8]) -> Vec<u8> {
     };
     let mut out = vec![];
     write_instruction(&call, &mut out);
-    let at = rng.between(1, records.len());
+    let at = in_the_code(rng, &records);
     records.insert(at, (22, out[4..].to_vec()));
     bytes(&records)
 }
@@ -169,15 +185,20 @@ fn of_records(rng: &mut Rng, listing: &[u8]) -> Vec<u8> {
         }
         2 => records.insert(at, records[at].clone()),
         3 => {
-            let other = rng.below(records.len());
-            records.swap(at, other)
+            let alike = |r: &usize| (records[*r].0 == 2) == (records[at].0 == 2);
+            let others: Vec<usize> = (0..records.len()).filter(alike).collect();
+            records.swap(at, rng.pick(&others))
         }
-        4 => records.insert(rng.between(1, records.len()), (23, vec![])),
+        4 => {
+            let at = in_the_code(rng, &records);
+            records.insert(at, (23, vec![]))
+        }
         5 => records.retain(|r| r.0 != 2),
         6 => {
             let mut out = vec![];
             write_instruction(&any_instruction(rng, 17), &mut out);
-            records.insert(at.max(1), (u16::from_le_bytes([out[2], out[3]]), out[4..].to_vec()))
+            let at = in_the_code(rng, &records);
+            records.insert(at, (u16::from_le_bytes([out[2], out[3]]), out[4..].to_vec()))
         }
         _ => records[at].0 = rng.between(10, 27) as u16,
     }

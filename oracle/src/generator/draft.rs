@@ -86,24 +86,8 @@ impl Draft {
         order
     }
 
-    /// Its records: blocks first, last or among the instructions.
     pub fn listing(&self, rng: &mut Rng) -> Vec<u8> {
-        let routine = self.routine(rng);
-        if rng.percent(60) {
-            return listing::write(&routine);
-        }
-        let mut out = vec![];
-        listing::write_function(&routine, &mut out);
-        let often = rng.pick(&[0, 20, 50]);
-        let mut blocks = routine.blocks.iter();
-        for instruction in &routine.code {
-            if rng.percent(often) {
-                blocks.next().into_iter().for_each(|b| listing::write_block(b, &mut out))
-            }
-            listing::write_instruction(instruction, &mut out)
-        }
-        blocks.for_each(|b| listing::write_block(b, &mut out));
-        out
+        listing::write(&self.routine(rng))
     }
 
     /// Changes one thing, with no care for types.

@@ -56,7 +56,7 @@ returns c =
     let t = (c .before .before .before .test-by-row) in
     let f = (c .refused-at) in
     none-read _ (a .s .now) (l .blocks) (l .code) (f .result) (t .result .number) (l .at) (f .ensures) (if1 .taken) (l .inv .2) (l .inv .3)
-    (stop-fault (a .s .now) (l .blocks) (l .code) (l .block-count) (l .code-count) (l .at) (a .locals) _ ((c .before .before .before .before .before .loop-test) .taken) (pre .1) (l .inv .4)
+    (stop-fault (a .s .now) (l .blocks) (l .code) (l .block-count) (l .code-count) (l .at) (a .locals) _ ((c .before .before .before .before .before .loop-test) .taken) (pre .1) (omega arith) (l .inv .4)
     (t .result .number) (t .ensures .number) (if1 .taken))
 
 is-full-requires : tie.Need-is-full-requires Inv-loop μ-loop
@@ -75,8 +75,8 @@ returns-2 c =
     let f = (c .refused-at2) in
     let z : t .result .number ≡ 0 = (c .before .before .before .if1) .left in
     none-read _ (a .s .now) (l .blocks) (l .code) (f .result) 6 (l .at) (f .ensures) (λ h. omega arith) (l .inv .2) (l .inv .3)
-    (stop-full (a .s .now) (l .blocks) (l .code) (l .block-count) (l .code-count) (l .at) (a .locals) _ (loop-test .taken) (pre .1) (l .inv .4)
-    (sym (t .ensures .number) ∙ ap faultOf z) (omega arith) (omega arith) (rw (t .ensures .kind z) at (sym ((c .before .before .is-full) .ensures) ∙ (c .before .if2) .taken)))
+    (stop-full (a .s .now) (l .blocks) (l .code) (l .block-count) (l .code-count) (l .at) (a .locals) _ (loop-test .taken) (pre .1) (omega arith) (l .inv .4)
+    (sym (t .ensures .number) ∙ ap faultOf z) (omega arith) (rw (t .ensures .kind z) at (sym ((c .before .before .is-full) .ensures) ∙ (c .before .if2) .taken)))
 
 cast-blocks : tie.Need-cast-blocks Inv-loop μ-loop
 cast-blocks c = omega arith
@@ -122,7 +122,7 @@ loop-again c =
       simp length-set (l .inv .2),
       l .inv .3,
       rw (t .ensures .next z)
-          (go-block (a .s .now) (l .blocks) (l .code) (l .block-count) (l .code-count) (l .at) (a .locals) _ (loop-test .taken) (pre .1) (l .inv .4)
+          (go-block (a .s .now) (l .blocks) (l .code) (l .block-count) (l .code-count) (l .at) (a .locals) _ (loop-test .taken) (pre .1) (omega arith) (l .inv .4)
           (sym (t .ensures .number) ∙ ap faultOf z) (sym (t .ensures .kind z) ∙ (c .if3) .taken) h (omega arith)),
       l .inv .5,
     )
@@ -145,7 +145,7 @@ loop-again-2 c =
       l .inv .2,
       simp length-set (l .inv .3),
       rw (t .ensures .next z)
-          (go-code (a .s .now) (l .blocks) (l .code) (l .block-count) (l .code-count) (l .at) (a .locals) _ (loop-test .taken) (pre .1) (l .inv .4)
+          (go-code (a .s .now) (l .blocks) (l .code) (l .block-count) (l .code-count) (l .at) (a .locals) _ (loop-test .taken) (pre .1) (omega arith) (l .inv .4)
           (sym (t .ensures .number) ∙ ap faultOf z) (λ e. (c .before .if4) .taken (t .ensures .kind z ∙ e)) (λ e. (c .before .before .before .if3) .left (t .ensures .kind z ∙ e)) h (omega arith)),
       (c .before-ret) .ensures ∙ ret-put (a .s .now) (l .code) (l .code-count) (l .at) (t .result .kind) (l .first-ret) (omega arith) (t .ensures .kind z) (l .inv .5),
     )
@@ -166,7 +166,7 @@ loop-again-3 c =
       l .inv .2,
       l .inv .3,
       rw (t .ensures .next z)
-          (go-first (a .s .now) (l .blocks) (l .code) (l .block-count) (l .code-count) (l .at) (a .locals) _ (loop-test .taken) (pre .1) (l .inv .4)
+          (go-first (a .s .now) (l .blocks) (l .code) (l .block-count) (l .code-count) (l .at) (a .locals) _ (loop-test .taken) (pre .1) (omega arith) (l .inv .4)
           (sym (t .ensures .number) ∙ ap faultOf z) (sym (t .ensures .kind z) ∙ (c .if4) .left)),
       l .inv .5,
     )

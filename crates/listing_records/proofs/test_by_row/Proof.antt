@@ -56,14 +56,14 @@ index-1-keeps-to-row c = omega (arith, kinds c .0, kinds c .1)
 keeps-to-row-requires : tie.Need-keeps-to-row-requires
 keeps-to-row-requires c κs = nine (c .before .before .before .before) .0
 
-add-t23 : tie.Need-add-t23
-add-t23 c = omega (arith, nine (c .before .before .before .before .before .before) .0)
+add-t24 : tie.Need-add-t24
+add-t24 c = omega (arith, nine (c .before .before .before .before .before .before) .0)
 
-cast-t24 : tie.Need-cast-t24
-cast-t24 c = search needs
+cast-t25 : tie.Need-cast-t25
+cast-t25 c = search needs
 
-add-t25 : tie.Need-add-t25
-add-t25 c = omega (arith, nine (c .before .before .before .before .before .before) .0)
+add-t26 : tie.Need-add-t26
+add-t26 c = omega (arith, nine (c .before .before .before .before .before .before) .0)
 
 returns : tie.Need-returns
 returns c =
@@ -79,7 +79,7 @@ returns c =
     let h : keepsTo (getD (limitRows (a .locals)) row []) (u16At (a .s .now) (a .at)) (a .s .now) (a .at) ≡ true =
     rw (← at-u16-in .u16-in .ensures, ← (start .pre .1)) (sym (c .before .keeps-to-row .ensures) ∙ c .if3 .taken) in
     record {
-      number = sym (keeps-fine (a .s .now) (a .locals) (a .at) row (n .0) (omega (arith, k .1)) e h (n .1));
+      number = sym (keeps-fine (a .s .now) (a .locals) (a .at) row (n .0) (omega (arith, k .1)) e h (a .coded) (n .1));
       kind = λ z. at-u16-in2 .u16-in2 .ensures;
       next = λ z. ap (λ (m : ℕ). a .at + 4 + m) (at-u16-in .u16-in .ensures);
       inside = λ z. rw (at-u16-in .u16-in .ensures) (keeps-inside (a .s .now) (a .locals) (a .at) row (n .0) (omega (arith, k .1)) e h);
@@ -104,9 +104,9 @@ test-by-row-spec =
     mul-keeps-to-row
     index-1-keeps-to-row
     keeps-to-row-requires
-    add-t23
-    cast-t24
-    add-t25
+    add-t24
+    cast-t25
+    add-t26
     returns
     test-record-requires
     returns-2)

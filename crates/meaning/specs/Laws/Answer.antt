@@ -1,12 +1,12 @@
--- What a refusal says: its place is at most 65,536, and number 1 is for a record that ends too early.
+-- What a refusal says: its place is at most 65,536, number 1 is for a record that ends too early, and number 33 for a block after an instruction.
 use Prim.Native.Nat.{ℕ, _≤_, zero, suc, _<_, _+_, _-_}
 use native.Mathlib.Omega.{arith}
-use mathlib.Core.Bool.{Bool, true, false, Bool·beq}
+use mathlib.Core.Bool.{Bool, true, false, Bool·beq, not, _&&_, false≢true}
 use mathlib.Core.List.{List, [], _∷_, _++_}
 use mathlib.Core.Logic.{_≢_}
 use mathlib.Core.Option.{none, Option, some, Option·none-ne-some}
 use mathlib.Core.Path.{_≡_, refl, sym, ap, subst, _∙_}
-use borrow.Author.Tests.{leb-false, ltb-false, ltb-true, leb-true}
+use borrow.Author.Tests.{ltb-false, ltb-true, leb-true}
 use lib.Dec.{eqb, leb, ltb}
 use lib.ListN.{getD, length, take, drop, length-take, length-drop}
 use Rattle.meaning.specs.Answers.{Ans, ok, refuse, Outcome, done, violated, refused}
@@ -16,10 +16,11 @@ use Rattle.meaning.specs.EntryPoints.{Running}
 use Rattle.meaning.specs.Steps.{Instr, Machine, step}
 use Rattle.meaning.specs.Blocks.{Routine, machineAt, runFrom, finish, settle, endOf, exec, runBlock, instrsOf, startMachine}
 use Rattle.meaning.specs.Loop.{mostVisits, Failure, verdictFor, Result, Block, noBlock, Next, at, stopped, Run, Slot, Propagation, propagate, afterChange, afterJoin, toKept, toSuccessor, afterBlock, turnAt, turns, blank, Verdict, accept, violation, refusal, emptyCell, lowest, verdictAt, verdict, run}
-use Rattle.meaning.specs.Listing.{wholeAt, kindInUse, fieldsOf, fitsBody, withinLimits, unless, Places, Listed, read, nothing, ifFine, ifNot, putAt, fullFor, placesFrom, faultAt, kindAt, nextAt, bodyAt, localsOf, faultyBlock, strayRet, firstOf, ruled, routineAt, afterRecords, noPlaces, readPlaces, readListing}
+use Rattle.meaning.specs.Listing.{wholeAt, kindInUse, fieldsOf, fitsBody, withinLimits, unless, Places, someCode, Listed, read, nothing, ifNot, putAt, placesFrom, faultAt, kindAt, nextAt, bodyAt, localsOf, faultyBlock, strayRet, firstOf, ruled, routineAt, afterRecords, noPlaces, readPlaces, readListing}
 use Rattle.meaning.specs.Verify.{runOf, verify, answerTo}
-use Rattle.meaning.specs.Laws.Base.{decide, and-l, and-r}
-use Rattle.meaning.specs.Laws.Listing.{Ruled, accepted-promised, ruled-block, first-none-below, Accepted, accepted, no-bytes, some-bytes}
+use Rattle.meaning.specs.Laws.Base.{decide, and-l, and-r, and-i, eqb-eq}
+use Rattle.meaning.specs.Laws.Listing.{Ruled, accepted-promised, ruled-block, first-none-below, Accepted, accepted, no-bytes, some-bytes, fine, okCode, passed-first, by-records}
+use Rattle.meaning.specs.Laws.Order.{Starts, foremost, next, Late}
 use Rattle.meaning.specs.Laws.Promised.{promised}
 use Rattle.meaning.specs.Laws.Verify.{verify-either}
 use Rattle.meaning.specs.Loop as L
@@ -40,9 +41,9 @@ pub record LowPlaces (m : ℕ) (w : Places) : Type 0 where
   pub blocks : Below m (w .blocks)
   pub code : Below m (w .code)
 
--- what a refusal says: its place is at most m, and number 1 stands for a record that starts there and is not whole
-abbrev Told : List ℕ → ℕ → ℕ → ℕ → Type 0
-Told s m n p = (p ≤ m) × (n ≡ 1 → (p < length s) × (wholeAt s p ≡ false))
+-- what a refusal says: its place is at most m; number 1 stands for a record that starts there and is not whole, 33 for a block after an instruction
+abbrev pub Told : List ℕ → ℕ → ℕ → ℕ → Type 0
+Told s m n p = (p ≤ m) × (n ≡ 1 → (p < length s) × (wholeAt s p ≡ false)) × (n ≡ 33 → Late s p)
 
 -- what is read of records, so never nothing
 abbrev pub LowListed : {A : Type 0} → List ℕ → ℕ → (A → Type 0) → Listed A → Type 0
@@ -50,32 +51,71 @@ LowListed s m P (read a) = P a
 LowListed s m P nothing = ⊥
 LowListed s m P (S.refused n p) = Told s m n p
 
-low-fine : {A : Type 0} (s : List ℕ) (m : ℕ) (P : A → Type 0) (x : Option ℕ) (p : ℕ) (k : Listed A) → ((n : ℕ) → x ≡ some n → Told s m n p) → LowListed s m P k
-    → LowListed s m P (ifFine x p k)
-low-fine s m P none p k h l = l
-low-fine s m P (some n) p k h l = h n refl
+-- number 5 says nothing but its place
+low-five : {A : Type 0} (s : List ℕ) (m : ℕ) (P : A → Type 0) (b : Bool) (p : ℕ) (k : Listed A) → p ≤ m → (b ≡ false → LowListed s m P k)
+    → LowListed s m P (ifNot b 5 p k)
+low-five s m P true p k h l = (h, λ e. absurd (omega arith), λ e. absurd (omega arith))
+low-five s m P false p k h l = l refl
 
-low-not : {A : Type 0} (s : List ℕ) (m : ℕ) (P : A → Type 0) (b : Bool) (n p : ℕ) (k : Listed A) → n ≢ 1 → p ≤ m → (b ≡ false → LowListed s m P k)
-    → LowListed s m P (ifNot b n p k)
-low-not s m P true n p k d h l = (h, λ e. absurd (d e))
-low-not s m P false n p k d h l = l refl
+later : (m : ℕ) (b : Bool) (n : ℕ) (k : Option ℕ) → n ≢ m → k ≢ some m → unless b n k ≢ some m
+later m true n k h g e = g e
+later m false n k h g e = h cc
 
-later : (b : Bool) (n : ℕ) (k : Option ℕ) → n ≢ 1 → k ≢ some 1 → unless b n k ≢ some 1
-later true n k h g e = g e
-later false n k h g e = h cc
+-- the other tests of a record have other numbers
+module _ (s : List ℕ) (l : ℕ) (coded : Bool) (p : ℕ) where
+  abbrev placed : Bool
+  placed = Bool·beq (eqb (kindAt s p) 1) (eqb p 0)
 
--- the tests of a record behind its first have other numbers
-early : (s : List ℕ) (l p : ℕ) → faultAt s l p ≡ some 1 → wholeAt s p ≡ false
-unfolding faultAt
-early s l p e =
-    decide (wholeAt s p)
-    (λ w. absurd (
-    later (kindInUse (kindAt s p)) 2 _ (λ z. omega arith)
-    (later (Bool·beq (eqb (kindAt s p) 1) (eqb p 0)) 4 _ (λ z. omega arith)
-    (later (fitsBody l (fieldsOf (kindAt s p)) (bodyAt s p)) 3 _ (λ z. omega arith)
-    (later (withinLimits (fieldsOf (kindAt s p)) (bodyAt s p)) 6 none (λ z. omega arith)
-    (Option·none-ne-some 1)))) (rw w at e)))
-    (λ w. w)
+  behind : (m : ℕ) → 3 ≢ m → 6 ≢ m
+      → unless (fitsBody l (fieldsOf (kindAt s p)) (bodyAt s p)) 3 (unless (withinLimits (fieldsOf (kindAt s p)) (bodyAt s p)) 6 none) ≢ some m
+  behind m a b = later m (fitsBody l (fieldsOf (kindAt s p)) (bodyAt s p)) 3 _ a (later m (withinLimits (fieldsOf (kindAt s p)) (bodyAt s p)) 6 none b (Option·none-ne-some m))
+
+  early : faultAt s l coded p ≡ some 1 → wholeAt s p ≡ false
+  unfolding faultAt
+  early e =
+      decide (wholeAt s p)
+      (λ w. absurd (
+      later 1 (kindInUse (kindAt s p)) 2 _ (λ z. omega arith)
+      (later 1 placed 4 _ (λ z. omega arith)
+      (later 1 (not (coded && eqb (kindAt s p) 2)) 33 _ (λ z. omega arith)
+      (behind 1 (λ z. omega arith) (λ z. omega arith)))) (rw w at e)))
+      (λ w. w)
+
+  late : faultAt s l coded p ≡ some 33 → (coded && eqb (kindAt s p) 2) ≡ true
+  unfolding faultAt
+  late e =
+      decide (coded && eqb (kindAt s p) 2)
+      (λ w. w)
+      (λ w. absurd (
+      later 33 (wholeAt s p) 1 _ (λ z. omega arith)
+      (later 33 (kindInUse (kindAt s p)) 2 _ (λ z. omega arith)
+      (later 33 placed 4 _ (λ z. omega arith)
+      (behind 33 (λ z. omega arith) (λ z. omega arith)))) (rw w at e)))
+
+-- where the reading stands: a record starts there, or the listing ends, and any instruction so far started before it
+pub record Reached (s : List ℕ) (p : ℕ) (w : Places) : Type 0 where
+  pub here : Starts s p
+  pub code : someCode w ≡ true → (o : ℕ) × (o < p) × Starts s o × (okCode s o ≡ true)
+
+reached-next : (s : List ℕ) (p : ℕ) (w : Places) → Reached s p w → faultAt s (localsOf (bodyAt s 0)) (someCode w) p ≡ none
+    → Reached s (nextAt s p) (putAt (kindAt s p) p w)
+reached-next s p w r e =
+    let before : someCode w ≡ true → (o : ℕ) × (o < nextAt s p) × Starts s o × (okCode s o ≡ true) =
+    λ c. let x = r .code c in (x .0, omega (arith, x .1), x .2, x .3) in
+    record {
+      here = next (r .here);
+      code =
+          decide (eqb (kindAt s p) 1)
+          (λ a. rw a before)
+          (λ a. decide (eqb (kindAt s p) 2)
+          (λ b. rw (a, b) before)
+          (λ b. λ _. (p, omega arith, r .here, and-i (ap fine (passed-first s (localsOf (bodyAt s 0)) (someCode w) p e)) (and-i (ap not a) (ap not b)))));
+    }
+
+found : (s : List ℕ) (p : ℕ) (w : Places) → Reached s p w → (someCode w && eqb (kindAt s p) 2) ≡ true → Late s p
+found s p w r e =
+    let x = r .code (and-l (someCode w) (eqb (kindAt s p) 2) e) in
+    record { starts = r .here; block = eqb-eq (and-r (someCode w) (eqb (kindAt s p) 2) e); place = x .0; before = x .1; found = x .2; instruction = x .3 }
 
 low-put : (m k p : ℕ) (w : Places) → LowPlaces m w → p ≤ m → LowPlaces m (putAt k p w)
 low-put m k p w l h =
@@ -85,43 +125,6 @@ low-put m k p w l h =
     (λ d. rw (e, d) (record { blocks = below-more m (w .blocks) p (l .blocks) h; code = l .code }))
     (λ d. rw (e, d) (record { blocks = l .blocks; code = below-more m (w .code) p (l .code) h })))
 
-low-from : (f : ℕ) (s : List ℕ) (p : ℕ) (w : Places) → LowPlaces (length s) w → LowListed s (length s) (LowPlaces (length s)) (placesFrom f s p w)
-unfolding placesFrom
-low-from zero s p w l = l
-low-from (suc f) s p w l =
-    let b : ℕ = localsOf (bodyAt s 0) in
-    decide (leb (length s) p)
-    (λ e. rw e l)
-    (λ e. let h : p < length s = leb-false _ _ e in
-    rw e
-    (low-fine s (length s) _ (faultAt s b p) p _ (λ n x. (omega (arith, h), λ z. (h, early s b p (x ∙ ap some z))))
-    (low-not s (length s) _ (fullFor (kindAt s p) w) 6 p _ (λ z. omega arith) (omega (arith, h))
-    (λ _. low-from f s (nextAt s p) (putAt (kindAt s p) p w) (low-put (length s) (kindAt s p) p w l (omega (arith, h)))))))
-
-abbrev pub Any : Routine → Type 0
-Any q = Unit {0}
-
-low-ruled : (s : List ℕ) (w : Places) (q : Routine) → LowPlaces (length s) w → LowListed s (length s) Any (ruled (length s) w q)
-low-ruled s w q l =
-    let five : _≢_ {A = ℕ} 5 1 = λ z. omega arith in
-    let b : ℕ = firstOf (faultyBlock (length (q .code)) (q .blocks)) 0 (length (q .blocks)) in
-    let r : ℕ = firstOf (strayRet (q .code) (q .blocks)) 0 (length (q .code)) in
-    let last : Listed Routine = ifNot (ltb r (length (q .code))) 5 (getD (w .code) r 0) (read q) in
-    let blocks : Listed Routine = ifNot (ltb b (length (q .blocks))) 5 (getD (w .blocks) b 0) last in
-    low-not s (length s) Any (empty (q .blocks)) 5 (length s) blocks five (omega arith) (λ _.
-    low-not s (length s) Any (ltb b (length (q .blocks))) 5 (getD (w .blocks) b 0) last five (l .blocks b) (λ _.
-    low-not s (length s) Any (ltb r (length (q .code))) 5 (getD (w .code) r 0) (read q) five (l .code r) (λ _. tt)))
-
-low-after : (s : List ℕ) (x : Listed Places) → length s ≤ 65536 → LowListed s (length s) (LowPlaces (length s)) x → LowListed s 65536 Any (afterRecords s x)
-low-after s (read w) h l = raise (ruled (length s) w (routineAt s w)) (low-ruled s w (routineAt s w) l)
-  where
-    raise : (x : Listed Routine) → LowListed s (length s) Any x → LowListed s 65536 Any x
-    raise (read q) k = tt
-    raise nothing k = k
-    raise (S.refused n p) k = (omega (arith, h, k .0), k .1)
-low-after s nothing h l = l
-low-after s (S.refused n p) h l = (omega (arith, h, l .0), l .1)
-
 none-low : (m : ℕ) → LowPlaces m noPlaces
 none-low m = record { blocks = λ i. none i; code = λ i. none i }
   where
@@ -129,13 +132,49 @@ none-low m = record { blocks = λ i. none i; code = λ i. none i }
     none zero = omega arith
     none (suc i) = omega arith
 
+low-from : (s : List ℕ) → LowListed s (length s) (LowPlaces (length s)) (placesFrom (length s) s 0 noPlaces)
+low-from s =
+    let l : ℕ = localsOf (bodyAt s 0) in
+    by-records s (λ p w. LowPlaces (length s) w × Reached s p w) (LowListed s (length s) (LowPlaces (length s)))
+    (record {
+      ends = λ p w h e. h .0;
+      faulty = λ p w h k n x.
+          (omega (arith, k), λ z. (k, early s l (someCode w) p (x ∙ ap some z)), λ z. found s p w (h .1) (late s l (someCode w) p (x ∙ ap some z)));
+      full = λ p w h k. (omega (arith, k), λ z. absurd (omega arith), λ z. absurd (omega arith));
+      goes = λ p w h k x y. (low-put (length s) (kindAt s p) p w (h .0) (omega (arith, k)), reached-next s p w (h .1) x);
+    })
+    (length s) 0 noPlaces (omega arith) (none-low (length s), record { here = foremost; code = λ c. absurd (false≢true c) })
+
+abbrev pub Any : Routine → Type 0
+Any q = Unit {0}
+
+low-ruled : (s : List ℕ) (w : Places) (q : Routine) → LowPlaces (length s) w → LowListed s (length s) Any (ruled (length s) w q)
+low-ruled s w q l =
+    let b : ℕ = firstOf (faultyBlock (length (q .code)) (q .blocks)) 0 (length (q .blocks)) in
+    let r : ℕ = firstOf (strayRet (q .code) (q .blocks)) 0 (length (q .code)) in
+    let last : Listed Routine = ifNot (ltb r (length (q .code))) 5 (getD (w .code) r 0) (read q) in
+    let blocks : Listed Routine = ifNot (ltb b (length (q .blocks))) 5 (getD (w .blocks) b 0) last in
+    low-five s (length s) Any (empty (q .blocks)) (length s) blocks (omega arith) (λ _.
+    low-five s (length s) Any (ltb b (length (q .blocks))) (getD (w .blocks) b 0) last (l .blocks b) (λ _.
+    low-five s (length s) Any (ltb r (length (q .code))) (getD (w .code) r 0) (read q) (l .code r) (λ _. tt)))
+
+low-after : (s : List ℕ) (x : Listed Places) → length s ≤ 65536 → LowListed s (length s) (LowPlaces (length s)) x → LowListed s 65536 Any (afterRecords s x)
+low-after s (read w) h l = raise (ruled (length s) w (routineAt s w)) (low-ruled s w (routineAt s w) l)
+  where
+    raise : (x : Listed Routine) → LowListed s (length s) Any x → LowListed s 65536 Any x
+    raise (read q) k = tt
+    raise nothing k = k
+    raise (S.refused n p) k = (omega (arith, h, k .0), k .1, k .2)
+low-after s nothing h l = l
+low-after s (S.refused n p) h l = (omega (arith, h, l .0), l .1, l .2)
+
 low-records : (s : List ℕ) → LowListed s 65536 Any (afterRecords s (readPlaces s))
 unfolding readPlaces
 low-records s =
     decide (ltb 65536 (length s))
-    (λ e. rw e (omega arith, λ z. absurd (omega arith)))
+    (λ e. rw e (omega arith, λ z. absurd (omega arith), λ z. absurd (omega arith)))
     (λ e. let h : length s ≤ 65536 = ltb-false _ _ e in
-    rw e (low-after s (placesFrom (length s) s 0 noPlaces) h (low-from (length s) s 0 noPlaces (none-low (length s)))))
+    rw e (low-after s (placesFrom (length s) s 0 noPlaces) h (low-from s)))
 
 -- a listing with a byte
 pub low-bytes : (x : ℕ) (xs : List ℕ) → LowListed (x ∷ xs) 65536 Any (readListing (x ∷ xs))

@@ -260,7 +260,7 @@ module _ {A : Type 0} (f : A → Bool) where
   all-drop (suc n) [] h = refl
   all-drop (suc n) (x ∷ xs) h = all-drop n xs (and-r (f x) (all f xs) h)
 
-  all-getD : (xs : List A) (i : ℕ) (d : A) → all f xs ≡ true → f d ≡ true → f (getD xs i d) ≡ true
+  pub all-getD : (xs : List A) (i : ℕ) (d : A) → all f xs ≡ true → f d ≡ true → f (getD xs i d) ≡ true
   all-getD [] i d h k = k
   all-getD (x ∷ xs) zero d h k = and-l (f x) (all f xs) h
   all-getD (x ∷ xs) (suc i) d h k = all-getD xs i d (and-r (f x) (all f xs) h) k

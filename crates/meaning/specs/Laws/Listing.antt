@@ -15,8 +15,8 @@ use Rattle.meaning.specs.Lists.{all, any, empty, upTo}
 use Rattle.meaning.specs.Steps.{Pop, Instr, isRet}
 use Rattle.meaning.specs.Blocks.{instrsOf, Routine}
 use Rattle.meaning.specs.Loop.{Block, noBlock}
-use Rattle.meaning.specs.Listing.{kindAt, bodyAt, nextAt, localsOf, Listed, read, faultAt, Places, fullFor, putAt, ifFine, ifNot, placesFrom, unless, wholeAt, kindInUse, fieldsOf, fitsBody, withinLimits, Field, fieldWidth, fieldRight, fieldWithin, byte, word, words, tokens, frame, fieldsIn, isToken, nothing, refused, noPlaces, Row, instructions, callOf, localIndex, tokenAs, instrIn, instrOf, instrAt, firstOf, overlap, repeats, faultySuccessor, faultyBlock, endsBlock, strayRet, routineAt, readPlaces, afterRecords, readListing}
-use Rattle.meaning.specs.Laws.Base.{and-l, and-r, leb-le, and-i, all-append, leb-gt, eqb-eq, decide, eqb-ne}
+use Rattle.meaning.specs.Listing.{kindAt, bodyAt, nextAt, localsOf, Listed, read, faultAt, Places, fullFor, putAt, ifFine, ifNot, placesFrom, unless, wholeAt, kindInUse, fieldsOf, fitsBody, withinLimits, Field, fieldWidth, fieldRight, fieldWithin, byte, word, words, tokens, frame, fieldsIn, isToken, nothing, refused, noPlaces, someCode, Row, instructions, callOf, localIndex, tokenAs, instrIn, instrOf, instrAt, firstOf, overlap, repeats, faultySuccessor, faultyBlock, endsBlock, strayRet, routineAt, readPlaces, afterRecords, readListing}
+use Rattle.meaning.specs.Laws.Base.{and-l, and-r, leb-le, and-i, all-append, leb-gt, eqb-eq, decide, eqb-ne, not-true}
 use Rattle.meaning.specs.Laws.Promised.{withinFrame, retsPlaced, promised}
 
 -- ---- the records in turn
@@ -28,7 +28,7 @@ places-budget zero zero s at w h k = refl
 places-budget zero (suc g) s at w h k = let e : leb (length s) at ≡ true = (let d : length s ≤ at = omega arith in le-leb _ _ d) in rw e
 places-budget (suc f) zero s at w h k = let e : leb (length s) at ≡ true = (let d : length s ≤ at = omega arith in le-leb _ _ d) in rw e
 places-budget (suc f) (suc g) s at w h k =
-    ap (λ (x : Listed Places). cond (leb (length s) at) (read w) (ifFine (faultAt s (localsOf (bodyAt s 0)) at) at (ifNot (fullFor (kindAt s at) w) 6 at x)))
+    ap (λ (x : Listed Places). cond (leb (length s) at) (read w) (ifFine (faultAt s (localsOf (bodyAt s 0)) (someCode w) at) at (ifNot (fullFor (kindAt s at) w) 6 at x)))
     (places-budget f g s (nextAt s at) (putAt (kindAt s at) at w) (omega arith) (omega arith))
 
 module _ (s : List ℕ) (at : ℕ) (w : Places) where
@@ -38,18 +38,18 @@ module _ (s : List ℕ) (at : ℕ) (w : Places) where
 
   step : (n : ℕ) → length s ≡ n → at < n
       → placesFrom n s at w
-      ≡ ifFine (faultAt s (localsOf (bodyAt s 0)) at) at (ifNot (fullFor (kindAt s at) w) 6 at (placesFrom (length s) s (nextAt s at) (putAt (kindAt s at) at w)))
+      ≡ ifFine (faultAt s (localsOf (bodyAt s 0)) (someCode w) at) at (ifNot (fullFor (kindAt s at) w) 6 at (placesFrom (length s) s (nextAt s at) (putAt (kindAt s at) at w)))
   unfolding placesFrom
   step zero e h = absurd (not-suc-le-zero h)
   step (suc n) e h =
       let d : at < length s = omega arith in
       let q : leb (length s) at ≡ false = lt-leb _ _ d in
-      rw q (ap (λ (x : Listed Places). ifFine (faultAt s (localsOf (bodyAt s 0)) at) at (ifNot (fullFor (kindAt s at) w) 6 at x))
+      rw q (ap (λ (x : Listed Places). ifFine (faultAt s (localsOf (bodyAt s 0)) (someCode w) at) at (ifNot (fullFor (kindAt s at) w) 6 at x))
       (places-budget n (length s) s (nextAt s at) (putAt (kindAt s at) at w) (omega arith) (omega arith)))
 
   pub places-step : at < length s
       → placesFrom (length s) s at w
-      ≡ ifFine (faultAt s (localsOf (bodyAt s 0)) at) at (ifNot (fullFor (kindAt s at) w) 6 at (placesFrom (length s) s (nextAt s at) (putAt (kindAt s at) at w)))
+      ≡ ifFine (faultAt s (localsOf (bodyAt s 0)) (someCode w) at) at (ifNot (fullFor (kindAt s at) w) 6 at (placesFrom (length s) s (nextAt s at) (putAt (kindAt s at) at w)))
   places-step h = step (length s) refl h
 
 -- ---- a record that passed its tests
@@ -64,6 +64,10 @@ beq-true true false e = absurd (false≢true e)
 beq-true false true e = absurd (false≢true e)
 beq-true false false e = refl
 
+beq-refl : (a : Bool) → Bool·beq a a ≡ true
+beq-refl true = refl
+beq-refl false = refl
+
 pub record Passed (s : List ℕ) (l at : ℕ) : Type 0 where
   pub whole : wholeAt s at ≡ true
   pub kind : kindInUse (kindAt s at) ≡ true
@@ -71,15 +75,32 @@ pub record Passed (s : List ℕ) (l at : ℕ) : Type 0 where
   pub fits : fitsBody l (fieldsOf (kindAt s at)) (bodyAt s at) ≡ true
   pub within : withinLimits (fieldsOf (kindAt s at)) (bodyAt s at) ≡ true
 
-pub passed : (s : List ℕ) (l at : ℕ) → faultAt s l at ≡ none → Passed s l at
-unfolding faultAt
-passed s l at e =
-    let a = unless-none (wholeAt s at) 1 _ e in
-    let b = unless-none (kindInUse (kindAt s at)) 2 _ (a .1) in
-    let c = unless-none (Bool·beq (eqb (kindAt s at) 1) (eqb at 0)) 4 _ (b .1) in
-    let d = unless-none (fitsBody l (fieldsOf (kindAt s at)) (bodyAt s at)) 3 _ (c .1) in
-    let g = unless-none (withinLimits (fieldsOf (kindAt s at)) (bodyAt s at)) 6 _ (d .1) in
-    record { whole = a .0; kind = b .0; first = beq-true (eqb (kindAt s at) 1) (eqb at 0) (c .0); fits = d .0; within = g .0 }
+module _ (s : List ℕ) (l : ℕ) (coded : Bool) (at : ℕ) (e : faultAt s l coded at ≡ none) where
+  unfolded : Passed s l at × (not (coded && eqb (kindAt s at) 2) ≡ true)
+  unfolding faultAt
+  unfolded =
+      let a = unless-none (wholeAt s at) 1 _ e in
+      let b = unless-none (kindInUse (kindAt s at)) 2 _ (a .1) in
+      let c = unless-none (Bool·beq (eqb (kindAt s at) 1) (eqb at 0)) 4 _ (b .1) in
+      let o = unless-none (not (coded && eqb (kindAt s at) 2)) 33 _ (c .1) in
+      let d = unless-none (fitsBody l (fieldsOf (kindAt s at)) (bodyAt s at)) 3 _ (o .1) in
+      let g = unless-none (withinLimits (fieldsOf (kindAt s at)) (bodyAt s at)) 6 _ (d .1) in
+      (record { whole = a .0; kind = b .0; first = beq-true (eqb (kindAt s at) 1) (eqb at 0) (c .0); fits = d .0; within = g .0 }, o .0)
+
+  pub passed : Passed s l at
+  passed = unfolded .0
+
+  -- no block after an instruction
+  pub in-order : coded ≡ true → kindAt s at ≢ 2
+  in-order h k = let n : not (coded && eqb (kindAt s at) 2) ≡ true = unfolded .1 in true≢false (sym (rw (h, k) at n))
+
+  -- what passes after an instruction passes before one
+  pub passed-first : faultAt s l false at ≡ none
+  unfolding faultAt
+  passed-first =
+      let p : Passed s l at = unfolded .0 in
+      let b : Bool·beq (eqb (kindAt s at) 1) (eqb at 0) ≡ true = rw (p .first) (beq-refl (eqb at 0)) in
+      rw (p .whole, p .kind, b, p .fits, p .within)
 
 -- a field after another
 pub fits-cons : (l : ℕ) (f : Field) (fs : List Field) (b : List ℕ) → fitsBody l (f ∷ fs) b ≡ true
@@ -143,15 +164,32 @@ abbrev pub fine : Option ℕ → Bool
 fine none = true
 fine (some n) = false
 
-pub fine-none : (x : Option ℕ) → fine x ≡ true → x ≡ none
+fine-none : (x : Option ℕ) → fine x ≡ true → x ≡ none
 fine-none none e = refl
 fine-none (some n) e = absurd (false≢true e)
 
 abbrev pub okBlock : List ℕ → ℕ → Bool
-okBlock s p = fine (faultAt s (localsOf (bodyAt s 0)) p) && eqb (kindAt s p) 2
+okBlock s p = fine (faultAt s (localsOf (bodyAt s 0)) false p) && eqb (kindAt s p) 2
 
 abbrev pub okCode : List ℕ → ℕ → Bool
-okCode s p = fine (faultAt s (localsOf (bodyAt s 0)) p) && (not (eqb (kindAt s p) 1) && not (eqb (kindAt s p) 2))
+okCode s p = fine (faultAt s (localsOf (bodyAt s 0)) false p) && (not (eqb (kindAt s p) 1) && not (eqb (kindAt s p) 2))
+
+module _ (s : List ℕ) (p : ℕ) where
+  abbrev faultless : Bool
+  faultless = fine (faultAt s (localsOf (bodyAt s 0)) false p)
+
+  ok-passed : faultless ≡ true → Passed s (localsOf (bodyAt s 0)) p
+  ok-passed e = passed s (localsOf (bodyAt s 0)) false p (fine-none (faultAt s (localsOf (bodyAt s 0)) false p) e)
+
+  pub ok-block : okBlock s p ≡ true → Passed s (localsOf (bodyAt s 0)) p × (kindAt s p ≡ 2)
+  ok-block e = (ok-passed (and-l faultless (eqb (kindAt s p) 2) e), eqb-eq (and-r faultless (eqb (kindAt s p) 2) e))
+
+  pub ok-code : okCode s p ≡ true → Passed s (localsOf (bodyAt s 0)) p × (kindAt s p ≢ 1) × (kindAt s p ≢ 2)
+  ok-code e =
+      let a : Bool = not (eqb (kindAt s p) 1) in
+      let b : Bool = not (eqb (kindAt s p) 2) in
+      let c : (a && b) ≡ true = and-r faultless (a && b) e in
+      (ok-passed (and-l faultless (a && b) e), eqb-ne (not-true (and-l a b c)), eqb-ne (not-true (and-r a b c)))
 
 pub record Good (s : List ℕ) (w : Places) : Type 0 where
   pub blocks : all (okBlock s) (w .blocks) ≡ true
@@ -165,18 +203,57 @@ refused≢read e = let z : _≡_ {A = ℕ} 0 1 = cc in omega arith
 nothing≢read : {A : Type 0} {a : A} → nothing ≡ read a → ⊥
 nothing≢read e = let z : _≡_ {A = ℕ} 0 1 = cc in omega arith
 
-fine-read : {A : Type 0} (x : Option ℕ) (at : ℕ) (k : Listed A) (a : A) → ifFine x at k ≡ read a → (x ≡ none) × (k ≡ read a)
+pub fine-read : {A : Type 0} (x : Option ℕ) (at : ℕ) (k : Listed A) (a : A) → ifFine x at k ≡ read a → (x ≡ none) × (k ≡ read a)
 fine-read none at k a e = (refl, e)
 fine-read (some n) at k a e = absurd (refused≢read e)
 
-not-read : {A : Type 0} (b : Bool) (n at : ℕ) (k : Listed A) (a : A) → ifNot b n at k ≡ read a → (b ≡ false) × (k ≡ read a)
+pub not-read : {A : Type 0} (b : Bool) (n at : ℕ) (k : Listed A) (a : A) → ifNot b n at k ≡ read a → (b ≡ false) × (k ≡ read a)
 not-read true n at k a e = absurd (refused≢read e)
 not-read false n at k a e = (refl, e)
 
 pub read-inj : {A : Type 0} {a b : A} → read a ≡ read b → a ≡ b
 read-inj e = cc
 
-put-good : (s : List ℕ) (at : ℕ) (w : Places) → faultAt s (localsOf (bodyAt s 0)) at ≡ none → (a b : Bool) → eqb (kindAt s at) 1 ≡ a → eqb (kindAt s at) 2 ≡ b
+-- one induction over the records: P holds of the places so far wherever the reading comes, so R holds of how it ends
+pub record Turns (s : List ℕ) (P : ℕ → Places → Type 0) (R : Listed Places → Type 0) : Type 0 where
+  pub ends : (at : ℕ) (w : Places) → P at w → length s ≤ at → R (read w)
+  pub faulty : (at : ℕ) (w : Places) → P at w → at < length s → (n : ℕ) → faultAt s (localsOf (bodyAt s 0)) (someCode w) at ≡ some n → R (refused n at)
+  pub full : (at : ℕ) (w : Places) → P at w → at < length s → R (refused 6 at)
+  pub goes : (at : ℕ) (w : Places) → P at w → at < length s → faultAt s (localsOf (bodyAt s 0)) (someCode w) at ≡ none → fullFor (kindAt s at) w ≡ false
+      → P (nextAt s at) (putAt (kindAt s at) at w)
+
+module _ (s : List ℕ) (P : ℕ → Places → Type 0) where
+  module _ (R : Listed Places → Type 0) (t : Turns s P R) where
+    tested : (x : Option ℕ) (b : Bool) (at : ℕ) (k : Listed Places) → ((n : ℕ) → x ≡ some n → R (refused n at)) → R (refused 6 at)
+        → (x ≡ none → b ≡ false → R k) → R (ifFine x at (ifNot b 6 at k))
+    tested none true at k f g h = g
+    tested none false at k f g h = h refl refl
+    tested (some n) b at k f g h = f n refl
+
+    pub by-records : (f at : ℕ) (w : Places) → length s ≤ at + f → P at w → R (placesFrom f s at w)
+    unfolding placesFrom
+    by-records zero at w h p = t .ends at w p (omega arith)
+    by-records (suc f) at w h p =
+        decide (leb (length s) at)
+        (λ e. rw e (t .ends at w p (leb-le e)))
+        (λ e. let k : at < length s = leb-gt e in
+        rw e
+        (tested (faultAt s (localsOf (bodyAt s 0)) (someCode w) at) (fullFor (kindAt s at) w) at _ (t .faulty at w p k) (t .full at w p k)
+        (λ x y. by-records f (nextAt s at) (putAt (kindAt s at) at w) (omega arith) (t .goes at w p k x y))))
+
+  pub read-keeps : ((at : ℕ) (w : Places) → P at w → faultAt s (localsOf (bodyAt s 0)) (someCode w) at ≡ none → fullFor (kindAt s at) w ≡ false
+      → P (nextAt s at) (putAt (kindAt s at) at w)) → (at : ℕ) (w v : Places) → P at w → placesFrom (length s) s at w ≡ read v → (e : ℕ) × (length s ≤ e) × P e v
+  read-keeps goes at w v p =
+      by-records (λ (x : Listed Places). x ≡ read v → (e : ℕ) × (length s ≤ e) × P e v)
+      (record {
+        ends = λ i u q h e. (i, h, subst (P i) (read-inj e) q);
+        faulty = λ i u q h n f e. absurd (refused≢read e);
+        full = λ i u q h e. absurd (refused≢read e);
+        goes = λ i u q h x y. goes i u q x y;
+      })
+      (length s) at w (omega arith) p
+
+put-good : (s : List ℕ) (at : ℕ) (w : Places) → faultAt s (localsOf (bodyAt s 0)) false at ≡ none → (a b : Bool) → eqb (kindAt s at) 1 ≡ a → eqb (kindAt s at) 2 ≡ b
     → cond a false (cond b (leb 16 (length (w .blocks))) (leb 512 (length (w .code)))) ≡ false → Good s w
     → Good s (cond a w (cond b (record { blocks = w .blocks ++ (at ∷ []); code = w .code }) (record { blocks = w .blocks; code = w .code ++ (at ∷ []) })))
 put-good s at w e true b p q h g = g
@@ -193,27 +270,15 @@ put-good s at w e false false p q h g = record {
   few = let l : length (w .code) < 512 = leb-gt h in simp length-append (omega arith);
 }
 
-go-good : (s : List ℕ) (at : ℕ) (w v : Places) (b : Bool) (k : Listed Places) → Good s w → (Good s (putAt (kindAt s at) at w) → k ≡ read v → Good s v)
-    → cond b (read w) (ifFine (faultAt s (localsOf (bodyAt s 0)) at) at (ifNot (fullFor (kindAt s at) w) 6 at k)) ≡ read v → Good s v
-go-good s at w v true k g f q = subst (Good s) (read-inj q) g
-go-good s at w v false k g f q =
-    let a = fine-read (faultAt s (localsOf (bodyAt s 0)) at) at _ v q in
-    let b = not-read (fullFor (kindAt s at) w) 6 at _ v (a .1) in
-    f (put-good s at w (a .0) (eqb (kindAt s at) 1) (eqb (kindAt s at) 2) refl refl (b .0) g) (b .1)
-
-pub places-good : (f : ℕ) (s : List ℕ) (at : ℕ) (w v : Places) → Good s w → placesFrom f s at w ≡ read v → Good s v
-unfolding placesFrom
-places-good zero s at w v g e = subst (Good s) (read-inj e) g
-places-good (suc f) s at w v g e =
-    go-good s at w v (leb (length s) at) (placesFrom f s (nextAt s at) (putAt (kindAt s at) at w)) g
-    (λ h q. places-good f s (nextAt s at) (putAt (kindAt s at) at w) v h q) e
-
-pub none-good : (s : List ℕ) → Good s noPlaces
-none-good s = record { blocks = refl; code = refl; few-blocks = omega arith; few = omega arith }
+pub places-good : (s : List ℕ) (v : Places) → placesFrom (length s) s 0 noPlaces ≡ read v → Good s v
+places-good s v e =
+    read-keeps s (λ at w. Good s w)
+    (λ at w g x y. put-good s at w (passed-first s (localsOf (bodyAt s 0)) (someCode w) at x) (eqb (kindAt s at) 1) (eqb (kindAt s at) 2) refl refl y g)
+    0 noPlaces v (record { blocks = refl; code = refl; few-blocks = omega arith; few = omega arith }) e .2
 
 -- the first record passed its tests, and is of kind 1
 pub first-passed : (s : List ℕ) (v : Places) → 0 < length s → placesFrom (length s) s 0 noPlaces ≡ read v → Passed s (localsOf (bodyAt s 0)) 0
-first-passed s v h e = passed s (localsOf (bodyAt s 0)) 0 (fine-read (faultAt s (localsOf (bodyAt s 0)) 0) 0 _ v (sym (places-step s 0 noPlaces h) ∙ e) .0)
+first-passed s v h e = passed s (localsOf (bodyAt s 0)) false 0 (fine-read (faultAt s (localsOf (bodyAt s 0)) false 0) 0 _ v (sym (places-step s 0 noPlaces h) ∙ e) .0)
 
 pub first-kind : (s : List ℕ) (l : ℕ) → Passed s l 0 → kindAt s 0 ≡ 1
 first-kind s l p = eqb-eq (p .first)
@@ -263,9 +328,7 @@ all-map p f g h [] e = refl
 all-map p f g h (x ∷ xs) e = and-i (h x (and-l (p x) (all p xs) e)) (all-map p f g h xs (and-r (p x) (all p xs) e))
 
 ok-fits : (s : List ℕ) (x : ℕ) → okCode s x ≡ true → withinFrame (localsOf (bodyAt s 0)) (instrAt s x) ≡ true
-ok-fits s x e =
-    code-fits s (localsOf (bodyAt s 0)) x (passed s (localsOf (bodyAt s 0)) x
-    (fine-none (faultAt s (localsOf (bodyAt s 0)) x) (and-l (fine (faultAt s (localsOf (bodyAt s 0)) x)) (not (eqb (kindAt s x) 1) && not (eqb (kindAt s x) 2)) e)))
+ok-fits s x e = code-fits s (localsOf (bodyAt s 0)) x (ok-code s x e .0)
 
 none-go : (p : ℕ → Bool) (i n k : ℕ) → i ≤ k → (x : Bool) → p i ≡ x → (r : ℕ) → (ltb r (i + suc n) ≡ false → suc i ≤ k → p k ≡ false)
     → ltb (cond x i r) (i + suc n) ≡ false → p k ≡ false
@@ -458,7 +521,7 @@ accepted-promised s q e =
     let v : Places = a .places in
     let p : Routine = routineAt s v in
     let l : ℕ = localsOf (bodyAt s 0) in
-    let g : Good s v = places-good (length s) s 0 noPlaces v (none-good s) (a .read-so) in
+    let g : Good s v = places-good s v (a .read-so) in
     let w = first-passed s v (a .some) (a .read-so) in
     let f = frame-limits s l 0 w (first-kind s l w) in
     let bs : List Block = p .blocks in

@@ -1,11 +1,11 @@
--- The run of a routine: the bounds of demand 3 with no hypothesis but the reader's promise, and no refusal 8, 9, 16 or 23.
+-- The run of a routine: the bounds of demand 3 with no hypothesis but the reader's promise, and which numbers it may be refused with.
 use Prim.Native.Nat.{ℕ, zero, suc, _≤_, _<_, zero-le}
 use native.Mathlib.Omega.{arith}
 use mathlib.Core.Bool.{Bool, true, false, _&&_, cond, true≢false}
 use mathlib.Core.List.{List, [], _∷_, map}
 use mathlib.Core.Option.{Option, none, some}
-use mathlib.Core.Logic.{_≢_}
-use mathlib.Core.Path.{_≡_, refl, sym, ap, _∙_, subst}
+use mathlib.Core.Logic.{_⊎_, inl, inr}
+use mathlib.Core.Path.{_≡_, sym, ap, _∙_, subst}
 use lib.Dec.{leb, ltb, eqb}
 use lib.ListN.{length, getD, set}
 use lib.Seq.{getD-set-same, getD-set-other, set-out}
@@ -16,7 +16,7 @@ use Rattle.meaning.specs.Blocks.{Routine, exec, instrsOf}
 use Rattle.meaning.specs.Loop.{mostChanges, mostVisits, Result, Block, Status, fine, failed, Slot, Next, at, stopped, Run, visits, Propagation, position, noBlock, blank, afterChange, afterJoin, toKept, toSuccessor, propagate, mark, afterBlock, visitBlock as runLoopBlock, turnAt, turn, turns, startSlots, run, hasEnded, Failure, Verdict, accept, violation, refusal, emptyCell, lowest, verdictFor, verdictAt, verdict}
 use Rattle.meaning.specs.Listing.{read, readListing}
 use Rattle.meaning.specs.Verify.{runWith, runOf, verify}
-use Rattle.meaning.specs.Laws.Base.{decide, both, not-false, and-i, and-l, eqb-no, eqb-eq, eqb-ne, leb-le, leb-gt}
+use Rattle.meaning.specs.Laws.Base.{decide, and-l, and-r, eqb-eq, eqb-ne, leb-le, leb-gt}
 use Rattle.meaning.specs.Laws.Block.{Ends, ends, leaves, breaks, bars, exec-ends, exec-keeps}
 use Rattle.meaning.specs.Laws.First.{first-strong}
 use Rattle.meaning.specs.Laws.Forms.{Strong}
@@ -28,17 +28,17 @@ use Rattle.meaning.specs.Laws.Loop.{Bounds}
 use Rattle.meaning.specs.Laws.Loop as Laws
 use Rattle.meaning.specs.Laws.Verify.{verify-either}
 
--- ---- `ordinary` says what it is to say: a number other than 1, 8, 9, 16 and 23
+-- ---- `ordinary` says what it is to say: 10 to 15, or 20 to 22
 
-pub ordinary-not : (n : ℕ) → ordinary n ≡ true → (n ≢ 1) × (n ≢ 8) × (n ≢ 9) × (n ≢ 16) × (n ≢ 23)
-ordinary-not n h = (no 1 refl, no 8 refl, no 9 refl, no 16 refl, no 23 refl)
-  where
-    no : (k : ℕ) → ordinary k ≡ false → n ≢ k
-    no k f e = both (subst (λ (m : ℕ). ordinary m ≡ true) e h) f
+pub ordinary-is : (n : ℕ) → ordinary n ≡ true → ((10 ≤ n) × (n ≤ 15)) ⊎ ((20 ≤ n) × (n ≤ 22))
+ordinary-is n h =
+    decide (leb 10 n && leb n 15)
+    (λ a. inl (leb-le (and-l (leb 10 n) (leb n 15) a), leb-le (and-r (leb 10 n) (leb n 15) a)))
+    (λ a. let b : (leb 20 n && leb n 22) ≡ true = rw a at h in inr (leb-le (and-l (leb 20 n) (leb n 22) b), leb-le (and-r (leb 20 n) (leb n 22) b)))
 
-pub not-ordinary : (n : ℕ) → n ≢ 1 → n ≢ 8 → n ≢ 9 → n ≢ 16 → n ≢ 23 → ordinary n ≡ true
-not-ordinary n o a b c d =
-    and-i (not-false (eqb-no o)) (and-i (not-false (eqb-no a)) (and-i (not-false (eqb-no b)) (and-i (not-false (eqb-no c)) (not-false (eqb-no d)))))
+numbers : (n : ℕ) → (n ≡ 7) ⊎ (ordinary n ≡ true) → (n ≡ 7) ⊎ (((10 ≤ n) × (n ≤ 15)) ⊎ ((20 ≤ n) × (n ≤ 22)))
+numbers n (inl e) = inl e
+numbers n (inr e) = inr (ordinary-is n e)
 
 -- ---- the run of a routine
 
@@ -201,12 +201,12 @@ module _ (s : List ℕ) (q : Routine) (e : readListing s ≡ read q) where
       zero-le
       (λ _. rw e (visits-bound q (accepted-promised s q e) (mostVisits (length (q .blocks)) (q .locals))))
 
-  pub answer-refusals : (words n p : ℕ) → verify words s .verdict ≡ refusal n p → (n ≢ 1) × (n ≢ 8) × (n ≢ 9) × (n ≢ 16) × (n ≢ 23)
+  pub answer-refusals : (words n p : ℕ) → verify words s .verdict ≡ refusal n p → (n ≡ 7) ⊎ (ordinary n ≡ true)
   unfolding verdict runOf
   answer-refusals words n p h =
-      ordinary-not n (verify-either words s (λ a. a .verdict ≡ refusal n p → ordinary n ≡ true)
-      (λ z. subst (λ (k : ℕ). ordinary k ≡ true) (ap numberIn z) refl)
-      (λ _ z. go (runOf q .next) (refusals q (accepted-promised s q e) (mostVisits (length (q .blocks)) (q .locals))) (rw e at z)) h)
+      verify-either words s (λ a. a .verdict ≡ refusal n p → (n ≡ 7) ⊎ (ordinary n ≡ true))
+      (λ z. inl (sym (ap numberIn z)))
+      (λ _ z. inr (go (runOf q .next) (refusals q (accepted-promised s q e) (mostVisits (length (q .blocks)) (q .locals))) (rw e at z))) h
     where
       none-refused : (f : Option Failure) → verdictFor f ≡ refusal n p → ⊥
       none-refused none z = let y : _≡_ {A = ℕ} 0 1 = cc in omega arith
@@ -215,3 +215,6 @@ module _ (s : List ℕ) (q : Routine) (e : readListing s ≡ read q) where
       go : (x : Next) → NextOk q (accepted-promised s q e) x → verdictAt (q .blocks) (runOf q .slots) x ≡ refusal n p → ordinary n ≡ true
       go (at i) k z = absurd (none-refused (lowest (q .blocks) (runOf q .slots) none) z)
       go (stopped m o) k z = subst (λ (j : ℕ). ordinary j ≡ true) (ap numberIn z) k
+
+  pub answer-numbers : (words n p : ℕ) → verify words s .verdict ≡ refusal n p → (n ≡ 7) ⊎ (((10 ≤ n) × (n ≤ 15)) ⊎ ((20 ≤ n) × (n ≤ 22)))
+  answer-numbers words n p h = numbers n (answer-refusals words n p h)

@@ -1,6 +1,7 @@
 -- Listings read: none, the marked one, and one for each cause of a refusal.
 use mathlib.Core.Bool.{true}
 use mathlib.Core.List.{[], _∷_}
+use mathlib.Core.Option.{some}
 use mathlib.Core.Path.{_≡_, refl}
 use lib.ListN.{take}
 use Rattle.meaning.specs.Lists.{upTo}
@@ -53,6 +54,21 @@ order-2-4 = refl
 pub order-4-3 : readListing (3 ∷ 0 ∷ 1 ∷ 0 ∷ 0 ∷ 1 ∷ 0 ∷ 1 ∷ 0 ∷ 1 ∷ 0 ∷ 9 ∷ []) ≡ refused 4 7
 unfolding u16At wholeAt bodyAt fieldsIn inUse kindInUse fieldsOf fitsBody withinLimits upTo blockOf callOf instrIn instrOf faultAt placesFrom firstOf repeats faultyBlock strayRet blockAt instrAt readPlaces readListing
 order-4-3 = refl
+
+-- A5: a block after an instruction
+pub late-block : readListing (3 ∷ 0 ∷ 1 ∷ 0 ∷ 0 ∷ 1 ∷ 0 ∷ 0 ∷ 0 ∷ 10 ∷ 0 ∷ 5 ∷ 0 ∷ 2 ∷ 0 ∷ 0 ∷ 0 ∷ 0 ∷ 0 ∷ 0 ∷ []) ≡ refused 33 11
+unfolding u16At wholeAt bodyAt fieldsIn inUse kindInUse fieldsOf fitsBody withinLimits upTo blockOf callOf instrIn instrOf faultAt placesFrom firstOf repeats faultyBlock strayRet blockAt instrAt readPlaces readListing
+late-block = refl
+
+-- with a body of one byte: 33 comes before 3
+pub order-33-3 : readListing (3 ∷ 0 ∷ 1 ∷ 0 ∷ 0 ∷ 1 ∷ 0 ∷ 0 ∷ 0 ∷ 10 ∷ 0 ∷ 1 ∷ 0 ∷ 2 ∷ 0 ∷ 0 ∷ []) ≡ refused 33 11
+unfolding u16At wholeAt bodyAt fieldsIn inUse kindInUse fieldsOf fitsBody withinLimits upTo blockOf callOf instrIn instrOf faultAt placesFrom firstOf repeats faultyBlock strayRet blockAt instrAt readPlaces readListing
+order-33-3 = refl
+
+-- 4 comes before 33. No listing shows it, since nothing stands before the first record; the tests of one record do.
+pub order-4-33 : faultAt (0 ∷ 0 ∷ 2 ∷ 0 ∷ []) 1 true 0 ≡ some 4
+unfolding u16At wholeAt inUse kindInUse faultAt
+order-4-33 = refl
 
 -- a call of seventeen parameters that returns a token 3: 3 comes before 6
 pub order-3-6 : readListing (3 ∷ 0 ∷ 1 ∷ 0 ∷ 0 ∷ 1 ∷ 0 ∷ 4 ∷ 0 ∷ 22 ∷ 0 ∷ 17 ∷ 0 ∷ 1 ∷ 3 ∷ []) ≡ refused 3 7
