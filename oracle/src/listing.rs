@@ -57,7 +57,10 @@ impl Routine {
 pub enum Unread {
     /// There is no byte: an empty cell.
     Nothing,
-    Refused { number: u32, place: u32 },
+    Refused {
+        number: u32,
+        place: u32,
+    },
 }
 
 enum Record {
