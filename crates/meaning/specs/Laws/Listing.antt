@@ -3,8 +3,8 @@ use Prim.Native.Nat.{ℕ, zero, suc, _+_, _≤_, _<_, _*_, _-_}
 use native.Mathlib.Omega.{arith}
 use mathlib.Core.Bool.{true, cond, false, Bool, false≢true, Bool·beq, _&&_, not, _||_, true≢false}
 use mathlib.Core.List.{List, _∷_, [], _++_, map}
-use mathlib.Core.Logic.{_≢_}
-use mathlib.Core.Option.{Option, none, some}
+use mathlib.Core.Logic.{_≢_, _⊎_, inl, inr}
+use mathlib.Core.Option.{Option, none, some, Option·none-ne-some}
 use mathlib.Core.Path.{_≡_, refl, ap, subst, sym, _∙_}
 use borrow.Author.Tests.{le-leb, lt-leb, ltb-false, ltb-true, not-false}
 use native.Mathlib.Nat.{not-suc-le-zero, add-suc, suc-add, le-of-suc-le-suc}
@@ -64,16 +64,28 @@ beq-true true false e = absurd (false≢true e)
 beq-true false true e = absurd (false≢true e)
 beq-true false false e = refl
 
-beq-refl : (a : Bool) → Bool·beq a a ≡ true
-beq-refl true = refl
-beq-refl false = refl
-
 pub record Passed (s : List ℕ) (l at : ℕ) : Type 0 where
   pub whole : wholeAt s at ≡ true
   pub kind : kindInUse (kindAt s at) ≡ true
   pub first : eqb (kindAt s at) 1 ≡ eqb at 0
   pub fits : fitsBody l (fieldsOf (kindAt s at)) (bodyAt s at) ≡ true
   pub within : withinLimits (fieldsOf (kindAt s at)) (bodyAt s at) ≡ true
+
+module _ (s : List ℕ) (l : ℕ) (at : ℕ) where
+  -- an instruction before a record can only add 33 to its faults
+  pub only-33 : (coded : Bool) → (faultAt s l coded at ≡ faultAt s l false at) ⊎ (faultAt s l coded at ≡ some 33)
+  unfolding faultAt
+  only-33 coded =
+      decide (coded && eqb (kindAt s at) 2)
+      (λ e. rw e (go (wholeAt s at) (kindInUse (kindAt s at)) (Bool·beq (eqb (kindAt s at) 1) (eqb at 0)) _))
+      (λ e. inl (rw e))
+    where
+      go : (a b c : Bool) (k : Option ℕ) → (unless a 1 (unless b 2 (unless c 4 (some 33))) ≡ unless a 1 (unless b 2 (unless c 4 k)))
+          ⊎ (unless a 1 (unless b 2 (unless c 4 (some 33))) ≡ some 33)
+      go true true true k = inr refl
+      go true true false k = inl refl
+      go true false c k = inl refl
+      go false b c k = inl refl
 
 module _ (s : List ℕ) (l : ℕ) (coded : Bool) (at : ℕ) (e : faultAt s l coded at ≡ none) where
   unfolded : Passed s l at × (not (coded && eqb (kindAt s at) 2) ≡ true)
@@ -96,11 +108,11 @@ module _ (s : List ℕ) (l : ℕ) (coded : Bool) (at : ℕ) (e : faultAt s l cod
 
   -- what passes after an instruction passes before one
   pub passed-first : faultAt s l false at ≡ none
-  unfolding faultAt
-  passed-first =
-      let p : Passed s l at = unfolded .0 in
-      let b : Bool·beq (eqb (kindAt s at) 1) (eqb at 0) ≡ true = rw (p .first) (beq-refl (eqb at 0)) in
-      rw (p .whole, p .kind, b, p .fits, p .within)
+  passed-first = go (only-33 s l at coded)
+    where
+      go : (faultAt s l coded at ≡ faultAt s l false at) ⊎ (faultAt s l coded at ≡ some 33) → faultAt s l false at ≡ none
+      go (inl d) = sym d ∙ e
+      go (inr d) = absurd (Option·none-ne-some 33 (sym e ∙ d))
 
 -- a field after another
 pub fits-cons : (l : ℕ) (f : Field) (fs : List Field) (b : List ℕ) → fitsBody l (f ∷ fs) b ≡ true

@@ -1,7 +1,7 @@
 -- A5: blocks before code. What the bytes of a listing are once it was read, what number 33 is given for, and what stays of document 01's reading.
 use Prim.Native.Nat.{ℕ, zero, suc, _+_, _-_, _≤_, _<_}
 use native.Mathlib.Omega.{arith}
-use mathlib.Core.Bool.{Bool, true, false, cond, not, _&&_, Bool·beq}
+use mathlib.Core.Bool.{Bool, true, false, cond, not}
 use mathlib.Core.List.{List, [], _∷_, _++_, map, map-append, append-assoc, append-nil}
 use mathlib.Core.Logic.{_⊎_, inl, inr}
 use mathlib.Core.Option.{Option, none, some}
@@ -13,10 +13,10 @@ use lib.Seq.{take-add, take-all, getD-take, getD-drop, drop-drop}
 use Rattle.meaning.specs.Limits.{maxBytes}
 use Rattle.meaning.specs.Lists.{all, empty}
 use Rattle.meaning.specs.Blocks.{Routine}
-use Rattle.meaning.specs.Listing.{u16At, kindAt, bodyAt, nextAt, localsOf, wholeAt, kindInUse, Listed, read, refused, unless, faultAt, Places, noPlaces, someCode, fullFor, putAt, ifFine, ifNot, placesFrom, afterRecords, readPlaces, readListing, blockAt, instrAt, routineAt}
+use Rattle.meaning.specs.Listing.{u16At, kindAt, bodyAt, nextAt, localsOf, wholeAt, Listed, read, refused, faultAt, Places, noPlaces, someCode, fullFor, putAt, ifFine, ifNot, placesFrom, afterRecords, readPlaces, readListing, blockAt, instrAt, routineAt}
 use Rattle.meaning.specs.Laws.Base.{decide, leb-le, eqb-eq, and-l, and-r}
 use Rattle.meaning.specs.Laws.Decode.{Bytes, joined, ofWord, word-at, block-body, instr-body}
-use Rattle.meaning.specs.Laws.Listing.{places-step, passed, in-order, fine-read, not-read, read-inj, first-passed, first-kind, read-places, okBlock, okCode, ok-block, ok-code, read-keeps, Good, places-good, Accepted, accepted}
+use Rattle.meaning.specs.Laws.Listing.{places-step, passed, in-order, fine-read, not-read, read-inj, first-passed, first-kind, read-places, okBlock, okCode, ok-block, ok-code, only-33, read-keeps, Good, places-good, Accepted, accepted}
 
 -- ---- a listing that was read is its first record, its blocks and its instructions
 
@@ -203,22 +203,6 @@ pub record Late (s : List ℕ) (p : ℕ) : Type 0 where
   pub instruction : okCode s place ≡ true
 
 -- ---- what stays of document 01's reading
-
-module _ (s : List ℕ) (l : ℕ) (at : ℕ) where
-  -- an instruction before a record can only add 33 to its faults
-  pub only-33 : (coded : Bool) → (faultAt s l coded at ≡ faultAt s l false at) ⊎ (faultAt s l coded at ≡ some 33)
-  unfolding faultAt
-  only-33 coded =
-      decide (coded && eqb (kindAt s at) 2)
-      (λ e. rw e (go (wholeAt s at) (kindInUse (kindAt s at)) (Bool·beq (eqb (kindAt s at) 1) (eqb at 0)) _))
-      (λ e. inl (rw e))
-    where
-      go : (a b c : Bool) (k : Option ℕ) → (unless a 1 (unless b 2 (unless c 4 (some 33))) ≡ unless a 1 (unless b 2 (unless c 4 k)))
-          ⊎ (unless a 1 (unless b 2 (unless c 4 (some 33))) ≡ some 33)
-      go true true true k = inr refl
-      go true true false k = inl refl
-      go true false c k = inl refl
-      go false b c k = inl refl
 
 -- document 01: "Block and instruction records may stand mixed."
 unfoldable pub mixedFrom : ℕ → List ℕ → ℕ → Places → Listed Places
