@@ -28,8 +28,8 @@ extern "C" {
 
 /*
  * What a call needs besides the area: this many bytes of stack below the caller's frame. The deepest path of calls in the machine code takes
- * 43,528 bytes, and what memcpy takes comes on top; the code neither recurses nor calls by pointer, so no listing takes more. On a painted
- * stack 4,428 listings took up to 43,352 bytes. bench/stack/run measures both again; another kit may compile to other frames.
+ * 43,560 bytes, and what memcpy takes comes on top; the code neither recurses nor calls by pointer, so no listing takes more. On a painted
+ * stack 4,428 listings took up to 43,384 bytes. bench/stack/run measures both again; another kit may compile to other frames.
  */
 #define BUSLATIM_STACK_BYTES 49152
 

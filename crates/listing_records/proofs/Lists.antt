@@ -4,7 +4,7 @@ use mathlib.Core.Path.{_≡_, refl, sym, ap, subst, _∙_}
 use mathlib.Core.Logic.{_⊎_, inl, inr}
 use mathlib.Core.Bool.{Bool, true, false, _||_}
 use mathlib.Core.List.{List, [], _∷_, _++_, map}
-use Prim.Native.Nat.{ℕ, zero, suc, _+_, _≤_, _<_}
+use Prim.Native.Nat.{ℕ, zero, suc, _+_, _-_, _≤_, _<_}
 use native.Mathlib.Nat.{not-suc-le-zero, le-of-suc-le-suc}
 use native.Mathlib.Numerals.{add-one}
 use native.Mathlib.Omega.{arith}
@@ -58,7 +58,7 @@ module _ {A B : Type 0} (g : A → B) (f : ℕ → B) (out : List A) (i : ℕ) (
   pub filled : i < length out → map g (take i out) ≡ upTo i f → g v ≡ f i → map g (take (i + 1) (set out i v)) ≡ upTo (i + 1) f
   filled h e w = rw (upTo-more, add-one, take-suc-set out i v, map-append, e, w)
 
-pub map-id : (xs : List ℕ) → map (λ x. x) xs ≡ xs
+pub map-id : {A : Type 0} (xs : List A) → map (λ x. x) xs ≡ xs
 map-id [] = refl
 map-id (x ∷ xs) = ap (λ l. x ∷ l) (map-id xs)
 
@@ -66,6 +66,12 @@ pub map-upTo : {A B : Type 0} (g : A → B) (n : ℕ) (f : ℕ → A) → map g 
 unfolding upTo
 map-upTo g zero f = refl
 map-upTo g (suc n) f = ap (λ l. g (f 0) ∷ l) (map-upTo g n (λ k. f (suc k)))
+
+pub upTo-all : (p : ℕ → Bool) (n : ℕ) (f : ℕ → ℕ) → all p (upTo n f) ≡ true → (i : ℕ) → i < n → p (f i) ≡ true
+unfolding upTo
+upTo-all p zero f e i h = absurd (not-suc-le-zero h)
+upTo-all p (suc n) f e zero h = and-l (p (f 0)) (all p (upTo n (λ j. f (suc j)))) e
+upTo-all p (suc n) f e (suc i) h = upTo-all p n (λ j. f (suc j)) (and-r (p (f 0)) (all p (upTo n (λ j. f (suc j)))) e) i (le-of-suc-le-suc h)
 
 -- a number that is n or more, and not n
 pub up : (n k : ℕ) → n ≤ k → (k ≡ n → ⊥) → n + 1 ≤ k
@@ -102,3 +108,7 @@ every-at P (suc n) e i h =
     decide (eqb i n)
     (λ q. subst P (sym (eqb-eq q)) (e .1))
     (λ q. let d : (i ≡ n → ⊥) = eqb-ne q in every-at P n (e .0) i (omega arith))
+
+-- the same of the n numbers from a on
+pub ranged : (P : ℕ → Type 0) (a n : ℕ) → Every (λ i. P (a + i)) n → (k : ℕ) → a ≤ k → k < a + n → P k
+ranged P a n e k l h = let w : a + (k - a) ≡ k = omega arith in subst P w (every-at (λ i. P (a + i)) n e (k - a) (omega arith))

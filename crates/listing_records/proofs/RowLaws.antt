@@ -15,6 +15,7 @@ use Rattle.meaning.specs.Lists.{all, upTo}
 use Rattle.meaning.specs.Laws.Base.{and-l, and-r, and-i, le-leb, leb-le, eqb-eq}
 use Rattle.meaning.specs.Listing as D
 use Rattle.listing_records.specs.Models.{bodyLimits, padded, limitRow, limitRows, keepsTo, placeFault, bodyFault}
+use Rattle.listing_records.proofs.Lists.{upTo-all}
 use Rattle.listing_records.proofs.Laws.{fault-body, inside}
 
 -- each byte is below its limit, and there are as many bytes as limits
@@ -98,12 +99,6 @@ unfolding upTo
 upTo-at zero f d i h = absurd (not-suc-le-zero h)
 upTo-at (suc n) f d zero h = refl
 upTo-at (suc n) f d (suc i) h = upTo-at n (λ j. f (suc j)) d i (le-of-suc-le-suc h)
-
-upTo-all : (p : ℕ → Bool) (n : ℕ) (f : ℕ → ℕ) → all p (upTo n f) ≡ true → (i : ℕ) → i < n → p (f i) ≡ true
-unfolding upTo
-upTo-all p zero f e i h = absurd (not-suc-le-zero h)
-upTo-all p (suc n) f e zero h = and-l (p (f 0)) (all p (upTo n (λ j. f (suc j)))) e
-upTo-all p (suc n) f e (suc i) h = upTo-all p n (λ j. f (suc j)) (and-r (p (f 0)) (all p (upTo n (λ j. f (suc j)))) e) i (le-of-suc-le-suc h)
 
 -- a kind that is in use, whose limits are within the row
 abbrev rowRight : ℕ → ℕ → Bool

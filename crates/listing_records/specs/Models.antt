@@ -1,5 +1,5 @@
 -- What the structs of the code mean in the definitions.
-use Prim.Native.Nat.{ℕ, zero, suc, _+_, _/_, _%_, _≤_, _<_, min}
+use Prim.Native.Nat.{ℕ, zero, suc, _+_, _/_, _%_, _≤_, min}
 use mathlib.Core.Path.{_≡_}
 use mathlib.Core.Bool.{Bool, true, false, cond, not, _&&_, Bool·beq}
 use mathlib.Core.List.{List, [], _∷_, _++_}
@@ -42,16 +42,6 @@ packed (suc n) x = cond (eqb x 0) [] (fieldOf (x % 16) ∷ packed n (x / 16))
 
 abbrev pub fieldsIn : Shape → List D.Field
 fieldsIn r = packed 4 (r .fields)
-
--- the kinds, as the rows of the code's table stand
-abbrev pub kinds : List ℕ
-kinds = 1 ∷ 2 ∷ 10 ∷ 11 ∷ 12 ∷ 13 ∷ 14 ∷ 15 ∷ 16 ∷ 17 ∷ 18 ∷ 19 ∷ 20 ∷ 21 ∷ 22 ∷ 23 ∷ 24 ∷ 25 ∷ 26 ∷ 27 ∷ []
-
-pub record RowFor (kind r : ℕ) : Type 0 where
-  pub small : r ≤ 20
-  pub here : r < 20 → getD kinds r 0 ≡ kind
-  pub none : r ≡ 20 → D.kindInUse kind ≡ false
-  pub bare : r ≡ 20 → D.fieldsOf kind ≡ []
 
 pub record ShapeFor (kind : ℕ) (r : Shape) : Type 0 where
   pub known : r .known ≡ D.kindInUse kind
