@@ -12,7 +12,7 @@ use listing::Block;
 use meaning::MAX_BLOCKS;
 
 // The failed block of the lowest entry so far. Where none is found the other fields are free.
-#[derive(Drop)]
+#[derive(Clone, Copy)]
 pub(crate) struct LowestFailure {
     pub found: bool,
     pub entry: CodeOffset,

@@ -14,7 +14,7 @@ use file_format::CodeOffset;
 use meaning::{EDGE_WORDS, MAX_EDGES, MAX_NAMES};
 
 // `present` false: there is none yet, and what the arrays and the state hold is free.
-#[derive(Drop)]
+#[derive(Clone, Copy)]
 pub(crate) struct Start {
     pub present: bool,
     pub state: AbstractState,

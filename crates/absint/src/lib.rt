@@ -3,6 +3,8 @@
 //   here      the Rust
 //   verify    mod.rs 47 `verify`
 //   analyze   the same, with the kept states left to be looked at
+#![tactic(auto)]
+
 mod failure;
 mod interpreter;
 mod kept;
@@ -22,7 +24,7 @@ use file_format::CodeOffset;
 use listing::{Reading, read_listing};
 use meaning::{AREA_WORDS, MAX_INSTRUCTIONS};
 
-#[derive(Drop)]
+#[derive(Clone, Copy)]
 pub enum Ruling {
     Accept,
     // The code, the offset of the instruction, and that of the lowest borrow behind it.
@@ -34,7 +36,7 @@ pub enum Ruling {
 }
 
 // `blurred`: how many sets were blurred in the run.
-#[derive(Drop)]
+#[derive(Clone, Copy)]
 pub struct Verdict {
     pub ruling: Ruling,
     pub visits: u32,

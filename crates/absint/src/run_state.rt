@@ -13,7 +13,7 @@ use file_format::CodeOffset;
 use meaning::MAX_BLOCKS;
 
 // The rest is free where the block has not failed.
-#[derive(Drop)]
+#[derive(Clone, Copy)]
 pub(crate) struct BlockPostcondition {
     pub failed: bool,
     pub code: u8,
@@ -23,7 +23,7 @@ pub(crate) struct BlockPostcondition {
 
 // `next` counts until the run is stopped, `number` and `place` from then on; the others are free. `turns` counts visits and blocks passed
 // over, `blurred` the sets blurred in visits and joins.
-#[derive(Drop)]
+#[derive(Clone, Copy)]
 pub(crate) struct RunState {
     pub next: usize,
     pub stopped: bool,

@@ -6,6 +6,8 @@
 //   load      92 `inv_map.get_mut(&block_id)`
 //   store     83 and 146 `inv_map.insert`
 //   forget    80 `InvariantMap::new`
+#![tactic(auto)]
+
 mod read;
 mod write;
 
@@ -27,7 +29,7 @@ const REFS_AT: usize = LOCALS;
 const EDGES_AT: usize = 64;
 
 // Whether a block has a state to start from, and how many names and edges that one has.
-#[derive(Drop)]
+#[derive(Clone, Copy)]
 pub struct Kept {
     pub present: bool,
     pub refs: usize,

@@ -13,21 +13,21 @@ use references::RefID;
 // The words of the locals.
 pub const LOCALS: usize = MAX_LOCALS as usize;
 
-#[derive(Drop)]
+#[derive(Clone, Copy)]
 pub enum AbstractValue {
     Reference(RefID),
     NonReference,
 }
 
 // Where it is not present, the value is free.
-#[derive(Drop)]
+#[derive(Clone, Copy)]
 pub struct Local {
     pub present: bool,
     pub value: AbstractValue,
 }
 
 // Operands as words. What lies from `len` on is free; a `len` beyond 16 reads as 16.
-#[derive(Drop)]
+#[derive(Clone, Copy)]
 pub struct Operands {
     pub list: [u32; MAX_OPERANDS],
     pub len: usize,
@@ -38,7 +38,7 @@ pub struct Operands {
 // `value` is what the last step answered, if it answers a value, else free. `offset` is that of the instruction that runs, and new edges get it.
 // The frame root has the name `num_locals`, and `next_id` is the next fresh name. `blurred` counts the sets that the graph calls have blurred; it
 // stays at the most that it can hold.
-#[derive(Drop)]
+#[derive(Clone, Copy)]
 pub struct AbstractState {
     pub violation: u8,
     pub borrowed_at: CodeOffset,

@@ -9,6 +9,8 @@
 //   return_values, return_value, return_ref   522 "Track borrow relationships of return values on inputs"
 //   ret                                       552 `ret`
 //   fail_frame                                562 "Check that no local or global is borrowed"
+#![tactic(auto)]
+
 mod ids;
 
 ghost use Rattle.core.specs.Prelude.{◌≡◌, ℕ, List, [], ◌∷◌, map, take, ◌≢◌};
@@ -40,7 +42,7 @@ use references::rows::LabelFilter;
 const NO_RESOURCE: u32 = 65536;
 
 // What a call leaves, and the values that it returns. Where the state has stopped, the values are free.
-#[derive(Drop)]
+#[derive(Clone, Copy)]
 pub struct Called {
     pub state: AbstractState,
     pub values: Operands,

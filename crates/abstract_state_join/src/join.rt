@@ -27,7 +27,7 @@ use meaning::{EDGE_WORDS, MAX_EDGES, MAX_NAMES, lesser};
 use references::RefID;
 
 // What the join of two locals does to the graphs.
-#[derive(Drop)]
+#[derive(Clone, Copy)]
 pub(crate) enum Action {
     ReleaseOurs(RefID),
     ReleaseTheirs(RefID),
@@ -35,7 +35,7 @@ pub(crate) enum Action {
 }
 
 // What it leaves of the two locals, and what it does. Where it is idle, the action is free.
-#[derive(Drop)]
+#[derive(Clone, Copy)]
 pub(crate) struct Meeting {
     pub local: Local,
     pub idle: bool,
@@ -43,7 +43,7 @@ pub(crate) struct Meeting {
 }
 
 // A refusal's number, or 0, the graphs after the releases, and how many sets these blurred.
-#[derive(Drop)]
+#[derive(Clone, Copy)]
 pub(crate) struct Parts {
     pub refusal: u8,
     pub ours: BorrowGraph,
@@ -53,7 +53,7 @@ pub(crate) struct Parts {
 
 // A refusal's number, or 0, the state, and how many sets were blurred; refused, what it and the arrays hold is free, and none. The state's
 // `value` is free.
-#[derive(Drop)]
+#[derive(Clone, Copy)]
 pub(crate) struct Answer {
     pub refusal: u8,
     pub state: AbstractState,
@@ -62,7 +62,7 @@ pub(crate) struct Answer {
 
 // A refusal's number, or 0 and the state; refused, the state that was handed over. And whether the state was changed, and how many sets the
 // releases and the join of the graphs blurred; refused, none.
-#[derive(Drop)]
+#[derive(Clone, Copy)]
 pub struct Joined {
     pub refusal: u8,
     pub changed: bool,

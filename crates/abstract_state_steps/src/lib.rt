@@ -16,6 +16,8 @@
 //   move_from                446 `move_from`
 //   vector_op                458 `vector_op`
 //   vector_element_borrow    472 `vector_element_borrow`
+#![tactic(auto)]
+
 ghost use Rattle.core.specs.Prelude.{◌≡◌, ℕ, List, ◌≢◌};
 ghost use Rattle.meaning.specs.Limits.{BORROWFIELD_EXISTS_MUTABLE_BORROW, GLOBAL_REFERENCE};
 ghost use Rattle.meaning.specs.Answers as Out;

@@ -1,4 +1,6 @@
 // The reader for a driver in Rust or C (bench/).
+#![tactic(auto)]
+
 ghost use Rattle.std.specs.Prelude.{◌≡◌};
 ghost use Rattle.meaning.specs.Listing.{read_listing};
 ghost use Rattle.bench_listing.specs.Number.{number_of};

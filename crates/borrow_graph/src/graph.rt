@@ -27,7 +27,7 @@ use references::words::name_word;
 
 // How many names and edges there are, and whether they are well formed: the answer to document 01's test for 9, kept so that it is tested
 // once. `measure` makes one for any words.
-#[derive(Drop)]
+#[derive(Clone, Copy)]
 pub struct BorrowGraph {
     pub refs: usize,
     pub edges: usize,
@@ -35,14 +35,14 @@ pub struct BorrowGraph {
 }
 
 // A refusal's number, or 0, and the graph; refused, the graph as it was.
-#[derive(Drop)]
+#[derive(Clone, Copy)]
 pub struct Answer {
     pub refusal: u8,
     pub graph: BorrowGraph,
 }
 
 // A refusal's number, or 0 and the answer to a question. Beside a refusal `yes` is free.
-#[derive(Drop)]
+#[derive(Clone, Copy)]
 pub struct YesOrNo {
     pub refusal: u8,
     pub yes: bool,
@@ -52,7 +52,7 @@ pub struct YesOrNo {
 pub const NO_OFFSET: u32 = 65536;
 
 // A refusal's number, or 0 and the lowest offset among the edges that were asked for. Beside a refusal it is free.
-#[derive(Drop)]
+#[derive(Clone, Copy)]
 pub struct Lowest {
     pub refusal: u8,
     pub offset: u32,
@@ -60,7 +60,7 @@ pub struct Lowest {
 
 // A refusal's number, or 0 and the lowest offsets among the empty-path borrows, among those that count, and among those that count with a
 // mutable borrower. Beside a refusal the three are free.
-#[derive(Drop)]
+#[derive(Clone, Copy)]
 pub struct BorrowedBy {
     pub refusal: u8,
     pub full: u32,
@@ -69,7 +69,7 @@ pub struct BorrowedBy {
 }
 
 // A refusal's number, or 0 and how many names or edges were found. Beside a refusal `len` is free.
-#[derive(Drop)]
+#[derive(Clone, Copy)]
 pub struct Found {
     pub refusal: u8,
     pub len: usize,

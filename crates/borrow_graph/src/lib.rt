@@ -1,4 +1,6 @@
 // The labelled borrow graph (graph.rs) on its arrays: names of 48 words, edges of 96 rows.
+#![tactic(auto)]
+
 pub mod cover;
 pub mod graph;
 pub mod lookups;

@@ -22,7 +22,7 @@ use references::RefID;
 use references::rows::{LabelFilter, child, labels, meets, offset, parent};
 
 // The edges that are looked up: those from a name, to a name, or between two.
-#[derive(Drop)]
+#[derive(Clone, Copy)]
 pub(crate) enum Ends {
     From(RefID),
     To(RefID),

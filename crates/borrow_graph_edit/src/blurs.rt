@@ -15,7 +15,7 @@ use references::rows::{child, is_blurred, parent};
 use references::set::Report;
 
 // A refusal's number, or 0, how many edges there are, and how many sets were blurred just now; refused, none.
-#[derive(Drop)]
+#[derive(Clone, Copy)]
 pub(crate) struct Changed {
     pub refusal: u8,
     pub edges: usize,
@@ -24,7 +24,7 @@ pub(crate) struct Changed {
 
 // What a borrow, a release or a join answers: a refusal's number, or 0, the graph and how many of its sets were blurred just now; refused, the
 // graph as it was, and none.
-#[derive(Drop)]
+#[derive(Clone, Copy)]
 pub struct Blurring {
     pub refusal: u8,
     pub graph: BorrowGraph,

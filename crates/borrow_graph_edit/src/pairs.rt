@@ -17,28 +17,28 @@ use references::rows::{is_blurred, side, tagged};
 use references::set::{BorrowEdgeSet, len};
 
 // The set of a pair, and how many edges stand before it.
-#[derive(Drop)]
+#[derive(Clone, Copy)]
 pub(crate) struct PairSet {
     pub low: usize,
     pub set: BorrowEdgeSet,
 }
 
 // How many edges stand before a pair's, and how many the pair has.
-#[derive(Drop)]
+#[derive(Clone, Copy)]
 pub(crate) struct PairPlace {
     pub low: usize,
     pub size: usize,
 }
 
 // A refusal's number, or 0, and how many edges there are. Beside a refusal what the array holds is free, unless a function says more.
-#[derive(Drop)]
+#[derive(Clone, Copy)]
 pub(crate) struct Replaced {
     pub refusal: u8,
     pub edges: usize,
 }
 
 // A refusal's number, or 0, and the set after several inserts; refused, the set is free.
-#[derive(Drop)]
+#[derive(Clone, Copy)]
 pub(crate) struct Filled {
     pub refusal: u8,
     pub set: BorrowEdgeSet,

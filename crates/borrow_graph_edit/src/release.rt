@@ -297,7 +297,7 @@ fn release_through(edges: &mut [[u32; EDGE_WORDS]; MAX_EDGES], m: usize, id: Ref
 }
 
 // The edges on one side of a name: none, a single one in the row `at`, or several.
-#[derive(Drop)]
+#[derive(Clone, Copy)]
 pub(crate) struct Side {
     pub empty: bool,
     pub single: bool,
@@ -305,7 +305,7 @@ pub(crate) struct Side {
 }
 
 // The edges to a name, and from it.
-#[derive(Drop)]
+#[derive(Clone, Copy)]
 pub(crate) struct Touching {
     pub to: Side,
     pub from: Side,
@@ -313,7 +313,7 @@ pub(crate) struct Touching {
 
 // What a release puts in, one row or nothing, where it is `known` without the passes; else the other fields are free. Where it is
 // nothing, so is the row.
-#[derive(Drop)]
+#[derive(Clone, Copy)]
 pub(crate) struct OneWay {
     pub known: bool,
     pub one: bool,

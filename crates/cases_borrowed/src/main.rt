@@ -1,5 +1,7 @@
 // Reads listings from standard input, each after three bytes with its length, runs the whole check on each, and writes the lines that the loader
 // prints for it.
+#![tactic(auto)]
+
 ghost use Rattle.std.specs.Prelude.{◌≡◌, ◌+◌, ◌≤◌, length};
 ghost use Rattle.meaning.specs.Limits.{area_words};
 ghost use Rattle.loader_line.specs.Models.{Within};

@@ -1,5 +1,7 @@
 // Reads listings from standard input, each after three bytes with its length, and writes for each a line with the number and the place
 // of its refusal, or 0 and how many instructions it has, or EMPTY where it has no byte.
+#![tactic(auto)]
+
 ghost use Rattle.std.specs.Prelude.{◌≡◌, ◌+◌, ◌≤◌, length};
 
 use libc::{STDIN_FILENO, STDOUT_FILENO};

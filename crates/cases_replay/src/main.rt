@@ -1,6 +1,8 @@
 // Replays the stored list of the oracle's answers, from standard input: oracle/README.md says how it was made, oracle/src/stored.rs its
 // format. Prints how many answers are stored and how many of ours agree, with their visits, blurred sets and borrows, after a line for each entry
 // that does not.
+#![tactic(auto)]
+
 ghost use Rattle.std.specs.Prelude.{◌≡◌, ◌+◌, ◌≤◌, length};
 ghost use Rattle.meaning.specs.Limits.{area_words};
 

@@ -1,5 +1,7 @@
 // Reads listings from standard input, each after three bytes with its length, runs the first block of each from the routine's first state,
 // and writes for each a line with the violation or refusal and its offset; zeros where the block ends; EMPTY where there is no byte.
+#![tactic(auto)]
+
 ghost use Rattle.std.specs.Prelude.{◌≡◌, ◌+◌, ◌≤◌, length};
 
 use abstract_state::state::LOCALS;

@@ -1,12 +1,14 @@
 // The numbers of a listing that must not stand for one another (file_format.rs), and the token of a type.
 
-#[derive(Drop)]
+#![tactic(auto)]
+
+#[derive(Clone, Copy)]
 pub struct LocalIndex(pub u8);
 
-#[derive(Drop)]
+#[derive(Clone, Copy)]
 pub struct CodeOffset(pub u16);
 
-#[derive(Drop)]
+#[derive(Clone, Copy)]
 pub enum SignatureToken {
     Value,
     Reference,

@@ -10,7 +10,7 @@ use listing_records::{Cursor, body, byte_at, u16_at};
 use meaning::{MAX_ACQUIRED, MAX_RETURNS, ROOM};
 
 // One variant for each kind of instruction record.
-#[derive(Drop)]
+#[derive(Clone, Copy)]
 pub enum Instruction {
     Pop,
     CopyLoc(LocalIndex),
@@ -38,7 +38,7 @@ pub enum Instruction {
 }
 
 // An instruction, and for a call the numbers that it acquires and the tokens (0, 1, 2) of what it returns. Slots from a count on are free.
-#[derive(Drop)]
+#[derive(Clone, Copy)]
 pub struct Decoded {
     pub instruction: Instruction,
     pub acquired: [u16; ROOM],

@@ -1,4 +1,6 @@
 // The listing of one routine (document 01): its bytes are read into a routine, are none, or are refused by a number of 1 to 6 or by 33 with a place.
+#![tactic(auto)]
+
 pub mod decode;
 mod rules;
 
@@ -15,7 +17,7 @@ use listing_records::{Cursor, Places, body, byte_at, place, read_places, u16_at}
 use meaning::{MAX_BLOCKS, MAX_INSTRUCTIONS, ROOM};
 
 // A block: its first and its last instruction, and the entries of its successors, of which `count` (0 to 2) are in use.
-#[derive(Drop)]
+#[derive(Clone, Copy)]
 pub struct Block {
     pub entry: CodeOffset,
     pub exit: CodeOffset,
@@ -26,7 +28,7 @@ pub struct Block {
 
 // A routine that was read: the tokens (0, 1, 2) of its parameters, L, the number of its returns, how many instructions it has, and the blocks
 // in listed order. Where the record of each instruction starts stands beside, in an array that the caller lends. Slots from a count on are free.
-#[derive(Drop)]
+#[derive(Clone, Copy)]
 pub struct Routine {
     pub params: [u8; ROOM],
     pub param_count: usize,
@@ -37,7 +39,7 @@ pub struct Routine {
     pub block_count: usize,
 }
 
-#[derive(Drop)]
+#[derive(Clone, Copy)]
 pub enum Reading {
     Read,
     // There was no byte to read: an empty cell.
@@ -47,7 +49,7 @@ pub enum Reading {
 }
 
 // How the reading ended, and the routine. Where none was read it is free: every choice has at most 16 blocks.
-#[derive(Drop)]
+#[derive(Clone, Copy)]
 pub struct Listed {
     pub reading: Reading,
     pub routine: Routine,

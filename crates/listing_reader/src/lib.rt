@@ -1,5 +1,7 @@
 // The listing reader (document 01): a struct that holds the lent bytes and where the next record starts. It is thin over the cursor
 // of `listing_records`: each function takes the struct apart and calls one that takes the bytes and a place.
+#![tactic(auto)]
+
 ghost use Rattle.std.specs.Prelude.{◌≡◌};
 ghost use Rattle.meaning.specs.Listing.{body_at};
 ghost use Rattle.listing_records.specs.Models.{found_of, found_at};
@@ -7,14 +9,14 @@ ghost use Rattle.listing_reader.specs.Models.{StepFor, onward};
 
 use listing_records::{Cursor, Found, body, read};
 
-#[derive(Drop)]
+#[derive(Clone, Copy)]
 pub struct Reader<'a> {
     pub listing: &'a [u8],
     pub at: usize,
 }
 
 // What stands at a place, and where the next record starts: the same place, if no whole record stands there.
-#[derive(Drop)]
+#[derive(Clone, Copy)]
 struct Step {
     found: Found,
     at: usize,

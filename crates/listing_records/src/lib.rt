@@ -1,4 +1,6 @@
 // The records of a listing (document 01, request A5): a cursor over the lent bytes, a record's body, its tests, and where all records start.
+#![tactic(auto)]
+
 pub mod shapes;
 
 ghost use Rattle.std.specs.Prelude.{◌≡◌, ◌+◌, ◌≤◌, ◌<◌, [], ltb, length, get_or, take, drop};
@@ -12,13 +14,13 @@ use meaning::{
 };
 use shapes::{ACQUIRED, FLAG, LOCAL, PARAMETERS, RET, RETURNS, SUCCESSORS, Shape, TOKEN, WORD};
 
-#[derive(Drop)]
+#[derive(Clone, Copy)]
 pub struct Cursor {
     pub at: usize,
 }
 
 // What stands at a cursor; `found_of` gives each case's number and values.
-#[derive(Drop)]
+#[derive(Clone, Copy)]
 pub enum Found {
     // A whole record; the next one starts at `next`.
     Record { kind: u16, next: Cursor },
@@ -160,7 +162,7 @@ fn limit_of(f: u16, locals: u8) -> u16
 
 // How many bytes a field takes; if it does not run past the end, that it holds what it may (else refusal 3); and if it does hold that,
 // that it is within the limits (else refusal 6).
-#[derive(Drop)]
+#[derive(Clone, Copy)]
 struct Field {
     width: usize,
     right: bool,
@@ -235,7 +237,7 @@ fn test_body(b: &[u8], shape: Shape, locals: u8) -> u8
 
 // `number` is 1, 2, 4, 33, 3, 6, or 0 where none of these tests fails; then `kind` and `next` are the record's. Beside another number they
 // are free, and nothing is said of them.
-#[derive(Drop)]
+#[derive(Clone, Copy)]
 struct Test {
     number: u8,
     kind: u16,
@@ -339,7 +341,7 @@ fn test_by_row(s: &[u8], at: usize, locals: u8, coded: bool, rows: &[[u16; 6]; 1
 
 // How the reading ended: a refusal with its number and place (number 0: none), how many block records and instruction records there are, and
 // how many instructions stand before the first Ret. Beside a refusal the counts are free: every choice is within the limits.
-#[derive(Drop)]
+#[derive(Clone, Copy)]
 pub struct Places {
     pub number: u8,
     pub place: usize,

@@ -27,7 +27,7 @@ pub const RET: u16 = 23;
 
 // A kind's body, field by field: the first field is the last hexadecimal digit, and so on up to a digit 0. A kind that is not known has
 // no fields.
-#[derive(Drop)]
+#[derive(Clone, Copy)]
 pub struct Shape {
     pub known: bool,
     pub fields: u16,

@@ -1,4 +1,6 @@
 // Reads a listing from standard input to its end, and prints the line of its verdict. Where a read fails it prints nothing.
+#![tactic(auto)]
+
 ghost use Rattle.std.specs.Prelude.{◌≡◌, length};
 ghost use Rattle.meaning.specs.Limits.{area_words};
 ghost use Rattle.io.specs.Counts.{IsPrefixLen};
@@ -9,7 +11,7 @@ use loader_line::{Line, answer_line};
 use meaning::{AREA_WORDS, MAX_BYTES};
 
 // The bytes at the start of a buffer that were read.
-#[derive(Drop)]
+#[derive(Clone, Copy)]
 struct Input {
     count: usize,
     failed: bool,

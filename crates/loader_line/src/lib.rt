@@ -1,4 +1,6 @@
 // What the loader prints for a verdict.
+#![tactic(auto)]
+
 ghost use Rattle.std.specs.Prelude.{◌≡◌, [], ◌++◌, ◌+◌, ◌≤◌, length};
 ghost use Rattle.meaning.specs.Area.{cleared};
 ghost use Rattle.meaning.specs.Verify as Whole;
@@ -9,7 +11,7 @@ ghost use Rattle.loader_line.specs.Models.{text_of, Within};
 use absint::{Ruling, Verdict, verify};
 
 // Lines in the making, with room for the longest and more. Bytes from `len` on are free.
-#[derive(Drop)]
+#[derive(Clone, Copy)]
 pub struct Line {
     pub bytes: [u8; 96],
     pub len: usize,

@@ -11,6 +11,8 @@
 //   push          `stack.push`, as at 147
 //   push_values   the loop of `unpack`, 119
 //   push_all      the loop of `call`, 95
+#![tactic(auto)]
+
 pub mod value;
 
 ghost use Rattle.std.specs.Prelude.{◌≡◌, [], ◌∷◌, length, replicate};
@@ -24,28 +26,28 @@ use abstract_state::words::{value_of, value_word};
 use meaning::{MAX_OPERANDS, lesser};
 use references::RefID;
 
-#[derive(Drop)]
+#[derive(Clone, Copy)]
 pub struct Popped {
     pub refusal: u8,
     pub value: AbstractValue,
     pub depth: usize,
 }
 
-#[derive(Drop)]
+#[derive(Clone, Copy)]
 pub struct PoppedRef {
     pub refusal: u8,
     pub id: RefID,
     pub depth: usize,
 }
 
-#[derive(Drop)]
+#[derive(Clone, Copy)]
 pub struct PoppedMany {
     pub refusal: u8,
     pub values: Operands,
     pub depth: usize,
 }
 
-#[derive(Drop)]
+#[derive(Clone, Copy)]
 pub struct Rest {
     pub refusal: u8,
     pub depth: usize,

@@ -6,13 +6,13 @@ ghost use Rattle.operand_stack.specs.Models.{stack_of, pop_one, push_each, Keeps
 
 use abstract_state::state::{AbstractValue, Operands};
 
-#[derive(Drop)]
+#[derive(Clone, Copy)]
 pub struct Pushed {
     pub refusal: u8,
     pub stack: Operands,
 }
 
-#[derive(Drop)]
+#[derive(Clone, Copy)]
 pub struct TakenOff {
     pub refusal: u8,
     pub value: AbstractValue,

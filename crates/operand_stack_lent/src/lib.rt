@@ -1,5 +1,7 @@
 // The operand stack lent for push and take, as mod.rs uses it. Each function is thin over the one by value of `operand_stack`. Refused, it
 // leaves the stack as it was.
+#![tactic(auto)]
+
 ghost use Rattle.std.specs.Prelude.{◌≡◌, [], ◌∷◌};
 ghost use Rattle.abstract_state.specs.Models.{operand_of};
 ghost use Rattle.operand_stack.specs.Models.{stack_of, pop_one, push_each, Keeps};
@@ -9,7 +11,7 @@ use abstract_state::state::{AbstractValue, Operands};
 use operand_stack::value::{pop, push};
 
 // The top, or (refusal 10) none; then the value is free.
-#[derive(Drop)]
+#[derive(Clone, Copy)]
 pub struct Took {
     pub refusal: u8,
     pub value: AbstractValue,

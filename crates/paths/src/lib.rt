@@ -5,19 +5,21 @@
 //   Ordering   the derived order of `Vec`, references.rs 186
 //
 // A path is the labels of a row (`references`): paths.rs 7 `leq`, 11 `factor` and 17 `append` are `starts_with`, `factor` and `splice` there.
+#![tactic(auto)]
+
 ghost use Rattle.std.specs.Prelude.{◌≡◌};
 ghost use Rattle.meaning.specs.Labels.{number_of};
 ghost use Rattle.paths.specs.Models.{label_of};
 
 // Document 01's label. Its number puts the kind before the index, so that labels stand in the order of their numbers.
-#[derive(Drop)]
+#[derive(Clone, Copy)]
 pub enum Label {
     Local(u16),
     Global(u16),
     Field(u16),
 }
 
-#[derive(Drop)]
+#[derive(Clone, Copy)]
 pub enum Ordering {
     Less,
     Equal,

@@ -29,7 +29,7 @@ use meaning::{EDGE_WORDS, MAX_EDGES, MAX_INSTRUCTIONS, MAX_NAMES, MAX_OPERANDS, 
 
 // A block's end: the state that its successors get, or the violation or refusal in that state's numbers, with its place. Without successors,
 // and beside a number, the rest of the state and its arrays are free, except that they fit; the place is free where no number is.
-#[derive(Drop)]
+#[derive(Clone, Copy)]
 pub struct Ran {
     pub place: CodeOffset,
     pub state: AbstractState,

@@ -21,7 +21,7 @@ use meaning::{MAX_NAMES, MAX_OPERANDS};
 use operand_stack::{push, push_all, push_values};
 
 // It has stopped where the state has.
-#[derive(Drop)]
+#[derive(Clone, Copy)]
 pub struct Machine {
     pub state: AbstractState,
     pub depth: usize,

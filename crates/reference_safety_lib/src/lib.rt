@@ -1,4 +1,6 @@
 // The check for controllers, to be linked from C or Rust (include/buslatim.h).
+#![tactic(auto)]
+
 pub mod kept;
 
 ghost use Rattle.std.specs.Prelude.{◌≡◌, ◌≤◌, length};
@@ -15,7 +17,7 @@ pub(crate) const ANSWER_WORDS: usize = 7;
 // The numbers that a word holds.
 const WORD_END: u64 = 4294967296;
 
-#[derive(Drop)]
+#[derive(Clone, Copy)]
 struct Words {
     kind: u32,
     number: u32,

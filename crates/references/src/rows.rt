@@ -34,7 +34,7 @@ const STRONG: u32 = 16;
 const LABELS: usize = 2;
 
 // A path of at most one label: the borrow of a whole (Any), or of a part. As a filter: every borrow counts, or those that meet the label.
-#[derive(Drop)]
+#[derive(Clone, Copy)]
 pub enum LabelFilter {
     Any,
     At(Label),
@@ -42,7 +42,7 @@ pub enum LabelFilter {
 
 // An edge to put into a set, or (`fits` false) word that its path is longer than eight labels; then all of the row but its ends and its offset is
 // free.
-#[derive(Drop)]
+#[derive(Clone, Copy)]
 pub struct Candidate {
     pub fits: bool,
     pub row: [u32; EDGE_WORDS],

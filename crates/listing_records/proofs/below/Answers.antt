@@ -1,0 +1,5 @@
+use borrow.Author.Rules.{rules}
+use Rattle.listing_records.proofs.below.Goals as goal
+
+pub returns : goal.returns
+returns c = rw c.wide.ensures

@@ -1,0 +1,47 @@
+use mathlib.Core.Path.{◌≡◌, sym, ◌∙◌}
+use mathlib.Core.Bool.{true, false}
+use borrow.Author.Tests.{le-leb, lt-leb, leb-true}
+use Prim.Native.Nat.{◌+◌, ◌≤◌}
+use lib.ListN.{length}
+use lib.Dec.{leb}
+use Rattle.meaning.specs.Listing.{u16_at, whole_at}
+use Rattle.listing_records.specs.Models.{found_at}
+use native.Mathlib.Omega.{arith}
+use borrow.Author.Rules.{rules}
+use Rattle.listing_records.proofs.read.Goals as goal
+
+pub returns-then-s-at : goal.returns-then-s-at
+unfolding found_at
+returns-then-s-at c = simp (le-leb _ _ c.if-s-at.true)
+
+pub u16_in-kind-requires : goal.u16_in-kind-requires
+unfolding whole_at
+u16_in-kind-requires c = let a =
+    c.args in
+    let w : a.c.at + 4 + u16_at a.s.now a.c.at ≤ length a.s.now = leb-true _ _ (sym c.whole_at.ensures ∙ c.if-whole_at.true) in
+    omega arith
+
+pub u16_in-requires : goal.u16_in-requires
+unfolding whole_at
+u16_in-requires c = let a =
+    c.args in
+    let w : a.c.at + 4 + u16_at a.s.now a.c.at ≤ length a.s.now = leb-true _ _ (sym c.whole_at.ensures ∙ c.if-whole_at.true) in
+    omega arith
+
+pub returns-then-whole_at : goal.returns-then-whole_at
+unfolding found_at
+returns-then-whole_at c = let at-whole-at =
+    c.before.before.before in
+    let a = at-whole-at.before.before.before.args in
+    let w : whole_at a.s.now a.c.at ≡ true = sym at-whole-at.whole_at.ensures ∙ c.if-whole_at.true in
+    let f : leb (length a.s.now) a.c.at ≡ false = lt-leb _ _ at-whole-at.before.if1.false in
+    rw (f, w, c.u16_in.ensures, c.u16_in-kind.ensures)
+
+pub returns-else-whole_at : goal.returns-else-whole_at
+unfolding found_at
+returns-else-whole_at c = let at-whole-at =
+    c.before in
+    let a = at-whole-at.before.before.before.args in
+    let w : whole_at a.s.now a.c.at ≡ false = sym at-whole-at.whole_at.ensures ∙ c.if-whole_at.false in
+    let f : leb (length a.s.now) a.c.at ≡ false = lt-leb _ _ at-whole-at.before.if1.false in
+    rw (f, w)

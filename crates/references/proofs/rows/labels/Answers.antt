@@ -1,0 +1,8 @@
+use mathlib.Core.Path.{sym, ◌∙◌}
+use Rattle.references.specs.RowLaws.{path_length}
+use native.Mathlib.Omega.{arith}
+use borrow.Author.Rules.{rules}
+use Rattle.references.proofs.rows.labels.Goals as goal
+
+pub returns : goal.returns
+returns c = (c.lesser.ensures ∙ sym (path_length c.args.x.now _), omega (arith, c.lesser.ensures))
