@@ -1,5 +1,5 @@
 -- What the arrays and structs of the code stand for in the definitions.
-use Rattle.core.specs.Prelude.{◌≡◌, ℕ, ◌/◌, ◌%◌, Bool, cond, List, map, length, take, ◌==◌, nat_lt}
+use Rattle.std.specs.Prelude.{◌≡◌, ℕ, ◌/◌, ◌%◌, Bool, cond, List, map, length, take, ◌==◌, nat_lt}
 use Rattle.std.proofs.Math.Option.{Option}
 use Rattle.meaning.specs.Limits.{max_locals, u16_end}
 use Rattle.meaning.specs.Area.{local_in}

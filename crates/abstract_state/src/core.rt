@@ -13,7 +13,7 @@
 //   local, set_local       `self.locals.get`, `insert` and `remove`
 //   violate_if             119 `error`, where a test fails on an edge; the Rust does not tell on which
 //   give, refuse, pass_refusal, require_yes    what the Rust's answers and panics become
-ghost use Rattle.core.specs.Prelude.{◌≡◌, ℕ, List, if◌then◌else◌, nat_lt, slice_index_or};
+ghost use Rattle.std.specs.Prelude.{◌≡◌, ℕ, List, if◌then◌else◌, nat_lt, slice_index_or};
 ghost use Rattle.meaning.specs.AbstractState as S;
 ghost use Rattle.meaning.specs.Answers.{Ans, done};
 ghost use Rattle.meaning.specs.BorrowGraph as L;

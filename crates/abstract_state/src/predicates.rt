@@ -13,7 +13,7 @@
 //   is_global_borrowed                254 `is_global_borrowed`
 //   is_global_mutably_borrowed        259 `is_global_mutably_borrowed`
 //   is_frame_borrowed                 not 266 `is_frame_safe_to_destroy`
-ghost use Rattle.core.specs.Prelude.{◌≡◌, ℕ, List, if◌then◌else◌};
+ghost use Rattle.std.specs.Prelude.{◌≡◌, ℕ, List, if◌then◌else◌};
 ghost use Rattle.std.proofs.Math.Option.{none, some};
 ghost use Rattle.meaning.specs.Labels.{local_label, global_label};
 ghost use Rattle.meaning.specs.BorrowGraph.{of_name, is_mutable, borrows_fully, borrows, borrows_mutably, lowest_of};

@@ -1,7 +1,7 @@
 // The words of locals and operands: each is made and read here. A word is 0 for an absent local, 65,536 for a value, 131,072 + its name
 // for a reference; what stands above 262,144 is free. (meaning's Area says what each word stands for.) The Rust has no such words: each
 // stands for an `AbstractValue` (abstract_state.rs, 23) or an entry of the locals (74).
-ghost use Rattle.core.specs.Prelude.{◌≡◌, true};
+ghost use Rattle.std.specs.Prelude.{◌≡◌, true};
 ghost use Rattle.meaning.specs.Area.{local_in};
 ghost use Rattle.meaning.specs.EntryPoints as R;
 ghost use Rattle.abstract_state.specs.Models.{operand_of, operand_in, local_of};

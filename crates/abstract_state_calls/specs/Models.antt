@@ -1,5 +1,5 @@
 -- What the values of the code stand for in the definitions.
-use Rattle.core.specs.Prelude.{◌≡◌, ℕ, Bool, ◌&&◌, List, [], ◌∷◌, map, take}
+use Rattle.std.specs.Prelude.{◌≡◌, ℕ, Bool, ◌&&◌, List, [], ◌∷◌, map, take}
 use Rattle.std.proofs.Math.Option.{Option, none, some}
 use Rattle.meaning.specs.Limits.{UNSAFE_RET}
 use Rattle.meaning.specs.Lists.{any}

@@ -13,7 +13,7 @@
 
 mod ids;
 
-ghost use Rattle.core.specs.Prelude.{◌≡◌, ℕ, List, [], ◌∷◌, map, take, ◌≢◌};
+ghost use Rattle.std.specs.Prelude.{◌≡◌, ℕ, List, [], ◌∷◌, map, take, ◌≢◌};
 ghost use Rattle.meaning.specs.Listing.{token_as};
 ghost use Rattle.meaning.specs.EntryPoints as R;
 ghost use Rattle.meaning.specs.Answers.{then};

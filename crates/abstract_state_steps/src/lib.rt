@@ -18,7 +18,7 @@
 //   vector_element_borrow    472 `vector_element_borrow`
 #![tactic(auto)]
 
-ghost use Rattle.core.specs.Prelude.{◌≡◌, ℕ, List, ◌≢◌};
+ghost use Rattle.std.specs.Prelude.{◌≡◌, ℕ, List, ◌≢◌};
 ghost use Rattle.meaning.specs.Limits.{BORROWFIELD_EXISTS_MUTABLE_BORROW, GLOBAL_REFERENCE};
 ghost use Rattle.meaning.specs.Answers as Out;
 ghost use Rattle.meaning.specs.AbstractState as S;

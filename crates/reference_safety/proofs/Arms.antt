@@ -1,5 +1,5 @@
 -- The two matches of an instruction, by its variant's tag: what the first leaves to the second is on references.
-use Rattle.core.specs.Prelude.{◌≡◌, ℕ, Bool, true, false, cond, List, [], ◌∷◌}
+use Rattle.std.specs.Prelude.{◌≡◌, ℕ, Bool, true, false, cond, List, [], ◌∷◌}
 use mathlib.Core.Path.{refl, subst}
 use types.Run.{OneOf, miss}
 use denote.Enum.Declared.{tag_of}

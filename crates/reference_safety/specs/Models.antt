@@ -1,5 +1,5 @@
 -- What the structs of the code and their arrays mean in the definitions.
-use Rattle.core.specs.Prelude.{◌≡◌, ℕ, Bool, true, false, List, [], ◌∷◌, length}
+use Rattle.std.specs.Prelude.{◌≡◌, ℕ, Bool, true, false, List, [], ◌∷◌, length}
 use Rattle.meaning.specs.Limits.{max_operands}
 use Rattle.meaning.specs.AbstractState.{State, Operand}
 use Rattle.meaning.specs.Answers.{Outcome, done, violated, refused, then}

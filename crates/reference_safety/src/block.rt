@@ -4,7 +4,7 @@
 //   execute, execute_on_references   136 `execute_inner`
 //   run_block                        absint.rs 161 `execute_block`
 //   finish                           405 `execute`, from its test for the last instruction on
-ghost use Rattle.core.specs.Prelude.{◌≡◌, ℕ, suc, ◌+◌, ◌-◌, min, true, ◌&&◌, List, length, ◌==◌};
+ghost use Rattle.std.specs.Prelude.{◌≡◌, ℕ, suc, ◌+◌, ◌-◌, min, true, ◌&&◌, List, length, ◌==◌};
 ghost use Rattle.meaning.specs.Limits.{max_instructions, max_operands};
 ghost use Rattle.meaning.specs.Answers.{done};
 ghost use Rattle.meaning.specs.Steps.{step};

@@ -5,7 +5,7 @@
 //   pushed         the push of an entry point's value, as at 147
 //   push_results   the loop of `call`, 95
 //   push_new       the pushes of `value_for`, 286 to 315, and of NonReference, 113 in `pack` and 120 in `unpack`
-ghost use Rattle.core.specs.Prelude.{ℕ, List};
+ghost use Rattle.std.specs.Prelude.{ℕ, List};
 ghost use Rattle.meaning.specs.EntryPoints.{value_for};
 ghost use Rattle.meaning.specs.Steps as T;
 ghost use Rattle.file_format.specs.Models.{token_of};

@@ -21,7 +21,7 @@
 //   move_to          279 MoveTo
 //   vector_op        349 VecLen, 368 VecPushBack, 374 VecPopBack, 391 VecSwap
 //   borrow_element   355 VecImmBorrow, 361 VecMutBorrow
-ghost use Rattle.core.specs.Prelude.{ℕ, List, map, take};
+ghost use Rattle.std.specs.Prelude.{ℕ, List, map, take};
 ghost use Rattle.meaning.specs.Listing.{token_as};
 ghost use Rattle.meaning.specs.Steps.{Instr, step_on};
 ghost use Rattle.file_format.specs.Models.{token_of};

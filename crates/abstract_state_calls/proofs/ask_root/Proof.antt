@@ -1,5 +1,5 @@
 use mathlib.Core.Path.{ap, ◌∙◌}
-use Rattle.core.specs.Prelude.{ℕ, Bool, []}
+use Rattle.std.specs.Prelude.{ℕ, Bool, []}
 use Rattle.meaning.specs.Answers.{Ans}
 use Rattle.meaning.specs.BorrowGraph as L
 use Rattle.meaning.specs.BorrowGraph.{is_mutable}

@@ -1,4 +1,4 @@
-use Rattle.core.specs.Prelude.{map, take}
+use Rattle.std.specs.Prelude.{map, take}
 use Rattle.meaning.specs.Listing.{token_as}
 use Rattle.abstract_state.specs.Models.{operands_of, words}
 use Rattle.abstract_state_calls.specs.Models.{ids_of}

@@ -1,4 +1,4 @@
-use Rattle.core.specs.Prelude.{◌≡◌, ℕ, [], ◌∷◌, take}
+use Rattle.std.specs.Prelude.{◌≡◌, ℕ, [], ◌∷◌, take}
 use mathlib.Core.Path.{refl, sym, ap, ◌∙◌}
 use mathlib.Core.Option.{Option, none, some}
 use borrow.Author.Tests.{lt-ltb, le-ltb}

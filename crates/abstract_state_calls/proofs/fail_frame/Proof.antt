@@ -1,6 +1,6 @@
 use mathlib.Core.Path.{refl, ap, ◌∙◌}
 use mathlib.Core.Option.{Option, none}
-use Rattle.core.specs.Prelude.{ℕ}
+use Rattle.std.specs.Prelude.{ℕ}
 use Rattle.meaning.specs.Limits.{UNSAFE_RET}
 use Rattle.meaning.specs.Answers.{Ans}
 use Rattle.meaning.specs.BorrowGraph.{borrows, lowest_of}

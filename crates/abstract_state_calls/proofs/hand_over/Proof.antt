@@ -1,4 +1,4 @@
-use Rattle.core.specs.Prelude.{◌≡◌, ℕ, ◌-◌, ◌<◌, ◌≤◌, min, List, [], ◌∷◌, length, drop}
+use Rattle.std.specs.Prelude.{◌≡◌, ℕ, ◌-◌, ◌<◌, ◌≤◌, min, List, [], ◌∷◌, length, drop}
 use lib.ListN.{drop_of_length-le}
 use Rattle.meaning.specs.Laws.Array.{length_of_map}
 use Rattle.meaning.specs.AbstractState.{Operand}

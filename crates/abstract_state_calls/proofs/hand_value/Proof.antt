@@ -1,5 +1,5 @@
 use mathlib.Core.Path.{ap, ◌∙◌}
-use Rattle.core.specs.Prelude.{ℕ, [], ◌∷◌}
+use Rattle.std.specs.Prelude.{ℕ, [], ◌∷◌}
 use mathlib.Core.Option.{Option, none}
 use borrow.Author.Tests.{ne_eqb}
 use Rattle.meaning.specs.Answers.{Ans}

@@ -1,4 +1,4 @@
-use Rattle.core.specs.Prelude.{◌≡◌, Bool, true, false, ltb}
+use Rattle.std.specs.Prelude.{◌≡◌, Bool, true, false, ltb}
 use mathlib.Core.Path.{refl, sym, ◌∙◌}
 use mathlib.Core.Bool.{and-false}
 use native.Mathlib.Omega.{arith}

@@ -1,4 +1,4 @@
-use Rattle.core.specs.Prelude.{◌≡◌, false}
+use Rattle.std.specs.Prelude.{◌≡◌, false}
 use mathlib.Core.Path.{ap}
 use borrow.Author.Tests.{ne_eqb}
 use Rattle.meaning.specs.AbstractState.{of_ref}

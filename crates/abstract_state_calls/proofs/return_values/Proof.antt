@@ -1,4 +1,4 @@
-use Rattle.core.specs.Prelude.{◌≡◌, ℕ, ◌-◌, ◌<◌, ◌≤◌, min, List, map, length, take}
+use Rattle.std.specs.Prelude.{◌≡◌, ℕ, ◌-◌, ◌<◌, ◌≤◌, min, List, map, length, take}
 use mathlib.Core.Path.{refl, subst}
 use lib.ListN.{length-set, drop_of_length-le}
 use Rattle.meaning.specs.Laws.Array.{front_map_step}

@@ -1,5 +1,5 @@
 use mathlib.Core.Path.{sym, ap, ◌∙◌}
-use Rattle.core.specs.Prelude.{cond, not}
+use Rattle.std.specs.Prelude.{cond, not}
 use mathlib.Core.Option.{none, some}
 use Rattle.meaning.specs.Labels.{local_label}
 use Rattle.meaning.specs.BorrowGraph.{of_name, borrows_mutably, lowest_of}

@@ -1,4 +1,4 @@
-use Rattle.core.specs.Prelude.{◌≡◌, Bool, true, false, ◌&&◌, ◌||◌}
+use Rattle.std.specs.Prelude.{◌≡◌, Bool, true, false, ◌&&◌, ◌||◌}
 use mathlib.Core.Path.{refl, ap, ◌∙◌}
 use mathlib.Core.Option.{some}
 use Rattle.meaning.specs.Labels.{global_label}

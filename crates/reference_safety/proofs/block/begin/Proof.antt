@@ -1,6 +1,6 @@
 -- `reference_safety::block::begin` meets its contract. Assumes nothing.
 use mathlib.Core.Path.{refl, ap}
-use Rattle.core.specs.Prelude.{ℕ}
+use Rattle.std.specs.Prelude.{ℕ}
 use native.Mathlib.Numerals.{add-one}
 use Rattle.meaning.specs.EntryPoints.{Running}
 use Rattle.borrow_graph.specs.Models.{graph_in}

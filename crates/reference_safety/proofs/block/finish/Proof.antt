@@ -1,5 +1,5 @@
 -- `reference_safety::block::finish` meets its contract. Assumes nothing.
-use Rattle.core.specs.Prelude.{◌≡◌, length}
+use Rattle.std.specs.Prelude.{◌≡◌, length}
 use mathlib.Core.Path.{sym, ap, ◌∙◌}
 use Rattle.meaning.specs.Answers.{Outcome}
 use Rattle.meaning.specs.EntryPoints.{Running}

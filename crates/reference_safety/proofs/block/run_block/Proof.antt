@@ -1,4 +1,4 @@
-use Rattle.core.specs.Prelude.{◌-◌, map, get_or, take, drop}
+use Rattle.std.specs.Prelude.{◌-◌, map, get_or, take, drop}
 use mathlib.Core.Path.{refl}
 use Rattle.meaning.specs.Blocks.{run_block}
 use Rattle.listing.specs.Models.{decoded_at, decoded_of, block_of, routine_of}

@@ -1,5 +1,5 @@
 -- `reference_safety::machine::push_each` meets its contract. Assumes nothing.
-use Rattle.core.specs.Prelude.{ℕ, ◌-◌, List}
+use Rattle.std.specs.Prelude.{ℕ, ◌-◌, List}
 use mathlib.Core.Path.{refl}
 use Rattle.file_format.specs.Models.{token_of}
 use Rattle.reference_safety.specs.Models.{board}

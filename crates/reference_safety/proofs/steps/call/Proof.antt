@@ -1,5 +1,5 @@
 -- `reference_safety::steps::call` meets its contract. Assumes nothing.
-use Rattle.core.specs.Prelude.{map, take}
+use Rattle.std.specs.Prelude.{map, take}
 use Rattle.meaning.specs.Answers.{then}
 use Rattle.meaning.specs.EntryPoints as R
 use Rattle.meaning.specs.Listing.{token_as}

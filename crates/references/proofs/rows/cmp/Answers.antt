@@ -1,6 +1,5 @@
 use mathlib.Core.Path.{sym, ◌∙◌}
 use Rattle.references.specs.RowLaws.{by_greater, by_less, by_paths}
-use borrow.Author.Rules.{rules}
 use Rattle.references.proofs.rows.cmp.Goals as goal
 
 pub returns-then-s-t : goal.returns-then-s-t

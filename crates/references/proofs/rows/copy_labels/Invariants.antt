@@ -1,12 +1,8 @@
-use mathlib.Core.List.{List}
-use mathlib.Core.Path.{◌≡◌, refl, sym, ap, ◌∙◌}
-use mathlib.Core.List.{◌++◌, append-nil}
-use Prim.Native.Nat.{ℕ, ◌+◌, ◌-◌, ◌≤◌}
-use lib.ListN.{length, drop, get_or, length-set}
-use lib.Seq.{get_or-set_other}
-use Rattle.references.specs.RowLaws.{path_in, path_step, path_end, path_push}
-use native.Mathlib.Omega.{arith}
-use borrow.Author.Rules.{rules}
+use mathlib.Core.Path.{◌≡◌}
+use mathlib.Core.List.{◌++◌}
+use Prim.Native.Nat.{◌+◌, ◌-◌, ◌≤◌}
+use lib.ListN.{length, drop, get_or}
+use Rattle.references.specs.RowLaws.{path_in}
 use Rattle.references.proofs.rows.copy_labels.Given as goal
 
 abbrev pub invariant-loop-i : goal.invariant-loop-i

@@ -1,7 +1,6 @@
 use mathlib.Core.Path.{sym, ap, ◌∙◌}
 use Rattle.meaning.specs.Laws.Place.{is_equal, eq_of}
 use Rattle.paths.specs.Models.{ordering_of}
-use borrow.Author.Rules.{rules}
 use Rattle.references.proofs.rows.eq.Goals as goal
 
 pub returns-in-Less : goal.returns-in-Less

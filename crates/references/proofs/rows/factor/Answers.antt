@@ -5,7 +5,6 @@ use Rattle.references.specs.Models.{row_of, path_at}
 use Rattle.references.specs.RowLaws.{path_in, count_in, path_length, drop_within}
 use mathlib.Core.Bool.{false}
 use native.Mathlib.Omega.{arith}
-use borrow.Author.Rules.{rules}
 use Rattle.references.proofs.rows.factor.Goals as goal
 
 pub remade-requires : goal.remade-requires

@@ -1,5 +1,4 @@
 use Rattle.meaning.specs.References.{covers}
-use borrow.Author.Rules.{rules}
 use Rattle.references.proofs.rows.leq.Goals as goal
 
 pub returns : goal.returns

@@ -1,7 +1,6 @@
 use mathlib.Core.Path.{sym, ap, ◌∙◌}
 use Rattle.meaning.specs.Laws.Place.{is_less, lt_of}
 use Rattle.paths.specs.Models.{ordering_of}
-use borrow.Author.Rules.{rules}
 use Rattle.references.proofs.rows.lt.Goals as goal
 
 pub returns-in-Less : goal.returns-in-Less

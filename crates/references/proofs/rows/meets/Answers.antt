@@ -2,7 +2,6 @@ use Rattle.references.specs.RowLaws.{meets_by, path_length, count_in}
 use mathlib.Core.Path.{◌≡◌, ◌∙◌}
 use lib.Dec.{eqb}
 use mathlib.Core.Bool.{◌||◌}
-use borrow.Author.Rules.{rules}
 use Rattle.references.proofs.rows.meets.Goals as goal
 
 pub returns : goal.returns

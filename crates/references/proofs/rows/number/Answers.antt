@@ -1,5 +1,4 @@
 use native.Mathlib.Omega.{arith}
-use borrow.Author.Rules.{rules}
 use Rattle.references.proofs.rows.number.Goals as goal
 
 pub returns-in-Global : goal.returns-in-Global

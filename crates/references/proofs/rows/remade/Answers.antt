@@ -6,7 +6,6 @@ use lib.ListN.{length-set, drop, replicate}
 use Rattle.meaning.specs.Laws.Area.{bit}
 use Rattle.references.specs.RowLaws.{path_in, count_in, path_length, path_none, row_tagged}
 use native.Mathlib.Omega.{arith}
-use borrow.Author.Rules.{rules}
 use Rattle.references.proofs.rows.remade.Goals as goal
 
 pub copy_labels-out-requires : goal.copy_labels-out-requires

@@ -1,6 +1,5 @@
 use mathlib.Core.Path.{◌∙◌}
 use Rattle.references.specs.Models.{row_of}
-use borrow.Author.Rules.{rules}
 use Rattle.references.proofs.rows.renamed.Goals as goal
 
 pub returns : goal.returns

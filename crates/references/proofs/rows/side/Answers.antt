@@ -1,7 +1,6 @@
 use mathlib.Core.Path.{sym}
 use Rattle.references.specs.RowLaws.{side_less, side_equal, side_greater}
 use native.Mathlib.Omega.{arith}
-use borrow.Author.Rules.{rules}
 use Rattle.references.proofs.rows.side.Goals as goal
 
 pub returns-then-w-e : goal.returns-then-w-e

@@ -1,8 +1,7 @@
-use borrow.Author.Tests.{not-true, not-false}
 use mathlib.Core.Path.{◌≡◌, sym, ap, ◌∙◌}
 use mathlib.Core.Bool.{Bool, true, false}
 use mathlib.Core.List.{◌++◌}
-use Prim.Native.Nat.{ℕ, ◌+◌, ◌-◌, ◌*◌, ◌<◌, ◌≤◌}
+use Prim.Native.Nat.{ℕ, ◌+◌, ◌*◌, ◌<◌, ◌≤◌}
 use lib.ListN.{length, length-append}
 use Rattle.meaning.specs.References.{Offered, fits, too_long, fitting}
 use Rattle.meaning.specs.BorrowGraph.{GEdge}
@@ -11,7 +10,6 @@ use Rattle.meaning.specs.Laws.Pass.{fitting_short, splice_strong, splice_weak}
 use Rattle.references.specs.Models.{row_of}
 use Rattle.references.specs.RowLaws.{path_in, count_in, path_length, row_joined, fitting_long}
 use native.Mathlib.Omega.{arith}
-use borrow.Author.Rules.{rules}
 use Rattle.references.proofs.rows.splice.Goals as goal
 
 pub returns-then-not-strong : goal.returns-then-not-strong
@@ -36,7 +34,7 @@ returns-then-n-m-gt-MAX_LABELS c = let x =
     let w = c.remade-whole.ensures.0 in
     let loc = c.offset-behind in
     let is-strong = c.is_strong-strong in
-    let s : is-strong.result ≡ true = not-false _ c.if-not-strong.false in
+    let s : is-strong.result ≡ true = c.if-not-strong.false in
     let h : 8 < length ((row_of x).edge.path ++ (row_of y).edge.path) = simp length-append (omega (arith, c.labels-n.ensures.0, c.labels-m.ensures.0, c.if-n-m-gt-MAX_LABELS.true)) in (
       ap (λ (g : GEdge). too_long g.edge.offset) w ∙ ap too_long loc.ensures
           ∙ fitting_long (record { strong = (row_of y).edge.strong; path = (row_of x).edge.path ++ (row_of y).edge.path; offset = (row_of y).edge.offset }) h
@@ -62,7 +60,7 @@ returns c = let a =
     let x = a.x.now in
     let y = a.y.now in
     let w = remade.ensures.0 in
-    let s : is-strong.result ≡ true = not-false _ c.if-not-strong.false in
+    let s : is-strong.result ≡ true = c.if-not-strong.false in
     let n = labels.result in
     let m = labels2.result in
     let r = c.copy_labels-out in

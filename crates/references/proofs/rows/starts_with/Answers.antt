@@ -2,7 +2,6 @@ use Rattle.references.specs.RowLaws.{starts_by, path_length, count_in}
 use mathlib.Core.Path.{◌≡◌, ◌∙◌}
 use lib.Dec.{eqb, ltb}
 use mathlib.Core.Bool.{◌||◌, ◌&&◌}
-use borrow.Author.Rules.{rules}
 use Rattle.references.proofs.rows.starts_with.Goals as goal
 
 pub returns : goal.returns

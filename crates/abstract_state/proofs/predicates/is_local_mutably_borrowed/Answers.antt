@@ -1,0 +1,5 @@
+use borrow.Author.Rules.{rules}
+use Rattle.abstract_state.proofs.predicates.is_local_mutably_borrowed.Goals as goal
+
+pub returns : goal.returns
+returns c = λ ls h. rw c.frame_root-root.ensures at (c.has_consistent_mutable_borrows.ensures ls h)

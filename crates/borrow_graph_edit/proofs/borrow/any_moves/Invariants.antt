@@ -1,0 +1,13 @@
+use mathlib.Core.Path.{◌≡◌}
+use Prim.Native.Nat.{◌-◌, ◌≤◌}
+use lib.ListN.{length, drop}
+use Rattle.meaning.specs.Lists.{any}
+use Rattle.meaning.specs.BorrowGraph.{moves}
+use Rattle.references.specs.Models.{edges_in, path_at}
+use Rattle.borrow_graph_edit.proofs.borrow.any_moves.Given as goal
+
+abbrev pub invariant-loop-i : goal.invariant-loop-i
+invariant-loop-i l = (l.i ≤ l.m) × (length l.edges ≡ 96 → any (moves l.parent.0 (path_at l.path)) (drop l.i (edges_in l.edges l.m)) ≡ any (moves l.parent.0 (path_at l.path)) (edges_in l.edges l.m))
+
+abbrev pub decreases-loop-i : goal.decreases-loop-i
+decreases-loop-i l = l.m - l.i
