@@ -1,0 +1,17 @@
+use Prim.Native.Nat.{◌+◌, ◌-◌, ◌*◌, ◌≤◌}
+use mathlib.Core.Path.{◌≡◌}
+use mathlib.Core.List.{[]}
+use lib.ListN.{length}
+use Rattle.meaning.specs.Area.{edge_in, word_at}
+use Rattle.meaning.specs.Laws.Area.{Filled, filled_none, filled_one}
+use Rattle.references.specs.Models.{row_of}
+use Rattle.absint_area.specs.ModelLaws.{filled_all}
+use native.Mathlib.Omega.{arith}
+use borrow.Author.Rules.{rules}
+use Rattle.absint_area.proofs.read.get_edges.Given as goal
+
+abbrev pub invariant-loop-i : goal.invariant-loop-i
+invariant-loop-i l = (l.i ≤ l.n) × (length l.initial.edges ≡ 96 → Filled row_of [] (λ j. edge_in (word_at l.ws) (l.at + 10 * j)) 96 l.i l.edges)
+
+abbrev pub decreases-loop-i : goal.decreases-loop-i
+decreases-loop-i l = l.n - l.i

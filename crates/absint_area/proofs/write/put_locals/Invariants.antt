@@ -1,0 +1,13 @@
+use Prim.Native.Nat.{◌-◌, ◌≤◌}
+use mathlib.Core.Path.{refl}
+use Rattle.meaning.specs.Laws.Area.{Written, IsLocal, written_none, written_one, written_all}
+use Rattle.absint_area.specs.ModelLaws.{local_at, local_above}
+use native.Mathlib.Omega.{arith}
+use borrow.Author.Rules.{rules}
+use Rattle.absint_area.proofs.write.put_locals.Given as goal
+
+abbrev pub invariant-loop-i : goal.invariant-loop-i
+invariant-loop-i l = (l.i ≤ 16) × Written (IsLocal (local_at l.locals) l.names l.edges) l.at 16 l.i l.initial.ws l.ws
+
+abbrev pub decreases-loop-i : goal.decreases-loop-i
+decreases-loop-i l = 16 - l.i

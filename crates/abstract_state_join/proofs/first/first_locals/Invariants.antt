@@ -1,0 +1,19 @@
+use mathlib.Core.Path.{◌≡◌, sym, ap, ◌∙◌}
+use mathlib.Core.List.{◌∷◌, ◌++◌, map}
+use Prim.Native.Nat.{ℕ, ◌+◌, ◌-◌, ◌≤◌}
+use lib.ListN.{length, take, drop, length-set}
+use Rattle.meaning.specs.AbstractState as S
+use Rattle.meaning.specs.Area.{local_in}
+use Rattle.meaning.specs.Listing.{token_as}
+use Rattle.meaning.specs.AbstractState.{first_locals}
+use Rattle.abstract_state_join.specs.LocalLaws.{written, all_written}
+use Rattle.abstract_state_join.specs.FirstLaws.{local_step, local_end}
+use native.Mathlib.Omega.{arith}
+use borrow.Author.Rules.{rules}
+use Rattle.abstract_state_join.proofs.first.first_locals.Given as goal
+
+abbrev pub invariant-loop-i : goal.invariant-loop-i
+invariant-loop-i l = (l.i ≤ l.n) × (length l.initial.locals ≡ 16 → (length l.locals ≡ 16) × (map local_in (take l.i l.locals) ++ first_locals l.i (l.n - l.i) (drop l.i (map token_as (take l.count l.params))) ≡ first_locals 0 l.n (map token_as (take l.count l.params))))
+
+abbrev pub decreases-loop-i : goal.decreases-loop-i
+decreases-loop-i l = l.n - l.i

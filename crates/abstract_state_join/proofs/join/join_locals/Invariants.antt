@@ -1,0 +1,31 @@
+use mathlib.Core.Path.{◌≡◌, refl, ap, ◌∙◌}
+use mathlib.Core.Logic.{◌⊎◌, inl, inr}
+use mathlib.Core.List.{map}
+use Prim.Native.Nat.{ℕ, ◌+◌, ◌*◌, ◌-◌, ◌≤◌, ◌<◌, min}
+use lib.Dec.{leb}
+use lib.ListN.{length, take, drop, get_or, length-set, length-drop}
+use Rattle.meaning.specs.Answers.{and_then}
+use Rattle.meaning.specs.Laws.Base.{decide, leb_le, leb_gt}
+use Rattle.meaning.specs.Area.{local_in}
+use Rattle.meaning.specs.BorrowGraph.{Graph}
+use Rattle.meaning.specs.AbstractState.{join_local, join_locals}
+use Rattle.references.specs.ModelLaws.{told_yes}
+use Rattle.borrow_graph.specs.Models.{graph_in, Tells}
+use Rattle.abstract_state.specs.Models.{locals_in}
+use Rattle.abstract_state_join.specs.Models.{step_by}
+use Rattle.abstract_state_join.specs.LocalLaws.{clip, locals_are, locals_end, locals_all}
+use Rattle.abstract_state_join.specs.JoinLaws.{after, start, written, goes_on, ends, end_equal, end_unequal}
+use native.Mathlib.Omega.{arith}
+use borrow.Author.Rules.{rules}
+use Rattle.abstract_state_join.proofs.join.join_locals.Given as goal
+
+abbrev pub invariant-loop-i : goal.invariant-loop-i
+invariant-loop-i l = (l.i ≤ l.k) × (l.p.refusal ≡ 0) × (l.p.blurred ≤ 255 * l.i)
+    × (length l.initial.locals ≡ 16 → length l.locals2 ≡ 16 → Tells l.initial.names l.initial.edges l.initial.p.ours → Tells l.initial.names2 l.initial.edges2 l.initial.p.theirs
+    → (length l.locals ≡ 16) × Tells l.names l.edges l.p.ours × Tells l.names2 l.edges2 l.p.theirs
+    × (and_then (join_locals (drop l.i (locals_in l.locals l.n)) (drop l.i (locals_in l.locals2 l.m)) (graph_in l.names l.edges l.p.ours) (graph_in l.names2 l.edges2 l.p.theirs))
+    (after (map local_in (take l.i l.locals)) l.p.blurred)
+    ≡ join_locals (locals_in l.initial.locals l.n) (locals_in l.locals2 l.m) (graph_in l.initial.names l.initial.edges l.initial.p.ours) (graph_in l.initial.names2 l.initial.edges2 l.initial.p.theirs)))
+
+abbrev pub decreases-loop-i : goal.decreases-loop-i
+decreases-loop-i l = l.k - l.i

@@ -1,0 +1,19 @@
+use Rattle.abstract_state.specs.Models.{words, running_of}
+use Rattle.abstract_state.specs.ModelLaws.{gives_as, gives_then}
+use Rattle.abstract_state_steps.specs.EntryLaws as E
+use borrow.Author.Rules.{rules}
+use Rattle.abstract_state_steps.proofs.copy_ref.Goals as goal
+
+pub returns : goal.returns
+returns c =
+    λ ls.
+                            let a = c.args in
+    let w = words ls a.names.now a.edges.now a.state in
+    let m = c.is_mutable-m.result in
+    gives_as _ _ w _
+    (λ h. E.copy_at (running_of w) c.fresh-new.result.0 c.fresh-new.ensures a.id.0 m.refusal m.yes
+    (c.is_mutable-m.ensures ls _ h))
+    (gives_then _ _ _ _ _ (c.pass_refusal-s.ensures ls _ _)
+    (gives_then _ _ _ _ _ (c.new_ref-t.ensures ls _)
+    (gives_then _ _ _ _ _ (c.add_copy-u.ensures ls)
+    (c.give.ensures ls _ _))))

@@ -1,0 +1,16 @@
+use Rattle.abstract_state.specs.Models.{words, running_of}
+use Rattle.abstract_state.specs.ModelLaws.{gives_as, gives_then}
+use Rattle.abstract_state_steps.specs.EntryLaws as E
+use borrow.Author.Rules.{rules}
+use Rattle.abstract_state_steps.proofs.read_ref.Goals as goal
+
+pub returns : goal.returns
+returns c =
+    λ ls.
+    let a = c.args in
+    let w = words ls a.names.now a.edges.now a.state in
+    gives_as _ _ w _
+    (λ h. E.read_at (running_of w) a.id.0)
+    (gives_then _ _ _ _ _ (c.violate_if_unreadable-s.ensures ls)
+    (gives_then _ _ _ _ _ (c.release-t.ensures ls)
+    (c.give.ensures ls _ _)))

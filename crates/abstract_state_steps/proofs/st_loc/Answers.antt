@@ -1,0 +1,37 @@
+use Rattle.abstract_state.specs.declared.state.AbstractValue.TheVariants.{Reference, NonReference}
+use Rattle.meaning.specs.AbstractState as S
+use Rattle.abstract_state.specs.Models.{operand_of, words, running_of}
+use Rattle.abstract_state.specs.ModelLaws.{does_as, does_then}
+use Rattle.abstract_state_steps.specs.EntryLaws as E
+use borrow.Author.Rules.{rules}
+use Rattle.abstract_state_steps.proofs.st_loc.Goals as goal
+
+pub returns-in-Reference : goal.returns-in-Reference
+returns-in-Reference c =
+                        let a = c.args in
+    let w = words a.locals.now a.names.now a.edges.now a.state in
+    does_as _ _ w _
+    (λ h. E.store_over (running_of w) a.i.0 (operand_of a.new) (S.Local.ref c.in-Reference.id.0)
+    (E.local_told c.local-x.result (Reference c.in-Reference.id) _ (c.local-x.ensures _ _ h) c.if-x.true c.in-Reference.is))
+    (does_then _ _ _ _ _ (c.set_local.ensures _ _ _)
+    (c.release.ensures _))
+
+pub returns-in-NonReference : goal.returns-in-NonReference
+returns-in-NonReference c =
+                            let a = c.args in
+    let w = words a.locals.now a.names.now a.edges.now a.state in
+    does_as _ _ w _
+    (λ h. E.store_value (running_of w) a.i.0 (operand_of a.new) _
+    (E.local_told c.local-x.result NonReference _ (c.local-x.ensures _ _ h) c.if-x.true c.in-NonReference.is)
+    (c.is_local_borrowed-b.ensures _ h))
+    (does_then _ _ _ _ _ (c.set_local.ensures _ _ _)
+    (c.violate_if.ensures _ _ _))
+
+pub returns : goal.returns
+returns c =
+    let a = c.args in
+    let w = words a.locals.now a.names.now a.edges.now a.state in
+    does_as _ _ w _
+    (λ h. E.store_over (running_of w) a.i.0 (operand_of a.new) S.Local.absent
+    (E.local_absent c.local-x.result _ (c.local-x.ensures _ _ h) c.if-x.false))
+    (c.set_local.ensures _ _ _)
