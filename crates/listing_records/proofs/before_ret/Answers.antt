@@ -1,4 +1,3 @@
-use borrow.Author.Rules.{rules}
 use Rattle.listing_records.proofs.before_ret.Goals as goal
 
 pub returns-then-first_ret-code_count : goal.returns-then-first_ret-code_count

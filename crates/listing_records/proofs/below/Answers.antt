@@ -1,4 +1,3 @@
-use borrow.Author.Rules.{rules}
 use Rattle.listing_records.proofs.below.Goals as goal
 
 pub returns : goal.returns

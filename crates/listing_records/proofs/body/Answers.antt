@@ -4,7 +4,6 @@ use Prim.Native.Nat.{ℕ, ◌+◌, ◌-◌, ◌≤◌}
 use mathlib.Core.Bool.{true, false}
 use lib.ListN.{length, take, drop}
 use Rattle.meaning.specs.Listing.{u16_at, whole_at, body_at}
-use borrow.Author.Rules.{rules}
 use native.Mathlib.Omega.{arith}
 use Rattle.listing_records.proofs.body.Goals as goal
 
@@ -21,8 +20,12 @@ overflow_add-end c = let a =
     let w : a.c.at + 4 + u16_at a.s.now a.c.at ≤ length a.s.now = leb-true _ _ (sym c.whole_at.ensures ∙ c.if-whole_at.true) in
     omega arith
 
-pub slice_bounds-result-count : goal.slice_bounds-result-count
-slice_bounds-result-count c = omega arith
+pub slice_bounds-result-end : goal.slice_bounds-result-end
+unfolding whole_at
+slice_bounds-result-end c = let a =
+    c.args in
+    let w : a.c.at + 4 + u16_at a.s.now a.c.at ≤ length a.s.now = leb-true _ _ (sym c.whole_at.ensures ∙ c.if-whole_at.true) in
+    omega arith
 
 pub returns-then-whole_at : goal.returns-then-whole_at
 unfolding body_at

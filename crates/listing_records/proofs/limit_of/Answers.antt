@@ -1,5 +1,4 @@
 use Rattle.listing_records.proofs.Laws.{limit_low, limit_high}
-use borrow.Author.Rules.{rules}
 use Rattle.listing_records.proofs.limit_of.Goals as goal
 
 pub returns-then-f-lt-PARAMETERS : goal.returns-then-f-lt-PARAMETERS

@@ -7,7 +7,6 @@ use lib.Dec.{leb}
 use Rattle.meaning.specs.Listing.{u16_at, whole_at}
 use Rattle.listing_records.specs.Models.{found_at}
 use native.Mathlib.Omega.{arith}
-use borrow.Author.Rules.{rules}
 use Rattle.listing_records.proofs.read.Goals as goal
 
 pub returns-then-s-at : goal.returns-then-s-at
@@ -30,18 +29,14 @@ u16_in-requires c = let a =
 
 pub returns-then-whole_at : goal.returns-then-whole_at
 unfolding found_at
-returns-then-whole_at c = let at-whole-at =
-    c.before.before.before in
-    let a = at-whole-at.before.before.before.args in
-    let w : whole_at a.s.now a.c.at ≡ true = sym at-whole-at.whole_at.ensures ∙ c.if-whole_at.true in
-    let f : leb (length a.s.now) a.c.at ≡ false = lt-leb _ _ at-whole-at.before.if1.false in
+returns-then-whole_at c = let a = c.args in
+    let w : whole_at a.s.now a.c.at ≡ true = sym c.whole_at.ensures ∙ c.if-whole_at.true in
+    let f : leb (length a.s.now) a.c.at ≡ false = lt-leb _ _ c.if-s-at.false in
     rw (f, w, c.u16_in.ensures, c.u16_in-kind.ensures)
 
 pub returns-else-whole_at : goal.returns-else-whole_at
 unfolding found_at
-returns-else-whole_at c = let at-whole-at =
-    c.before in
-    let a = at-whole-at.before.before.before.args in
-    let w : whole_at a.s.now a.c.at ≡ false = sym at-whole-at.whole_at.ensures ∙ c.if-whole_at.false in
-    let f : leb (length a.s.now) a.c.at ≡ false = lt-leb _ _ at-whole-at.before.if1.false in
+returns-else-whole_at c = let a = c.args in
+    let w : whole_at a.s.now a.c.at ≡ false = sym c.whole_at.ensures ∙ c.if-whole_at.false in
+    let f : leb (length a.s.now) a.c.at ≡ false = lt-leb _ _ c.if-s-at.false in
     rw (f, w)

@@ -1,13 +1,8 @@
-use mathlib.Core.Path.{◌≡◌, refl, sym, ap, ◌∙◌}
-use Prim.Native.Nat.{◌-◌, ◌≤◌, ◌<◌}
-use lib.ListN.{length, take, length-set}
+use mathlib.Core.Path.{◌≡◌}
+use Prim.Native.Nat.{◌-◌, ◌≤◌}
+use lib.ListN.{length, take}
 use Rattle.meaning.specs.Listing.{places_from, no_places}
-use Rattle.meaning.specs.Laws.Listing.{places_end}
-use Rattle.listing_records.specs.Models.{fault_of, places_of, before_ret}
-use Rattle.listing_records.specs.ModelLaws.{ret_put}
-use Rattle.listing_records.proofs.Laws.{room_block, room_code, stop_fault, stop_full, go_block, go_code, go_first, none_read}
-use native.Mathlib.Omega.{arith}
-use borrow.Author.Rules.{rules}
+use Rattle.listing_records.specs.Models.{before_ret}
 use Rattle.listing_records.proofs.read_records.Given as goal
 
 abbrev pub invariant-loop-at : goal.invariant-loop-at

@@ -1,12 +1,9 @@
-use mathlib.Core.Path.{◌≡◌, refl, sym, ap, ◌∙◌}
-use Prim.Native.Nat.{ℕ, ◌-◌, ◌%◌, ◌/◌, ◌≤◌, ◌<◌}
+use mathlib.Core.Path.{◌≡◌}
+use Prim.Native.Nat.{◌≤◌, ◌<◌}
 use mathlib.Core.Bool.{◌&&◌}
-use mathlib.Core.List.{List}
-use lib.ListN.{length, take, drop, length-drop}
-use Rattle.meaning.specs.Listing.{fits_body, within_limits, field_width}
-use Rattle.listing_records.specs.Models.{field_of, packed, FieldFor, body_fault}
-use Rattle.listing_records.proofs.Laws.{tail_part, fields_here, fields_end, some_width, fit_wide, fit_stop, fit_go, fit_turn, fit_over, fit_done, within_turn, within_done}
-use native.Mathlib.Omega.{arith}
+use lib.ListN.{length, drop}
+use Rattle.meaning.specs.Listing.{fits_body, within_limits}
+use Rattle.listing_records.specs.Models.{packed}
 use Rattle.listing_records.proofs.test_body.Given as goal
 
 abbrev pub invariant-loop-fields : goal.invariant-loop-fields

@@ -10,7 +10,6 @@ use Rattle.meaning.specs.Listing.{kind_at, u16_at}
 use Rattle.listing_records.specs.Models.{keeps_to, limit_rows}
 use Rattle.listing_records.proofs.RowLaws.{keeps_fine, keeps_inside}
 use native.Mathlib.Omega.{arith}
-use borrow.Author.Rules.{rules}
 use Rattle.listing_records.proofs.test_by_row.Goals as goal
 use Rattle.listing_records.proofs.test_by_row.Lts as lts
 use Rattle.listing_records.proofs.test_by_row.Reads as reads
@@ -55,21 +54,16 @@ pub overflow_add-result-then-keeps_to_row : goal.overflow_add-result-then-keeps_
 overflow_add-result-then-keeps_to_row c = omega (arith, (nine c.before.before.before.before.before.before).0)
 
 pub returns-then-keeps_to_row : goal.returns-then-keeps_to_row
-returns-then-keeps_to_row c = let at-if2 =
-    c.before.before.before in
-    let at-u16-in2 = at-if2.before in
-    let at-u16-in = at-u16-in2.before in
-    let start = at-u16-in.before.before.before in
-    let a = start.args in
-    let n = nine at-u16-in.before in
-    let k = kinds at-if2 in
-    let row = at-u16-in2.u16-in2.result - 10 in
-    let e : kind_at a.s.now a.at ≡ 10 + row = sym at-u16-in2.u16-in2.ensures ∙ omega (arith, k.0) in
+returns-then-keeps_to_row c = let a = c.args in
+    let n = nine c.before.before.before.before.before.before in
+    let k = kinds c.before.before.before in
+    let row = c.u16_in-kind.result - 10 in
+    let e : kind_at a.s.now a.at ≡ 10 + row = sym c.u16_in-kind.ensures ∙ omega (arith, k.0) in
     let h : keeps_to (get_or (limit_rows a.locals) row []) (u16_at a.s.now a.at) a.s.now a.at ≡ true =
-    rw (← at-u16-in.u16_in.ensures, ← start.requires.1) (sym c.keeps_to_row.ensures ∙ c.if-keeps_to_row.true) in
+    rw (← c.u16_in-n.ensures, ← c.requires.1) (sym c.keeps_to_row.ensures ∙ c.if-keeps_to_row.true) in
     record {
       number = sym (keeps_fine a.s.now a.locals a.at row n.0 (omega (arith, k.1)) e h a.coded n.1);
-      kind = λ z. at-u16-in2.u16-in2.ensures;
-      next = λ z. ap (λ (m : ℕ). a.at + 4 + m) at-u16-in.u16_in.ensures;
-      inside = λ z. rw at-u16-in.u16_in.ensures (keeps_inside a.s.now a.locals a.at row n.0 (omega (arith, k.1)) e h);
+      kind = λ z. c.u16_in-kind.ensures;
+      next = λ z. ap (λ (m : ℕ). a.at + 4 + m) c.u16_in-n.ensures;
+      inside = λ z. rw c.u16_in-n.ensures (keeps_inside a.s.now a.locals a.at row n.0 (omega (arith, k.1)) e h);
     }

@@ -6,7 +6,6 @@ use lib.Dec.{leb}
 use Rattle.listing_records.proofs.Laws.{frame_else, plain_width, plain_right, plain_within}
 use Rattle.listing_records.proofs.Lists.{up}
 use native.Mathlib.Omega.{arith}
-use borrow.Author.Rules.{rules}
 use Rattle.listing_records.proofs.test_field.Goals as goal
 
 pub returns-then-f-le-WORD : goal.returns-then-f-le-WORD
@@ -59,5 +58,5 @@ returns-in-8 c = rw c.in-8.is (record { width = refl; right = λ h. c.tokens_fro
 pub returns-in_default : goal.returns-in_default
 returns-in_default c = let a =
     c.args in
-        rw (frame_else a.f (up 8 a.f (up 7 a.f (up 6 a.f c.if-f-le-WORD.false c.in_default.in_default-own.rest.0.0.1) c.in_default.in_default-own.rest.0.1) c.in_default.in_default-own.rest.1))
+    rw (frame_else a.f (up 8 a.f (up 7 a.f (up 6 a.f c.if-f-le-WORD.false c.in_default.in_default-own.rest.0.0.1) c.in_default.in_default-own.rest.0.1) c.in_default.in_default-own.rest.1))
     (record { width = refl; right = λ h. rw (c.byte_at.ensures, c.tokens_from-in_default.ensures h); within = λ h. ap (λ (n : ℕ). leb n 16) c.byte_at-in_default.ensures })

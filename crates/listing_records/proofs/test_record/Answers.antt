@@ -5,14 +5,13 @@ use Rattle.meaning.specs.Listing.{kind_in_use, kind_at, fields_of, fault_at}
 use Rattle.listing_records.specs.Models.{fields_in, fault_of, place_fault}
 use Rattle.listing_records.proofs.Laws.{record_inv, short_inv, end_inv, refused_test, fault_1, fault_2, fault_place, fault_body, inside}
 use native.Mathlib.Omega.{arith}
-use borrow.Author.Rules.{rules}
 use Rattle.listing_records.proofs.test_record.Goals as goal
 
 pub returns-then-not-shape : goal.returns-then-not-shape
 returns-then-not-shape c = let a =
     c.args in
     let r = c.read in
-        let v = record_inv a.s.now a.at r.result r.ensures c.in-Record.kind c.in-Record.next c.in-Record.is in
+    let v = record_inv a.s.now a.at r.result r.ensures c.in-Record.kind c.in-Record.next c.in-Record.is in
     let k : kind_in_use (kind_at a.s.now a.at) ≡ false = rw v.1 at (sym c.shape_of-shape.ensures.known ∙ not-true _ c.if-not-shape.true) in
     refused_test a.s.now a.at a.locals a.coded c.failed.result 2 c.failed.ensures (λ z. omega arith) (fault_2 a.s.now a.at a.locals a.coded v.0 k)
 
@@ -20,7 +19,7 @@ pub returns-then-number-ne0 : goal.returns-then-number-ne0
 returns-then-number-ne0 c = let a =
     c.args in
     let r = c.read in
-        let v = record_inv a.s.now a.at r.result r.ensures c.in-Record.kind c.in-Record.next c.in-Record.is in
+    let v = record_inv a.s.now a.at r.result r.ensures c.in-Record.kind c.in-Record.next c.in-Record.is in
     let k : kind_in_use (kind_at a.s.now a.at) ≡ true = rw v.1 at (sym c.shape_of-shape.ensures.known ∙ not-false _ c.if-not-shape.false) in
     let m = c.misplaced-number in
     let f = fault_place a.s.now a.at a.locals a.coded v.0 k m.result (rw v.1 at m.ensures) c.if-number-ne0.true in
@@ -30,7 +29,7 @@ pub returns-else-number-ne0 : goal.returns-else-number-ne0
 returns-else-number-ne0 c = let a =
     c.args in
     let r = c.read in
-        let so = c.shape_of-shape in
+    let so = c.shape_of-shape in
     let v = record_inv a.s.now a.at r.result r.ensures c.in-Record.kind c.in-Record.next c.in-Record.is in
     let k : kind_in_use (kind_at a.s.now a.at) ≡ true = rw v.1 at (sym so.ensures.known ∙ not-false _ c.if-not-shape.false) in
     let m = c.misplaced-number in

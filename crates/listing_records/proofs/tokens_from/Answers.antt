@@ -4,7 +4,6 @@ use lib.ListN.{take, drop}
 use Rattle.meaning.specs.Lists.{all}
 use Rattle.meaning.specs.Listing.{is_token}
 use native.Mathlib.Omega.{arith}
-use borrow.Author.Rules.{rules}
 use Rattle.listing_records.proofs.tokens_from.Goals as goal
 
 pub returns-then-b-end : goal.returns-then-b-end

@@ -1,7 +1,5 @@
-use mathlib.Core.Path.{◌≡◌, refl}
+use mathlib.Core.Path.{refl}
 use borrow.Author.Tests.{le-leb, lt-leb}
-use Prim.Native.Nat.{◌≤◌, ◌-◌}
-use lib.ListN.{length, drop}
 use Rattle.meaning.specs.Lists.{all}
 use Rattle.meaning.specs.Listing.{is_token}
 use Rattle.meaning.specs.Laws.Search.{search_end, all_stop, all_turn}

@@ -1,11 +1,8 @@
-use mathlib.Core.Path.{◌≡◌, refl}
-use borrow.Author.Tests.{le-leb, lt-leb}
+use mathlib.Core.Path.{◌≡◌}
 use Prim.Native.Nat.{◌≤◌, ◌-◌}
 use lib.ListN.{length, drop}
 use Rattle.meaning.specs.Lists.{all}
 use Rattle.meaning.specs.Listing.{is_token}
-use Rattle.meaning.specs.Laws.Search.{search_end, all_stop, all_turn}
-use native.Mathlib.Omega.{arith}
 use Rattle.listing_records.proofs.tokens_only.Given as goal
 
 abbrev pub invariant-loop-i : goal.invariant-loop-i

@@ -3,7 +3,6 @@ use Prim.Native.Nat.{◌+◌, ◌≤◌}
 use lib.ListN.{length, get_or, get_or-eq_default}
 use Rattle.meaning.specs.Listing.{u16_at}
 use native.Mathlib.Omega.{arith}
-use borrow.Author.Rules.{rules}
 use Rattle.listing_records.proofs.u16_at.Goals as goal
 
 pub returns-then-s-i : goal.returns-then-s-i

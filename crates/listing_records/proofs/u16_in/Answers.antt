@@ -3,7 +3,6 @@ use Prim.Native.Nat.{◌+◌}
 use lib.ListN.{get_or}
 use Rattle.meaning.specs.Listing.{u16_at}
 use native.Mathlib.Omega.{arith}
-use borrow.Author.Rules.{rules}
 use Rattle.listing_records.proofs.u16_in.Goals as goal
 
 pub overflow_mul-result : goal.overflow_mul-result

@@ -5,7 +5,6 @@ use lib.ListN.{length}
 use Rattle.meaning.specs.Listing.{u16_at, whole_at}
 use Rattle.listing_records.proofs.Lists.{leb_iff}
 use native.Mathlib.Omega.{arith}
-use borrow.Author.Rules.{rules}
 use Rattle.listing_records.proofs.whole_at.Goals as goal
 
 pub returns-then-s-at : goal.returns-then-s-at

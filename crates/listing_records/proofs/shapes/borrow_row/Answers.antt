@@ -1,6 +1,5 @@
 use mathlib.Core.Path.{refl}
 use native.Mathlib.Omega.{arith}
-use borrow.Author.Rules.{rules}
 use Rattle.meaning.specs.Listing.{fields_of, fields_in}
 use Rattle.listing_records.specs.Models.{packed, body_limits, padded}
 use Rattle.listing_records.proofs.KindLaws.{one_kind, borrow_kinds, row_of}

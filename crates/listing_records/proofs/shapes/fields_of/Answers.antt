@@ -2,9 +2,9 @@ use mathlib.Core.Path.{refl}
 use native.Mathlib.Omega.{arith}
 use Rattle.meaning.specs.Listing.{fields_of, fields_in}
 use Rattle.listing_records.specs.Models.{packed}
-use Rattle.listing_records.proofs.Lists.{cases}
 use Rattle.listing_records.proofs.KindLaws.{one_kind, bare_or_none, local_kinds, borrow_kinds, rest_kinds}
 use Rattle.listing_records.proofs.shapes.fields_of.Goals as goal
+use Rattle.listing_records.proofs.shapes.fields_of.Goals.{in_default-via-then-kind-lt18, in_default-via-else-kind-lt18+else-kind-lt22+else-kind-lt25}
 
 pub returns-in-26 : goal.returns-in-26
 unfolding packed fields_of fields_in
@@ -63,4 +63,7 @@ returns-in_default-kind-3-2 c = let a =
     c.in_default-1.rest.0.1 in
     let b = c.in_default-1.rest.1 in
     rest_kinds c.args.kind (omega arith)
-    (λ h. cases c.in_default.branch (λ t. absurd (omega arith)) (λ t. omega arith)) a b
+    (λ h. elim c.in_default.branch [
+      | in_default-via-then-kind-lt18 w ↦ absurd (omega arith)
+      | in_default-via-else-kind-lt18+else-kind-lt22+else-kind-lt25 w ↦ omega arith
+    ]) a b

@@ -1,12 +1,9 @@
-use mathlib.Core.Path.{◌≡◌, refl, sym, ◌∙◌}
-use Prim.Native.Nat.{ℕ, ◌+◌, ◌-◌, ◌≤◌, ◌<◌}
-use native.Mathlib.Omega.{arith}
+use mathlib.Core.Path.{◌≡◌}
+use Prim.Native.Nat.{◌+◌, ◌-◌, ◌≤◌}
 use mathlib.Core.List.{map}
-use lib.ListN.{length, take, length-set}
-use lib.Seq.{take_all}
+use lib.ListN.{length, take}
 use Rattle.meaning.specs.Lists.{up_to}
-use Rattle.listing_records.specs.Models.{limit_row, limit_rows}
-use Rattle.listing_records.proofs.Lists.{filled, map_id}
+use Rattle.listing_records.specs.Models.{limit_row}
 use Rattle.listing_records.proofs.shapes.limit_rows.Given as goal
 
 -- the first rows are there
