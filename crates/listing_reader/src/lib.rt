@@ -63,7 +63,7 @@ impl<'a> Reader<'a> {
     }
 }
 
-// The body of the record that a listing starts with. Its contract says nothing of a reader, so a caller needs no walk.
+// The body of the record that a listing starts with. Its contract says nothing of a reader.
 pub fn head<'a>(listing: &'a [u8]) -> &'a [u8]
     ensures { result.now ≡ body_at listing.now 0 }
 {
