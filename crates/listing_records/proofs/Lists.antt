@@ -1,7 +1,6 @@
 -- Laws of lists and tests: an array that is filled from the front, and the first of an array by what they stand for.
 -- Assumes nothing.
 use mathlib.Core.Path.{◌≡◌, refl, sym, ap, subst, ◌∙◌}
-use mathlib.Core.Logic.{◌⊎◌, inl, inr}
 use mathlib.Core.Bool.{Bool, true, false, ◌||◌}
 use mathlib.Core.List.{List, [], ◌∷◌, ◌++◌, map}
 use Prim.Native.Nat.{ℕ, zero, suc, ◌+◌, ◌-◌, ◌≤◌, ◌<◌}
@@ -91,10 +90,6 @@ all_get p zero xs i h l e = absurd (not-suc-le-zero h)
 all_get p (suc n) [] i h l e = absurd (not-suc-le-zero l)
 all_get p (suc n) (x ∷ xs) zero h l e = and_l (p x) (all p (take n xs)) e
 all_get p (suc n) (x ∷ xs) (suc i) h l e = all_get p n xs i (le_of_suc-le-suc h) (le_of_suc-le-suc l) (and_r (p x) (all p (take n xs)) e)
-
-pub cases : {A B C : Type 0} → A ⊎ B → (A → C) → (B → C) → C
-cases (inl a) f g = f a
-cases (inr b) f g = g b
 
 -- ---- what holds of each number below n, shown one by one
 

@@ -10,8 +10,8 @@ use Rattle.listing.proofs.block_at.Goals as goal
 
 pub returns : goal.returns
 unfolding block_at D.block_of
-returns c = let a =
-    c.args in
+returns c =
+    let a = c.args in
     let b2 = c.body-b in
     let ba = c.byte_at in
     let ua3 = c.u16_at-3 in

@@ -17,8 +17,8 @@ pub bounds-places-i : goal.bounds-places-i
 bounds-places-i c = omega arith
 
 pub block_at-requires : goal.block_at-requires
-block_at-requires c = let a =
-    c.args in
+block_at-requires c =
+    let a = c.args in
     let full : length a.places ≡ 16 = search rules in
     rw c.place.ensures.0 (all_get (two_at a.s.now) a.n a.places c.loop-i.i c.loop-i-test.true (omega arith) c.requires.1)
 
@@ -35,8 +35,8 @@ pub loop-i-smaller : goal.loop-i-smaller
 loop-i-smaller c = omega arith
 
 pub loop-i-preserved : goal.loop-i-preserved
-loop-i-preserved c = let a =
-    c.args in
+loop-i-preserved c =
+    let a = c.args in
     let l = c.loop-i in
     let full : length a.places ≡ 16 = search rules in
     (omega arith, simp length-set l.invariant.1, map_filled block_of (block_at a.s.now) l.out a.places l.i c.block_at.result (omega arith) (omega arith) l.invariant.2 (c.block_at.ensures ∙ ap (block_at a.s.now) c.place.ensures.0))

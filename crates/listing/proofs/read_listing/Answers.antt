@@ -8,13 +8,13 @@ use Rattle.listing.proofs.ReadLaws.{places_stop, sound, were_read}
 use Rattle.listing.proofs.read_listing.Goals as goal
 
 pub returns-then-s-eq0 : goal.returns-then-s-eq0
-returns-then-s-eq0 c = let s =
-    c.args.s.now in
+returns-then-s-eq0 c =
+    let s = c.args.s.now in
     (listed_as s _ c.unread.result _ c.unread.ensures.0 ∙ sym (no_bytes s c.if-s-eq0.true), c.unread.ensures.1)
 
 pub returns-then-w-ne0 : goal.returns-then-w-ne0
-returns-then-w-ne0 c = let w =
-    c.read_places-w in
+returns-then-w-ne0 c =
+    let w = c.read_places-w in
     let if1 = c.if-s-eq0 in
     let s = c.args.s.now in (
       listed_as s _ c.unread-then-w-ne0.result _ c.unread-then-w-ne0.ensures.0
@@ -23,16 +23,16 @@ returns-then-w-ne0 c = let w =
     )
 
 pub ruled-requires : goal.ruled-requires
-ruled-requires c = let w =
-    c.read_places-w in
+ruled-requires c =
+    let w = c.read_places-w in
     let if1 = c.if-s-eq0 in
     let s = c.args.s.now in
     sound s _ _ w.result c.if-w-ne0.false w.ensures (omega (arith, if1.false)) c.head.result.now c.head.ensures
 
 pub returns : goal.returns
 unfolding ruled_places
-returns c = let w =
-    c.read_places-w in
+returns c =
+    let w = c.read_places-w in
     let if1 = c.if-s-eq0 in
     let s = c.args.s.now in (
       c.ruled.ensures.0

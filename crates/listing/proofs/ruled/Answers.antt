@@ -11,8 +11,8 @@ use native.Mathlib.Omega.{arith}
 use Rattle.listing.proofs.ruled.Goals as goal
 
 pub returns-then-n-eq0 : goal.returns-then-n-eq0
-returns-then-n-eq0 c = let a =
-    c.args in
+returns-then-n-eq0 c =
+    let a = c.args in
     let p = c.requires in (
       listed_as a.s.now a.code.now c.unread.result _ c.unread.ensures.0
           ∙ ruled_none a.s.now a.places a.code.now a.w.block_count a.w.code_count (omega (arith, p.blocks, p.all_blocks))
@@ -33,8 +33,8 @@ pub bounds-places-bad : goal.bounds-places-bad
 bounds-places-bad c = omega (arith, c.requires.blocks)
 
 pub returns-then-bad-n : goal.returns-then-bad-n
-returns-then-bad-n c = let a =
-    c.args in
+returns-then-bad-n c =
+    let a = c.args in
     let p = c.requires in
     let ff = c.first_faulty-bad in (
       listed_as a.s.now a.code.now c.unread-then-bad-n.result _ c.unread-then-bad-n.ensures.0
@@ -55,8 +55,8 @@ pub bounds-code-stray : goal.bounds-code-stray
 bounds-code-stray c = omega (arith, c.requires.code)
 
 pub returns-then-stray-m : goal.returns-then-stray-m
-returns-then-stray-m c = let a =
-    c.args in
+returns-then-stray-m c =
+    let a = c.args in
     let p = c.requires in
     let ba = c.blocks_at-blocks in
     let ff = c.first_faulty-bad in
@@ -80,8 +80,8 @@ overflow_add-param_count c = omega (arith, c.byte_at-param_count.ensures, c.requ
 
 pub returns : goal.returns
 unfolding listed_of
-returns c = let a =
-    c.args in
+returns c =
+    let a = c.args in
     let p = c.requires in
     let ba = c.blocks_at-blocks in
     let ff = c.first_faulty-bad in

@@ -15,22 +15,22 @@ overflow_add-start c =
 
 pub overflow_add-end : goal.overflow_add-end
 unfolding whole_at
-overflow_add-end c = let a =
-    c.args in
+overflow_add-end c =
+    let a = c.args in
     let w : a.c.at + 4 + u16_at a.s.now a.c.at ≤ length a.s.now = leb-true _ _ (sym c.whole_at.ensures ∙ c.if-whole_at.true) in
     omega arith
 
 pub slice_bounds-result-end : goal.slice_bounds-result-end
 unfolding whole_at
-slice_bounds-result-end c = let a =
-    c.args in
+slice_bounds-result-end c =
+    let a = c.args in
     let w : a.c.at + 4 + u16_at a.s.now a.c.at ≤ length a.s.now = leb-true _ _ (sym c.whole_at.ensures ∙ c.if-whole_at.true) in
     omega arith
 
 pub returns-then-whole_at : goal.returns-then-whole_at
 unfolding body_at
-returns-then-whole_at c = let a =
-    c.args in
+returns-then-whole_at c =
+    let a = c.args in
     let ua = c.u16_at in
     let w : whole_at a.s.now a.c.at ≡ true = sym c.whole_at.ensures ∙ c.if-whole_at.true in
     let e : (a.c.at + 4 + ua.result) - (a.c.at + 4) ≡ u16_at a.s.now a.c.at = omega (arith, ua.ensures) in

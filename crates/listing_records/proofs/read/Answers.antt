@@ -15,15 +15,15 @@ returns-then-s-at c = simp (le-leb _ _ c.if-s-at.true)
 
 pub u16_in-kind-requires : goal.u16_in-kind-requires
 unfolding whole_at
-u16_in-kind-requires c = let a =
-    c.args in
+u16_in-kind-requires c =
+    let a = c.args in
     let w : a.c.at + 4 + u16_at a.s.now a.c.at ≤ length a.s.now = leb-true _ _ (sym c.whole_at.ensures ∙ c.if-whole_at.true) in
     omega arith
 
 pub u16_in-requires : goal.u16_in-requires
 unfolding whole_at
-u16_in-requires c = let a =
-    c.args in
+u16_in-requires c =
+    let a = c.args in
     let w : a.c.at + 4 + u16_at a.s.now a.c.at ≤ length a.s.now = leb-true _ _ (sym c.whole_at.ensures ∙ c.if-whole_at.true) in
     omega arith
 

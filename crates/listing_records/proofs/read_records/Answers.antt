@@ -32,8 +32,8 @@ pub test_by_row-t-requires : goal.test_by_row-t-requires
 test_by_row-t-requires c = (c.loop-at-test.true, c.limit_rows-rows.ensures)
 
 pub returns-then-t-ne0 : goal.returns-then-t-ne0
-returns-then-t-ne0 c = let a =
-    c.args in
+returns-then-t-ne0 c =
+    let a = c.args in
     let pre = c.requires in
     let if1 = c.if-t-ne0 in
     let l = c.loop-at in
@@ -44,8 +44,8 @@ returns-then-t-ne0 c = let a =
     t.result.number t.ensures.number if1.true)
 
 pub returns-then-is_full : goal.returns-then-is_full
-returns-then-is_full c = let a =
-    c.args in
+returns-then-is_full c =
+    let a = c.args in
     let pre = c.requires in
     let loop-test = c.loop-at-test in
     let l = c.loop-at in
@@ -87,8 +87,8 @@ pub loop-at-smaller-then-t-eq2 : goal.loop-at-smaller-then-t-eq2
 loop-at-smaller-then-t-eq2 c = let x = c.test_by_row-t.ensures.next c.if-t-ne0.false in omega arith
 
 pub loop-at-preserved-then-t-eq2 : goal.loop-at-preserved-then-t-eq2
-loop-at-preserved-then-t-eq2 c = let a =
-    c.args in
+loop-at-preserved-then-t-eq2 c =
+    let a = c.args in
     let pre = c.requires in
     let loop-test = c.loop-at-test in
     let l = c.loop-at in
@@ -109,8 +109,8 @@ pub loop-at-smaller-then-t-ne1 : goal.loop-at-smaller-then-t-ne1
 loop-at-smaller-then-t-ne1 c = let x = c.test_by_row-t.ensures.next c.if-t-ne0.false in omega arith
 
 pub loop-at-preserved-then-t-ne1 : goal.loop-at-preserved-then-t-ne1
-loop-at-preserved-then-t-ne1 c = let a =
-    c.args in
+loop-at-preserved-then-t-ne1 c =
+    let a = c.args in
     let pre = c.requires in
     let loop-test = c.loop-at-test in
     let if1 = c.if-t-ne0 in
@@ -132,8 +132,8 @@ pub loop-at-smaller : goal.loop-at-smaller
 loop-at-smaller c = let x = c.test_by_row-t.ensures.next c.if-t-ne0.false in omega arith
 
 pub loop-at-preserved : goal.loop-at-preserved
-loop-at-preserved c = let a =
-    c.args in
+loop-at-preserved c =
+    let a = c.args in
     let pre = c.requires in
     let loop-test = c.loop-at-test in
     let l = c.loop-at in
@@ -151,8 +151,8 @@ loop-at-preserved c = let a =
 
 pub returns : goal.returns
 unfolding places_of
-returns c = let l =
-    c.loop-at in
+returns c =
+    let l = c.loop-at in
     record {
       places = sym (places_end c.args.s.now l.at (record { blocks = take l.block_count l.blocks; code = take l.code_count l.code }) c.loop-at-test.false) ∙ l.invariant.4;
       blocks = l.invariant.0;

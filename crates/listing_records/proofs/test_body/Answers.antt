@@ -16,8 +16,8 @@ slice_bounds-rest-count c = omega arith
 
 pub returns-then-rest-eq0 : goal.returns-then-rest-eq0
 unfolding body_fault
-returns-then-rest-eq0 c = let a =
-    c.args in
+returns-then-rest-eq0 c =
+    let a = c.args in
     let l = c.loop-fields in
     let d : length (drop l.i a.b.now) ≡ length a.b.now - l.i = length-drop l.i a.b.now in
     let p : 0 < field_width (field_of (l.fields % 16)) (drop l.i a.b.now) = some_width (field_of (l.fields % 16)) (drop l.i a.b.now) in
@@ -25,8 +25,8 @@ returns-then-rest-eq0 c = let a =
     rw (← fit_wide a.locals (packed 4 l.fields) (packed 4 (l.fields / 16)) a.b.now l.i (field_width (field_of (l.fields % 16)) (drop l.i a.b.now)) (field_of (l.fields % 16)) (fields_here l.fields l.invariant.1 c.loop-fields-test.true) refl _ l.invariant.2 h)
 
 pub test_field-t-requires : goal.test_field-t-requires
-test_field-t-requires c = let a =
-    c.args in
+test_field-t-requires c =
+    let a = c.args in
     let l = c.loop-fields in
     let d : length (drop l.i a.b.now) ≡ length a.b.now - l.i = length-drop l.i a.b.now in
     let t : take (length a.b.now - l.i) (drop l.i a.b.now) ≡ drop l.i a.b.now = tail_part a.b.now l.i in
@@ -34,8 +34,8 @@ test_field-t-requires c = let a =
 
 pub returns-then-rest-t : goal.returns-then-rest-t
 unfolding body_fault
-returns-then-rest-t c = let a =
-    c.args in
+returns-then-rest-t c =
+    let a = c.args in
     let l2 = c.loop-fields in
     let tf = c.test_field-t in
     let d : length (drop l2.i a.b.now) ≡ length a.b.now - l2.i = length-drop l2.i a.b.now in
@@ -47,8 +47,8 @@ returns-then-rest-t c = let a =
     l2.invariant.2 g.right c.if-rest-t.true)
 
 pub overflow_add-i : goal.overflow_add-i
-overflow_add-i c = let a =
-    c.args in
+overflow_add-i c =
+    let a = c.args in
     let l2 = c.loop-fields in
     let tf = c.test_field-t in
     let d : length (drop l2.i a.b.now) ≡ length a.b.now - l2.i = length-drop l2.i a.b.now in
@@ -64,8 +64,8 @@ pub loop-fields-smaller : goal.loop-fields-smaller
 loop-fields-smaller c = omega arith
 
 pub loop-fields-preserved : goal.loop-fields-preserved
-loop-fields-preserved c = let a =
-    c.args in
+loop-fields-preserved c =
+    let a = c.args in
     let l2 = c.loop-fields in
     let tf = c.test_field-t in
     let d : length (drop l2.i a.b.now) ≡ length a.b.now - l2.i = length-drop l2.i a.b.now in
@@ -84,15 +84,15 @@ loop-fields-preserved c = let a =
 
 pub returns-then-i-b : goal.returns-then-i-b
 unfolding body_fault
-returns-then-i-b c = let a =
-    c.args in
+returns-then-i-b c =
+    let a = c.args in
     let l = c.loop-fields in
     rw (← fit_over a.locals (packed 4 l.fields) a.b.now l.i (fields_end l.fields c.loop-fields-test.false) _ l.invariant.2 c.if-i-b.true)
 
 pub returns-then-within : goal.returns-then-within
 unfolding body_fault
-returns-then-within c = let a =
-    c.args in
+returns-then-within c =
+    let a = c.args in
     let l = c.loop-fields in
     let t = c.loop-fields-test in
     let f = fit_done a.locals (packed 4 l.fields) a.b.now l.i (fields_end l.fields t.false) _ l.invariant.2 c.if-i-b.false in
@@ -101,8 +101,8 @@ returns-then-within c = let a =
 
 pub returns-else-within : goal.returns-else-within
 unfolding body_fault
-returns-else-within c = let a =
-    c.args in
+returns-else-within c =
+    let a = c.args in
     let l = c.loop-fields in
     let t = c.loop-fields-test in
     let f = fit_done a.locals (packed 4 l.fields) a.b.now l.i (fields_end l.fields t.false) _ l.invariant.2 c.if-i-b.false in

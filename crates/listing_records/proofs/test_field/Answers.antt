@@ -9,8 +9,8 @@ use native.Mathlib.Omega.{arith}
 use Rattle.listing_records.proofs.test_field.Goals as goal
 
 pub returns-then-f-le-WORD : goal.returns-then-f-le-WORD
-returns-then-f-le-WORD c = let a =
-    c.args in
+returns-then-f-le-WORD c =
+    let a = c.args in
     let i1 = c.if-f-le-WORD in
     let k : get_or a.b.now 0 0 < 256 = omega (arith, c.shared_slice_known-2-1.given 0) in
     record {
@@ -56,7 +56,7 @@ pub returns-in-8 : goal.returns-in-8
 returns-in-8 c = rw c.in-8.is (record { width = refl; right = λ h. c.tokens_from.ensures h; within = λ h. refl })
 
 pub returns-in_default : goal.returns-in_default
-returns-in_default c = let a =
-    c.args in
+returns-in_default c =
+    let a = c.args in
     rw (frame_else a.f (up 8 a.f (up 7 a.f (up 6 a.f c.if-f-le-WORD.false c.in_default.in_default-own.rest.0.0.1) c.in_default.in_default-own.rest.0.1) c.in_default.in_default-own.rest.1))
     (record { width = refl; right = λ h. rw (c.byte_at.ensures, c.tokens_from-in_default.ensures h); within = λ h. ap (λ (n : ℕ). leb n 16) c.byte_at-in_default.ensures })

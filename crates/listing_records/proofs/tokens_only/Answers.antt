@@ -13,8 +13,8 @@ pub bounds-b-i : goal.bounds-b-i
 bounds-b-i c = omega arith
 
 pub returns-then-b-i-gt2 : goal.returns-then-b-i-gt2
-returns-then-b-i-gt2 c = let l =
-    c.loop-i in
+returns-then-b-i-gt2 c =
+    let l = c.loop-i in
     all_stop is_token 0 c.args.b.now _ l.i (omega arith) l.invariant.1 (lt-leb _ _ c.if-b-i-gt2.true)
 
 pub overflow_add-i : goal.overflow_add-i
@@ -24,8 +24,8 @@ pub loop-i-smaller : goal.loop-i-smaller
 loop-i-smaller c = omega arith
 
 pub loop-i-preserved : goal.loop-i-preserved
-loop-i-preserved c = let l =
-    c.loop-i in
+loop-i-preserved c =
+    let l = c.loop-i in
     (omega arith, all_turn is_token 0 c.args.b.now _ l.i (omega arith) l.invariant.1 (le-leb _ _ c.if-b-i-gt2.false))
 
 pub returns : goal.returns

@@ -24,6 +24,6 @@ u16_in-len-requires c = omega arith
 
 pub returns : goal.returns
 unfolding whole_at
-returns c = let a =
-    c.args in
+returns c =
+    let a = c.args in
     leb_iff (4 + c.u16_in-len.result) (length a.s.now - a.at) (a.at + 4 + u16_at a.s.now a.at) (length a.s.now) (λ h. omega (arith, c.u16_in-len.ensures)) (λ h. omega (arith, c.u16_in-len.ensures))

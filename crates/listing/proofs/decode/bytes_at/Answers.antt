@@ -23,8 +23,8 @@ pub loop-i-smaller : goal.loop-i-smaller
 loop-i-smaller c = omega arith
 
 pub loop-i-preserved : goal.loop-i-preserved
-loop-i-preserved c = let a =
-    c.args in
+loop-i-preserved c =
+    let a = c.args in
     let l = c.loop-i in
     (omega arith, simp length-set l.invariant.1, filled (λ x. x) (λ k. get_or a.b.now (a.from + k) 0) l.out l.i c.byte_at.result (omega arith) l.invariant.2 c.byte_at.ensures)
 

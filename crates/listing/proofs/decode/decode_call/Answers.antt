@@ -24,8 +24,8 @@ returns-then-returns-gt-MAX_RETURNS c =
 
 pub returns : goal.returns
 unfolding call_for call_of decoded_of
-returns c = let a2 =
-    c.args in
+returns c =
+    let a2 = c.args in
     let ba = c.byte_at-acquired in
     let ba2 = c.byte_at-returns in
     let ba3 = c.bytes_at-tokens in

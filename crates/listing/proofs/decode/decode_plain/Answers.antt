@@ -70,8 +70,8 @@ returns-in-27 c = rw c.in-27.is (cc)
 
 pub returns-in_default : goal.returns-in_default
 unfolding instr_of instr_in
-returns-in_default c = let n27 =
-    c.in_default.in_default-own.rest in
+returns-in_default c =
+    let n27 = c.in_default.in_default-own.rest in
     let n26 = n27.0 in
     let n25 = n26.0 in
     let n24 = n25.0 in

@@ -30,8 +30,8 @@ pub loop-i-smaller : goal.loop-i-smaller
 loop-i-smaller c = omega arith
 
 pub loop-i-preserved : goal.loop-i-preserved
-loop-i-preserved c = let a =
-    c.args in
+loop-i-preserved c =
+    let a = c.args in
     let l = c.loop-i in
     (omega arith, simp length-set l.invariant.1, filled (λ x. x) (λ k. u16_at a.b.now (a.from + 2 * k)) l.out l.i c.u16_at.result (omega arith) l.invariant.2 c.u16_at.ensures)
 

@@ -18,8 +18,8 @@ pub bounds-blocks-i : goal.bounds-blocks-i
 bounds-blocks-i c = omega arith
 
 pub returns-then-k-b : goal.returns-then-k-b
-returns-then-k-b c = let a =
-    c.args in
+returns-then-k-b c =
+    let a = c.args in
     let l = c.loop-i in
     let full : length a.blocks ≡ 16 = search (unmapped) in
     found a.blocks a.n full c.requires (λ b. eqb a.k.0 b.exit && empty b.successors) _ l.i c.loop-i-test.true l.invariant (rw no_successor c.if-k-b.true)
@@ -31,8 +31,8 @@ pub loop-i-smaller : goal.loop-i-smaller
 loop-i-smaller c = omega arith
 
 pub loop-i-preserved : goal.loop-i-preserved
-loop-i-preserved c = let a =
-    c.args in
+loop-i-preserved c =
+    let a = c.args in
     let l = c.loop-i in
     let full : length a.blocks ≡ 16 = search (unmapped) in
     passed a.blocks a.n full c.requires (λ b. eqb a.k.0 b.exit && empty b.successors) _ l.i c.loop-i-test.true l.invariant (rw no_successor c.if-k-b.false)

@@ -17,8 +17,8 @@ pub bounds-blocks-i : goal.bounds-blocks-i
 bounds-blocks-i c = omega arith
 
 pub returns-then-entry-b : goal.returns-then-entry-b
-returns-then-entry-b c = let a =
-    c.args in
+returns-then-entry-b c =
+    let a = c.args in
     let l = c.loop-i in
     let full : length a.blocks ≡ 16 = search (unmapped) in
     found a.blocks a.n full c.requires (λ b. eqb a.entry.0 b.entry) _ l.i c.loop-i-test.true l.invariant (eq-eqb _ _ c.if-entry-b.true)
@@ -30,8 +30,8 @@ pub loop-i-smaller : goal.loop-i-smaller
 loop-i-smaller c = omega arith
 
 pub loop-i-preserved : goal.loop-i-preserved
-loop-i-preserved c = let a =
-    c.args in
+loop-i-preserved c =
+    let a = c.args in
     let l = c.loop-i in
     let full : length a.blocks ≡ 16 = search (unmapped) in
     passed a.blocks a.n full c.requires (λ b. eqb a.entry.0 b.entry) _ l.i c.loop-i-test.true l.invariant (ne_eqb _ _ c.if-entry-b.false)

@@ -11,29 +11,29 @@ returns-then-i-b c =
     rw (faulty_eq c.args.blocks c.args.n full c.requires.0 c.args.i c.requires.1 c.args.code_count, c.if-i-b.true)
 
 pub returns-then-b : goal.returns-then-b
-returns-then-b c = let a =
-    c.args in
+returns-then-b c =
+    let a = c.args in
     let p = c.requires in
     let full : length a.blocks ≡ 16 = search (unmapped) in
     rw (faulty_eq a.blocks a.n full p.0 a.i p.1 a.code_count, c.if-i-b.false, lt-ltb _ _ c.if-b.true)
 
 pub returns-then-code_count-b : goal.returns-then-code_count-b
-returns-then-code_count-b c = let a =
-    c.args in
+returns-then-code_count-b c =
+    let a = c.args in
     let p = c.requires in
     let full : length a.blocks ≡ 16 = search (unmapped) in
     rw (faulty_eq a.blocks a.n full p.0 a.i p.1 a.code_count, c.if-i-b.false, le-ltb _ _ c.if-b.false, le-leb _ _ c.if-code_count-b.true)
 
 pub returns-then-overlaps : goal.returns-then-overlaps
-returns-then-overlaps c = let a =
-    c.args in
+returns-then-overlaps c =
+    let a = c.args in
     let p = c.requires in
     let full : length a.blocks ≡ 16 = search (unmapped) in
     rw (faulty_eq a.blocks a.n full p.0 a.i p.1 a.code_count, c.if-i-b.false, le-ltb _ _ c.if-b.false, lt-leb _ _ c.if-code_count-b.false, sym c.overlaps.ensures ∙ c.if-overlaps.true)
 
 pub returns : goal.returns
-returns c = let a =
-    c.args in
+returns c =
+    let a = c.args in
     let p = c.requires in
     let full : length a.blocks ≡ 16 = search (unmapped) in
     rw (

@@ -12,8 +12,8 @@ use Rattle.listing.proofs.rules.first_stray.Goals as goal
 use Rattle.listing.proofs.rules.first_stray.Goals.{then-u16_at-eq-RET+else-not-ends_block, else-u16_at-eq-RET}
 
 pub loop-k-init : goal.loop-k-init
-loop-k-init c = let a =
-    c.args in
+loop-k-init c =
+    let a = c.args in
     let fits : a.m ≤ length a.code.now = omega (arith, c.requires.1, c.requires.2) in
     stray_from a.s.now a.code.now a.m fits (blocks_in a.blocks a.n) a.first c.requires.3
 
@@ -33,8 +33,8 @@ pub ends_block-requires : goal.ends_block-requires
 ends_block-requires c = c.requires.0
 
 pub returns-then-not-ends_block : goal.returns-then-not-ends_block
-returns-then-not-ends_block c = let a =
-    c.args in
+returns-then-not-ends_block c =
+    let a = c.args in
     let l = c.loop-k in
     let t = c.loop-k-test in
     let fits : a.m ≤ length a.code.now = omega (arith, c.requires.1, c.requires.2) in
@@ -53,8 +53,8 @@ pub loop-k-smaller : goal.loop-k-smaller
 loop-k-smaller c = omega arith
 
 pub loop-k-preserved : goal.loop-k-preserved
-loop-k-preserved c = let a =
-    c.args in
+loop-k-preserved c =
+    let a = c.args in
     let l = c.loop-k in
     let t = c.loop-k-test in
     let p = c.place-start in
@@ -69,8 +69,8 @@ loop-k-preserved c = let a =
     )
 
 pub returns : goal.returns
-returns c = let a =
-    c.args in
+returns c =
+    let a = c.args in
     let l = c.loop-k in
     let e : l.k ≡ a.m = omega arith in
     first_end (stray_ret (map (instr_at a.s.now) (take a.m a.code.now)) (blocks_in a.blocks a.n)) l.k a.m _ e l.invariant.1

@@ -17,8 +17,8 @@ pub bounds-blocks-i : goal.bounds-blocks-i
 bounds-blocks-i c = omega arith
 
 pub returns-then-b-c : goal.returns-then-b-c
-returns-then-b-c c = let a =
-    c.args in
+returns-then-b-c c =
+    let a = c.args in
     let l = c.loop-i in
     let full : length a.blocks ≡ 16 = search (unmapped) in
     found a.blocks a.n full c.requires (overlap (block_of a.b)) _ l.i c.loop-i-test.true l.invariant c.if-b-c.true
@@ -30,8 +30,8 @@ pub loop-i-smaller : goal.loop-i-smaller
 loop-i-smaller c = omega arith
 
 pub loop-i-preserved : goal.loop-i-preserved
-loop-i-preserved c = let a =
-    c.args in
+loop-i-preserved c =
+    let a = c.args in
     let l = c.loop-i in
     let full : length a.blocks ≡ 16 = search (unmapped) in
     passed a.blocks a.n full c.requires (overlap (block_of a.b)) _ l.i c.loop-i-test.true l.invariant c.if-b-c.false

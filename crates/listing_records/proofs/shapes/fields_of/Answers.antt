@@ -23,8 +23,8 @@ unfolding packed fields_of fields_in
 returns-in-21 c = one_kind 5 21 c.args.kind refl c.in-21.is
 
 pub returns-in_default-kind : goal.returns-in_default-kind
-returns-in_default-kind c = let a =
-    c.in_default-kind.in_default-kind-own.rest.0.1 in
+returns-in_default-kind c =
+    let a = c.in_default-kind.in_default-kind-own.rest.0.1 in
     let b = c.in_default-kind.in_default-kind-own.rest.1 in
     borrow_kinds c.args.kind (omega arith) (omega arith)
 
@@ -38,8 +38,8 @@ returns-in-24 c = one_kind 597 24 c.args.kind refl c.in-24.is
 
 pub returns-in_default-kind-2 : goal.returns-in_default-kind-2
 unfolding packed fields_of fields_in
-returns-in_default-kind-2 c = let a =
-    c.in_default-kind-2.in_default-kind-2-own.rest.0.1 in
+returns-in_default-kind-2 c =
+    let a = c.in_default-kind-2.in_default-kind-2-own.rest.0.1 in
     let b = c.in_default-kind-2.in_default-kind-2-own.rest.1 in
     one_kind 0 23 c.args.kind refl (omega arith)
 
@@ -59,8 +59,8 @@ unfolding packed fields_of fields_in
 returns-in_default-kind-3 c = bare_or_none 10 c.args.kind refl c.in_default-kind-3.in_default-kind-4-own.rest.0.1 c.in_default-kind-3.in_default-kind-4-own.rest.1 (λ a b. omega arith)
 
 pub returns-in_default-kind-3-2 : goal.returns-in_default-kind-3-2
-returns-in_default-kind-3-2 c = let a =
-    c.in_default-1.rest.0.1 in
+returns-in_default-kind-3-2 c =
+    let a = c.in_default-1.rest.0.1 in
     let b = c.in_default-1.rest.1 in
     rest_kinds c.args.kind (omega arith)
     (λ h. elim c.in_default.branch [

@@ -34,8 +34,8 @@ pub loop-i-smaller : goal.loop-i-smaller
 loop-i-smaller c = omega arith
 
 pub loop-i-preserved : goal.loop-i-preserved
-loop-i-preserved c = let rows =
-    c.loop-i.rows in
+loop-i-preserved c =
+    let rows = c.loop-i.rows in
     let i : ℕ = c.loop-i.i in
     let h : i < length rows = omega arith in (
       omega arith,
@@ -45,7 +45,7 @@ loop-i-preserved c = let rows =
 
 pub returns : goal.returns
 unfolding limit_rows
-returns c = let l =
-    c.loop-i in
+returns c =
+    let l = c.loop-i in
     let n : l.i ≡ 18 = omega arith in
     sym (take_all 18 l.rows (omega arith)) ∙ sym (map_id (take 18 l.rows)) ∙ rw n at l.invariant.2
