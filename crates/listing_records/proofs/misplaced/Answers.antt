@@ -1,17 +1,16 @@
-use mathlib.Core.Bool.{beq}
-use lib.Dec.{eqb}
-use borrow.Author.Tests.{not-true, not-false}
+use native.Mathlib.Omega.{arith}
+use Rattle.std.proofs.lemmas.Grind.{common_steps}
 use Rattle.listing_records.specs.Models.{place_fault}
 use Rattle.listing_records.proofs.misplaced.Goals as goal
 
 pub returns-then-kind-at : goal.returns-then-kind-at
 unfolding place_fault
-returns-then-kind-at c = let a = c.args in rw (not-true (beq (eqb a.kind 1) (eqb a.at 0)) c.if-kind-at.true)
+returns-then-kind-at c = grind (arith, common_steps)
 
 pub returns-then-coded-kind : goal.returns-then-coded-kind
 unfolding place_fault
-returns-then-coded-kind c = let a = c.args in rw (not-false (beq (eqb a.kind 1) (eqb a.at 0)) c.if-kind-at.false, c.if-coded-kind.true)
+returns-then-coded-kind c = grind (arith, common_steps)
 
 pub returns : goal.returns
 unfolding place_fault
-returns c = let a = c.args in rw (not-false (beq (eqb a.kind 1) (eqb a.at 0)) c.if-kind-at.false, c.if-coded-kind.false)
+returns c = grind (arith, common_steps)
