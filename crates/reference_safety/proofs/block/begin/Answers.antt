@@ -1,4 +1,3 @@
--- `reference_safety::block::begin` meets its contract. Assumes nothing.
 use mathlib.Core.Path.{refl, ap}
 use Rattle.std.specs.Prelude.{ℕ}
 use native.Mathlib.Numerals.{add-one}
@@ -6,14 +5,7 @@ use Rattle.meaning.specs.EntryPoints.{Running}
 use Rattle.borrow_graph.specs.Models.{graph_in}
 use Rattle.abstract_state.specs.Models.{locals_in}
 use borrow.Author.Rules.{rules}
-use Rattle.reference_safety.proofs.block.begin.Statement.{statement}
-use Rattle.reference_safety.proofs.block.begin.Tie as tie
+use Rattle.reference_safety.proofs.block.begin.Goals as goal
 
-add-s : tie.Need-overflow-add-s
-add-s c = search rules
-
-returns : tie.Need-returns
+pub returns : goal.returns
 returns c = (refl, refl, refl, refl, λ ls ns es. ap {B = Running} (λ (n : ℕ). record { locals = locals_in ls c.args.locals; graph = graph_in ns es c.args.state.borrow_graph; next = n; root = c.args.locals; blurs = 0; offset = 0 }) (add-one c.args.locals))
-
-pub begin-spec : {M : Type 1} → statement M
-begin-spec = tie.close (tie.spec add-s returns)

@@ -4,12 +4,11 @@ use Rattle.abstract_state.specs.Models.{words, running_of}
 use Rattle.abstract_state.specs.ModelLaws.{halted_then}
 use Rattle.operand_stack.specs.Models.{stack_in}
 use Rattle.reference_safety.specs.Models.{with}
-use Rattle.reference_safety.proofs.block.at_offset.Statement.{statement}
-use Rattle.reference_safety.proofs.block.at_offset.Tie as tie
+use Rattle.reference_safety.proofs.block.at_offset.Goals as goal
 
-returns : tie.Need-returns
+pub returns : goal.returns
 returns c =
-    let a = c.before.args in
+    let a = c.args in
     let s = a.m.state in (
       refl,
       λ ls ns ws es. record {
@@ -17,6 +16,3 @@ returns c =
         steps = λ h. halted_then s.blurred s.violation s.borrowed_at.0 s.refusal (with (stack_in ws a.m.depth) (running_of (words ls ns es s))) (machine_at a.offset.0);
       },
     )
-
-pub at-offset-spec : {M : Type 1} → statement M
-at-offset-spec = tie.close (tie.spec returns)

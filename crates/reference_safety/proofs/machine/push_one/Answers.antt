@@ -1,0 +1,9 @@
+use Rattle.meaning.specs.EntryPoints.{value_for}
+use Rattle.meaning.specs.Steps.{pushed}
+use Rattle.file_format.specs.Models.{token_of}
+use Rattle.reference_safety.specs.MachineLaws.{gives, steps_from}
+use borrow.Author.Rules.{rules}
+use Rattle.reference_safety.proofs.machine.push_one.Goals as goal
+
+pub returns : goal.returns
+returns c = λ ls es. steps_from (λ vs s. pushed vs (value_for (token_of c.args.token) s)) (gives (c.value_for-s.ensures ls es) (c.pushed.ensures ls _ es))

@@ -1,0 +1,6 @@
+use Rattle.reference_safety.specs.MachineLaws.{gives}
+use borrow.Author.Rules.{rules}
+use Rattle.reference_safety.proofs.steps.borrow_loc.Goals as goal
+
+pub returns : goal.returns
+returns c = λ ls. gives (c.borrow_loc-t.ensures ls) (c.pushed.ensures ls _ _)

@@ -1,0 +1,11 @@
+use Rattle.meaning.specs.EntryPoints.{freeze_ref}
+use Rattle.meaning.specs.Steps.{pushed}
+use Rattle.reference_safety.specs.MachineLaws.{ref_runs, gives}
+use borrow.Author.Rules.{rules}
+use Rattle.reference_safety.proofs.steps.freeze_ref.Goals as goal
+
+pub returns : goal.returns
+returns c =
+    let a = c.args in
+    let pop-ref = c.pop_ref-p in
+    λ ls. ref_runs a.stack.now a.m.depth pop-ref.result (λ n us s. pushed us (freeze_ref n s)) pop-ref.ensures.0 (c.refuse-s.ensures ls _ _) (gives (c.freeze_ref-t.ensures ls) (c.pushed.ensures ls _ _))
