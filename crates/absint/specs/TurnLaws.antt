@@ -1,5 +1,5 @@
 -- One turn of the loop, its start and its end, as the definitions have them.
-use Rattle.std.specs.Prelude.{ℕ, zero, suc, ◌+◌, ◌*◌, ◌≤◌, ◌<◌, min, ◌≡◌, ◌≢◌, ◌⊎◌, Bool, ◌&&◌, cond, List, [], ◌∷◌, map, eqb, leb, ltb, length, take, drop, get_or, set}
+use Rattle.std.specs.Prelude.{ℕ, zero, suc, ◌+◌, ◌*◌, ◌≤◌, ◌<◌, min, ◌≡◌, ◌⊎◌, Bool, ◌&&◌, cond, List, [], ◌∷◌, map, eqb, leb, ltb, length, take, drop, get_or, set}
 use Rattle.std.proofs.Common.{zero-le, not-suc-le-zero, le_of_suc-le-suc, mul-le-mul, add-one, arith, sym, ◌∙◌, inl, inr, true≢false, ne_eqb, eq-eqb, lt-ltb, le-ltb, ltb-false}
 use Rattle.std.proofs.Math.Path.{refl, ap, subst}
 use Rattle.std.proofs.Math.Bool.{true, false, not}

@@ -5,7 +5,6 @@ use Rattle.meaning.specs.Laws.Verify.{verify_short}
 use Rattle.listing.specs.ModelLaws.{reading_is}
 use Rattle.absint.specs.Models.{ruling_of}
 use Rattle.absint.specs.WholeLaws as Law
-use borrow.Author.Rules.{rules}
 use Rattle.absint.proofs.analyze.Goals as goal
 
 pub returns-then-area-lt-AREA_WORDS : goal.returns-then-area-lt-AREA_WORDS
@@ -15,7 +14,7 @@ returns-then-area-lt-AREA_WORDS c =
 
 pub analyze_function-t-requires : goal.analyze_function-t-requires
 analyze_function-t-requires c =
-        let r = c.read_listing-l in
+    let r = c.read_listing-l in
     let if1 = c.if-area-lt-AREA_WORDS in
     let a = c.args in
     let e = reading_is a.listing.now _ r.result _ _ r.ensures.0 c.in-Read.is in (
@@ -35,7 +34,7 @@ pub returns-in-Read : goal.returns-in-Read
 returns-in-Read c =
     let v = c.verdict_of in
     let f = c.analyze_function-t in
-        let r = c.read_listing-l in
+    let r = c.read_listing-l in
     let if1 = c.if-area-lt-AREA_WORDS in
     let a = c.args in
     let e = reading_is a.listing.now _ r.result _ _ r.ensures.0 c.in-Read.is in (
@@ -48,7 +47,7 @@ returns-in-Read c =
 pub returns-in-Nothing : goal.returns-in-Nothing
 returns-in-Nothing c =
     let empty = c.empty_cell in
-        let r = c.read_listing-l in
+    let r = c.read_listing-l in
     let if1 = c.if-area-lt-AREA_WORDS in
     let a = c.args in
     let e = reading_is a.listing.now _ r.result _ _ r.ensures.0 c.in-Nothing.is in (
@@ -58,7 +57,7 @@ returns-in-Nothing c =
 
 pub returns-in-Refused : goal.returns-in-Refused
 returns-in-Refused c =
-        let r = c.read_listing-l in
+    let r = c.read_listing-l in
     let if1 = c.if-area-lt-AREA_WORDS in
     let a = c.args in
     let e = reading_is a.listing.now _ r.result _ _ r.ensures.0 c.in-Refused.is in (

@@ -1,6 +1,5 @@
 use mathlib.Core.Path.{◌∙◌}
 use Rattle.absint.specs.WholeLaws.{cleared_left}
-use borrow.Author.Rules.{rules}
 use Rattle.absint.proofs.verify.Goals as goal
 
 pub returns : goal.returns

@@ -1,6 +1,5 @@
 use Rattle.meaning.specs.Laws.Area.{cleared_written, cleared_short}
 use mathlib.Core.Path.{sym}
-use borrow.Author.Rules.{rules}
 use Rattle.absint_area.proofs.clear.Goals as goal
 
 pub returns-then-area-ge-AREA_WORDS : goal.returns-then-area-ge-AREA_WORDS

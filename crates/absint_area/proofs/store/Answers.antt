@@ -2,7 +2,6 @@ use lib.ListN.{length}
 use mathlib.Core.Path.{sym, ◌∙◌}
 use Rattle.meaning.specs.Laws.Area.{has_block_lem, stored, not_stored}
 use native.Mathlib.Omega.{arith}
-use borrow.Author.Rules.{rules}
 use Rattle.absint_area.proofs.store.Goals as goal
 
 pub overflow_mul-b : goal.overflow_mul-b

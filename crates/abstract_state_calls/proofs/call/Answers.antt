@@ -3,7 +3,6 @@ use Rattle.meaning.specs.Listing.{token_as}
 use Rattle.abstract_state.specs.Models.{operands_of, words}
 use Rattle.abstract_state_calls.specs.Models.{ids_of}
 use Rattle.abstract_state_calls.specs.CallLaws.{calls_done}
-use borrow.Author.Rules.{rules}
 use Rattle.abstract_state_calls.proofs.call.Goals as goal
 
 pub returns : goal.returns

@@ -8,7 +8,6 @@ use Rattle.abstract_state.specs.Models.{words, running_of}
 use Rattle.abstract_state.specs.ModelLaws.{does_as}
 use Rattle.abstract_state_calls.specs.Models.{acquiring}
 use Rattle.abstract_state_calls.specs.AcquireLaws.{alone, acquire_lowest}
-use borrow.Author.Rules.{rules}
 use Rattle.abstract_state_calls.proofs.fail_acquired.Goals as goal
 
 pub returns-then-low-lt-NO_RESOURCE : goal.returns-then-low-lt-NO_RESOURCE

@@ -9,7 +9,6 @@ use Rattle.abstract_state.specs.Models.{words, running_of, failing}
 use Rattle.abstract_state.specs.ModelLaws.{does_as}
 use Rattle.abstract_state_calls.specs.Models.{framed}
 use Rattle.abstract_state_calls.specs.LoopLaws.{failing_at}
-use borrow.Author.Rules.{rules}
 use Rattle.abstract_state_calls.proofs.fail_frame.Goals as goal
 
 pub returns : goal.returns

@@ -8,7 +8,6 @@ use Rattle.abstract_state.specs.Models.{words, running_of, failing}
 use Rattle.abstract_state.specs.ModelLaws.{does_as}
 use Rattle.abstract_state_calls.specs.Models.{acquiring}
 use Rattle.abstract_state_calls.specs.AcquireLaws.{acquire_one}
-use borrow.Author.Rules.{rules}
 use Rattle.abstract_state_calls.proofs.fail_global.Goals as goal
 
 pub returns : goal.returns

@@ -1,4 +1,4 @@
-use Rattle.std.specs.Prelude.{◌≡◌, ℕ, ◌-◌, ◌<◌, ◌≤◌, min, List, [], ◌∷◌, length, drop}
+use Rattle.std.specs.Prelude.{◌≡◌, ◌<◌, ◌≤◌, min, [], ◌∷◌, length}
 use lib.ListN.{drop_of_length-le}
 use Rattle.meaning.specs.Laws.Array.{length_of_map}
 use Rattle.meaning.specs.AbstractState.{Operand}
@@ -7,7 +7,7 @@ use Rattle.abstract_state.specs.Models.{operand_of, operands_of, words}
 use Rattle.abstract_state.specs.ModelLaws.{does_nothing}
 use Rattle.abstract_state_calls.specs.Models.{handing}
 use Rattle.abstract_state_calls.specs.ModelLaws.{operands_step, operands_count}
-use Rattle.abstract_state_calls.specs.LoopLaws.{Left, left_all, left_turn, left_done}
+use Rattle.abstract_state_calls.specs.LoopLaws.{left_all, left_turn, left_done}
 use Rattle.abstract_state_calls.specs.CallLaws.{hand_step}
 use native.Mathlib.Omega.{arith}
 use borrow.Author.Rules.{rules}
@@ -33,7 +33,7 @@ loop-i-smaller c = omega arith
 
 pub loop-i-preserved : goal.loop-i-preserved
 loop-i-preserved c =
-        let a = c.args in
+    let a = c.args in
     let l = c.loop-i in
     let v : Operand = operand_of c.value_of-v.result in
     let z : length a.values.list ≡ 16 = search (rules, length_of_map, c.well_formed.1.1.1.0) in

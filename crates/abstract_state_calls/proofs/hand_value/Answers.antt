@@ -11,13 +11,12 @@ use Rattle.abstract_state.specs.Models.{words, running_of, failing}
 use Rattle.abstract_state.specs.ModelLaws.{does_as, does_nothing, barred}
 use Rattle.abstract_state_calls.specs.Models.{handing}
 use Rattle.abstract_state_calls.specs.CallLaws.{hand_one}
-use borrow.Author.Rules.{rules}
 use Rattle.abstract_state_calls.proofs.hand_value.Goals as goal
 
 pub returns-in-Reference : goal.returns-in-Reference
 returns-in-Reference c =
-        let a = c.args in
-        let n = c.in-Reference.id.0 in
+    let a = c.args in
+    let n = c.in-Reference.id.0 in
     let m = c.is_mutable-m in
     let b = c.has_consistent_borrows-b in
     let o = c.only_if-c in

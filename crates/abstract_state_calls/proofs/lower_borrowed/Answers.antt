@@ -8,7 +8,6 @@ use Rattle.borrow_graph.specs.Folds.{lower_taken, lower_left}
 use Rattle.abstract_state.specs.Models.{words, running_of}
 use Rattle.abstract_state_calls.specs.Models.{is_borrowed}
 use Rattle.abstract_state_calls.specs.AcquireLaws.{borrowed_known}
-use borrow.Author.Rules.{rules}
 use Rattle.abstract_state_calls.proofs.lower_borrowed.Goals as goal
 
 pub returns-then-b : goal.returns-then-b

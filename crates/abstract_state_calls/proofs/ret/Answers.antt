@@ -1,7 +1,6 @@
 use Rattle.abstract_state.specs.Models.{operands_of, words}
 use Rattle.abstract_state_calls.specs.Models.{ids_of}
 use Rattle.abstract_state_calls.specs.CallLaws.{does_ret}
-use borrow.Author.Rules.{rules}
 use Rattle.abstract_state_calls.proofs.ret.Goals as goal
 
 pub returns : goal.returns

@@ -1,7 +1,6 @@
 use Rattle.abstract_state.specs.Models.{words}
 use Rattle.abstract_state_calls.specs.Models.{ids_of}
 use Rattle.abstract_state_calls.specs.CallLaws.{calls_ref}
-use borrow.Author.Rules.{rules}
 use Rattle.abstract_state_calls.proofs.return_ref.Goals as goal
 
 pub returns : goal.returns

@@ -6,7 +6,6 @@ use Rattle.meaning.specs.Listing.{token_as}
 use Rattle.meaning.specs.EntryPoints.{return_values}
 use Rattle.abstract_state_calls.specs.Models.{ids_of}
 use Rattle.abstract_state_calls.specs.CallLaws.{calls_value}
-use borrow.Author.Rules.{rules}
 use Rattle.abstract_state_calls.proofs.return_value.Goals as goal
 
 pub returns-in-0 : goal.returns-in-0

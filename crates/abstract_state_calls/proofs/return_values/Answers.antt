@@ -1,4 +1,4 @@
-use Rattle.std.specs.Prelude.{◌≡◌, ℕ, ◌-◌, ◌<◌, ◌≤◌, min, List, map, length, take}
+use Rattle.std.specs.Prelude.{◌≡◌, ℕ, ◌<◌, ◌≤◌, min, List, map, length, take}
 use mathlib.Core.Path.{refl, subst}
 use lib.ListN.{length-set, drop_of_length-le}
 use Rattle.meaning.specs.Laws.Array.{front_map_step}
@@ -8,7 +8,7 @@ use Rattle.meaning.specs.EntryPoints.{return_values}
 use Rattle.abstract_state.specs.Models.{operand_of, operands_in, words}
 use Rattle.abstract_state_calls.specs.Models.{ids_of, Calls}
 use Rattle.abstract_state_calls.specs.ModelLaws.{front_count, operands_none, operands_push}
-use Rattle.abstract_state_calls.specs.CallLaws.{Pending, pending_all, pending_turn, pending_none}
+use Rattle.abstract_state_calls.specs.CallLaws.{pending_all, pending_turn, pending_none}
 use native.Mathlib.Omega.{arith}
 use borrow.Author.Rules.{rules}
 use Rattle.abstract_state_calls.proofs.return_values.Goals as goal
@@ -33,7 +33,7 @@ loop-i-smaller c = omega arith
 
 pub loop-i-preserved : goal.loop-i-preserved
 loop-i-preserved c =
-        let a = c.args in
+    let a = c.args in
     let ts : List Token = map token_as (take a.count a.tokens) in
     let l = c.loop-i in
     let r = c.return_value-s.result in

@@ -1,13 +1,12 @@
 use Rattle.abstract_state.specs.Models.{words, running_of}
 use Rattle.abstract_state.specs.ModelLaws.{gives_as, gives_then}
 use Rattle.abstract_state_steps.specs.EntryLaws as E
-use borrow.Author.Rules.{rules}
 use Rattle.abstract_state_steps.proofs.borrow_field.Goals as goal
 
 pub returns : goal.returns
 returns c =
     λ ls.
-                            let a = c.args in
+    let a = c.args in
     let w = words ls a.names.now a.edges.now a.state in
     gives_as _ _ w _
     (λ h. E.borrow_field_at (running_of w) c.fresh-new.result.0 c.fresh-new.ensures a.mutable a.id.0 a.field)

@@ -1,13 +1,12 @@
 use Rattle.abstract_state.specs.Models.{words, running_of}
 use Rattle.abstract_state.specs.ModelLaws.{gives_as, gives_then}
 use Rattle.abstract_state_steps.specs.EntryLaws as E
-use borrow.Author.Rules.{rules}
 use Rattle.abstract_state_steps.proofs.borrow_global.Goals as goal
 
 pub returns : goal.returns
 returns c =
     λ ls.
-                        let a = c.args in
+    let a = c.args in
     let w = words ls a.names.now a.edges.now a.state in
     let r = running_of w in
     gives_as _ _ w _

@@ -1,7 +1,6 @@
 use Rattle.abstract_state.specs.Models.{words, running_of}
 use Rattle.abstract_state.specs.ModelLaws.{gives_as, gives_then}
 use Rattle.abstract_state_steps.specs.EntryLaws as E
-use borrow.Author.Rules.{rules}
 use Rattle.abstract_state_steps.proofs.compare_refs.Goals as goal
 
 pub returns : goal.returns

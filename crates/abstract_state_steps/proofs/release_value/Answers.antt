@@ -1,6 +1,5 @@
 use Rattle.meaning.specs.EntryPoints as R
 use Rattle.abstract_state.specs.ModelLaws.{does_nothing}
-use borrow.Author.Rules.{rules}
 use Rattle.abstract_state_steps.proofs.release_value.Goals as goal
 
 pub returns-in-Reference : goal.returns-in-Reference

@@ -3,12 +3,11 @@ use Rattle.meaning.specs.AbstractState as S
 use Rattle.abstract_state.specs.Models.{operand_of, words, running_of}
 use Rattle.abstract_state.specs.ModelLaws.{does_as, does_then}
 use Rattle.abstract_state_steps.specs.EntryLaws as E
-use borrow.Author.Rules.{rules}
 use Rattle.abstract_state_steps.proofs.st_loc.Goals as goal
 
 pub returns-in-Reference : goal.returns-in-Reference
 returns-in-Reference c =
-                        let a = c.args in
+    let a = c.args in
     let w = words a.locals.now a.names.now a.edges.now a.state in
     does_as _ _ w _
     (λ h. E.store_over (running_of w) a.i.0 (operand_of a.new) (S.Local.ref c.in-Reference.id.0)
@@ -18,7 +17,7 @@ returns-in-Reference c =
 
 pub returns-in-NonReference : goal.returns-in-NonReference
 returns-in-NonReference c =
-                            let a = c.args in
+    let a = c.args in
     let w = words a.locals.now a.names.now a.edges.now a.state in
     does_as _ _ w _
     (λ h. E.store_value (running_of w) a.i.0 (operand_of a.new) _

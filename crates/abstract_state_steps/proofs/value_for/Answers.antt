@@ -1,5 +1,4 @@
 use Rattle.meaning.specs.EntryPoints as R
-use borrow.Author.Rules.{rules}
 use Rattle.abstract_state_steps.proofs.value_for.Goals as goal
 
 pub returns-in-Value : goal.returns-in-Value

@@ -3,13 +3,12 @@ use Rattle.meaning.specs.EntryPoints as R
 use Rattle.abstract_state.specs.Models.{words, running_of}
 use Rattle.abstract_state.specs.ModelLaws.{gives_as, gives_then}
 use Rattle.abstract_state_steps.specs.EntryLaws as E
-use borrow.Author.Rules.{rules}
 use Rattle.abstract_state_steps.proofs.vector_element_borrow.Goals as goal
 
 pub returns-in-Reference : goal.returns-in-Reference
 returns-in-Reference c =
     λ ls.
-                                let a = c.args in
+    let a = c.args in
     let w = words ls a.names.now a.edges.now a.state in
     rw c.in-Reference.is (gives_as _ _ w _
     (λ h. E.element_at (running_of w) c.fresh-new.result.0 c.fresh-new.ensures a.mutable c.in-Reference.id.0)

@@ -2,7 +2,6 @@ use Rattle.meaning.specs.EntryPoints as R
 use Rattle.abstract_state.specs.Models.{words, running_of}
 use Rattle.abstract_state.specs.ModelLaws.{does_as, does_then}
 use Rattle.abstract_state_steps.specs.EntryLaws as E
-use borrow.Author.Rules.{rules}
 use Rattle.abstract_state_steps.proofs.vector_op.Goals as goal
 
 pub returns-in-Reference : goal.returns-in-Reference

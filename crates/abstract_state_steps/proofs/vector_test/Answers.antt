@@ -3,7 +3,6 @@ use Rattle.meaning.specs.BorrowGraph.{is_mutable}
 use Rattle.abstract_state.specs.Models.{words, running_of}
 use Rattle.abstract_state.specs.ModelLaws.{does_as, does_then}
 use Rattle.abstract_state_steps.specs.EntryLaws as E
-use borrow.Author.Rules.{rules}
 use Rattle.abstract_state_steps.proofs.vector_test.Goals as goal
 
 pub returns-then-mutable : goal.returns-then-mutable

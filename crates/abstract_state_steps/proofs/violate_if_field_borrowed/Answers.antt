@@ -3,7 +3,6 @@ use Rattle.meaning.specs.BorrowGraph.{borrows_fully}
 use Rattle.abstract_state.specs.Models.{words, running_of}
 use Rattle.abstract_state.specs.ModelLaws.{does_as}
 use Rattle.abstract_state_steps.specs.EntryLaws as E
-use borrow.Author.Rules.{rules}
 use Rattle.abstract_state_steps.proofs.violate_if_field_borrowed.Goals as goal
 
 pub returns-then-mutable : goal.returns-then-mutable

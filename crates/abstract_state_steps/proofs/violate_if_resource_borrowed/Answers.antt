@@ -8,7 +8,6 @@ use Rattle.meaning.specs.Laws.Lowest.{lowest_same}
 use Rattle.abstract_state.specs.Models.{words, running_of}
 use Rattle.abstract_state.specs.ModelLaws.{does_as}
 use Rattle.abstract_state_steps.specs.EntryLaws as E
-use borrow.Author.Rules.{rules}
 use Rattle.abstract_state_steps.proofs.violate_if_resource_borrowed.Goals as goal
 
 -- a mutable borrow is a borrow

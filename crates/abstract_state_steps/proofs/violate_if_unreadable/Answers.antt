@@ -4,7 +4,6 @@ use Rattle.references.specs.Models.{filter_of}
 use Rattle.abstract_state.specs.Models.{words, running_of}
 use Rattle.abstract_state.specs.ModelLaws.{does_as}
 use Rattle.abstract_state_steps.specs.EntryLaws as E
-use borrow.Author.Rules.{rules}
 use Rattle.abstract_state_steps.proofs.violate_if_unreadable.Goals as goal
 
 pub returns : goal.returns

@@ -1,13 +1,12 @@
 use Rattle.abstract_state.specs.Models.{words, running_of}
 use Rattle.abstract_state.specs.ModelLaws.{does_as, does_then}
 use Rattle.abstract_state_steps.specs.EntryLaws as E
-use borrow.Author.Rules.{rules}
 use Rattle.abstract_state_steps.proofs.write_ref.Goals as goal
 
 pub returns : goal.returns
 returns c =
     λ ls.
-                        let a = c.args in
+    let a = c.args in
     let w = words ls a.names.now a.edges.now a.state in
     does_as _ _ w _
     (λ h. E.write_at (running_of w) a.id.0 _ _

@@ -4,7 +4,6 @@ use Rattle.meaning.specs.AbstractState.{Operand}
 use Rattle.operand_stack.specs.Models.{stack_in, taken, pop_one}
 use Rattle.operand_stack.specs.StackLaws.{stack_at, stack_none, stack_cut}
 use native.Mathlib.Omega.{arith}
-use borrow.Author.Rules.{rules}
 use Rattle.operand_stack.proofs.pop.Goals as goal
 
 pub returns-then-n-eq0 : goal.returns-then-n-eq0

@@ -1,13 +1,9 @@
-use Prim.Native.Nat.{ℕ, ◌≤◌, ◌+◌, ◌-◌}
-use mathlib.Core.Path.{◌≡◌, refl, sym, ap, ◌∙◌}
-use mathlib.Core.List.{[]}
-use lib.ListN.{length, drop, length-set}
+use Prim.Native.Nat.{◌≤◌, ◌+◌}
+use mathlib.Core.Path.{◌≡◌}
+use lib.ListN.{length, drop}
 use Rattle.meaning.specs.Steps.{pop_many}
 use Rattle.abstract_state.specs.Models.{operands_in}
 use Rattle.operand_stack.specs.Models.{stack_in, taken, pop_some}
-use Rattle.operand_stack.specs.StackLaws.{stack_cut, stack_length, many_short, many_start, many_turn}
-use native.Mathlib.Omega.{arith}
-use borrow.Author.Rules.{rules}
 use Rattle.operand_stack.proofs.pop_many.Given as goal
 
 abbrev pub invariant-loop-left : goal.invariant-loop-left

@@ -8,7 +8,6 @@ use Rattle.abstract_state.specs.Models.{operand_of}
 use Rattle.abstract_state.specs.declared.state.AbstractValue.{AbstractValue}
 use Rattle.operand_stack.specs.Models.{stack_in, Taken, taken, pop_one}
 use Rattle.operand_stack.specs.StackLaws.{stopped_then, went_then, pop_then}
-use borrow.Author.Rules.{rules}
 use Rattle.operand_stack.proofs.pop_ref.Goals as goal
 
 abbrev as_ref : Operand → List Operand → Outcome (Taken ℕ)

@@ -3,7 +3,6 @@ use Rattle.meaning.specs.AbstractState.{non_ref}
 use Rattle.abstract_state.specs.Models.{operand_of}
 use Rattle.operand_stack.specs.Models.{stack_in, pop_one, pop_rest}
 use Rattle.operand_stack.specs.StackLaws.{stopped, stopped_then, went_then, rest_then}
-use borrow.Author.Rules.{rules}
 use Rattle.operand_stack.proofs.pop_under.Goals as goal
 
 pub returns-then-p-ne0 : goal.returns-then-p-ne0

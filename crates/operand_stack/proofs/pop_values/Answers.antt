@@ -1,12 +1,10 @@
-use Prim.Native.Nat.{◌≤◌, ◌-◌}
+use Prim.Native.Nat.{◌-◌}
 use mathlib.Core.Path.{◌≡◌, refl, sym, ap, ◌∙◌}
-use lib.ListN.{length}
 use Rattle.meaning.specs.Steps.{pop_values}
 use Rattle.abstract_state.specs.Models.{operand_of}
 use Rattle.operand_stack.specs.Models.{stack_in, pop_rest}
 use Rattle.operand_stack.specs.StackLaws.{stack_cut, values_out, values_ref, values_turn}
 use native.Mathlib.Omega.{arith}
-use borrow.Author.Rules.{rules}
 use Rattle.operand_stack.proofs.pop_values.Goals as goal
 
 pub loop-left-init : goal.loop-left-init

@@ -6,7 +6,6 @@ use Rattle.abstract_state.specs.Models.{operand_of}
 use Rattle.operand_stack.specs.Models.{stack_in, push_each}
 use Rattle.operand_stack.specs.StackLaws.{stack_cut, push_full, push_turn}
 use native.Mathlib.Omega.{arith}
-use borrow.Author.Rules.{rules}
 use Rattle.operand_stack.proofs.push.Goals as goal
 
 pub returns-then-n-eq-MAX_OPERANDS : goal.returns-then-n-eq-MAX_OPERANDS

@@ -1,12 +1,8 @@
-use Prim.Native.Nat.{◌≤◌, ◌+◌, ◌-◌}
-use mathlib.Core.Path.{◌≡◌, refl, sym, ap, ◌∙◌}
-use lib.ListN.{length, drop, get_or, length-set}
-use Rattle.meaning.specs.Laws.Array.{length_of_map}
-use Rattle.abstract_state.specs.Models.{operand_in, operands_of}
+use Prim.Native.Nat.{◌≤◌, ◌-◌}
+use mathlib.Core.Path.{◌≡◌}
+use lib.ListN.{length, drop}
+use Rattle.abstract_state.specs.Models.{operands_of}
 use Rattle.operand_stack.specs.Models.{stack_in, push_each}
-use Rattle.operand_stack.specs.StackLaws.{stack_cut, push_full, push_turn, operands_step, operands_end}
-use native.Mathlib.Omega.{arith}
-use borrow.Author.Rules.{rules}
 use Rattle.operand_stack.proofs.push_all.Given as goal
 
 abbrev pub invariant-loop-i : goal.invariant-loop-i

@@ -1,4 +1,4 @@
-use Prim.Native.Nat.{ℕ, suc, ◌≤◌, ◌-◌}
+use Prim.Native.Nat.{ℕ, suc, ◌-◌}
 use mathlib.Core.Path.{◌≡◌, refl, sym, ap, ◌∙◌}
 use mathlib.Core.List.{◌∷◌}
 use lib.ListN.{length, replicate, length-set}
@@ -6,7 +6,6 @@ use Rattle.meaning.specs.AbstractState.{Operand, non_ref}
 use Rattle.operand_stack.specs.Models.{stack_in, push_each}
 use Rattle.operand_stack.specs.StackLaws.{stack_cut, push_full, push_turn}
 use native.Mathlib.Omega.{arith}
-use borrow.Author.Rules.{rules}
 use Rattle.operand_stack.proofs.push_values.Goals as goal
 
 pub loop-left-init : goal.loop-left-init

@@ -1,12 +1,8 @@
-use Prim.Native.Nat.{ℕ, suc, ◌≤◌, ◌-◌}
-use mathlib.Core.Path.{◌≡◌, refl, sym, ap, ◌∙◌}
-use mathlib.Core.List.{◌∷◌}
-use lib.ListN.{length, replicate, length-set}
-use Rattle.meaning.specs.AbstractState.{Operand, non_ref}
+use Prim.Native.Nat.{◌≤◌}
+use mathlib.Core.Path.{◌≡◌}
+use lib.ListN.{length, replicate}
+use Rattle.meaning.specs.AbstractState.{non_ref}
 use Rattle.operand_stack.specs.Models.{stack_in, push_each}
-use Rattle.operand_stack.specs.StackLaws.{stack_cut, push_full, push_turn}
-use native.Mathlib.Omega.{arith}
-use borrow.Author.Rules.{rules}
 use Rattle.operand_stack.proofs.push_values.Given as goal
 
 abbrev pub invariant-loop-left : goal.invariant-loop-left

@@ -1,22 +1,20 @@
 use mathlib.Core.Path.{refl, ◌∙◌}
-use Prim.Native.Nat.{◌-◌, ◌≤◌}
+use Prim.Native.Nat.{◌≤◌}
 use mathlib.Core.List.{map}
 use lib.ListN.{length, take, replicate}
 use borrow.Author.Tests.{ltb-true}
 use Rattle.meaning.specs.Listing.{token_as}
 use Rattle.meaning.specs.Limits.{area_words}
-use Rattle.meaning.specs.Loop.{most_visits}
 use Rattle.listing.specs.Models.{routine_of}
 use Rattle.abstract_state.specs.Models.{words}
 use Rattle.absint.specs.TurnLaws as Law
 use native.Mathlib.Omega.{arith}
-use borrow.Author.Rules.{rules}
 use Rattle.absint.proofs.interpreter.analyze_function.Goals as goal
 
 pub loop-t-init : goal.loop-t-init
 loop-t-init c =
     let start = c.start-t in
-                let args = c.args in
+    let args = c.args in
     let pre = c.requires in
     let made-new = c.new-s.ensures (replicate 96 (replicate 10 0)) refl refl refl in
     let small = Law.promised_small (routine_of args.listing.now args.code.now args.routine) pre.0.promise in
@@ -76,7 +74,7 @@ shape_of-area c = c.loop-t.invariant.long ∙ c.store.auto.area ∙ c.forget.aut
 pub returns : goal.returns
 returns c =
     let forget = c.forget in
-        let loop = c.loop-t in
+    let loop = c.loop-t in
     let args = c.args in
     let pre = c.requires in
     let new = c.new-s in

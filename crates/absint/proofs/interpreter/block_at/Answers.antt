@@ -3,7 +3,6 @@ use lib.ListN.{length}
 use Rattle.meaning.specs.Laws.Array.{length_of_map}
 use Rattle.absint.specs.TurnLaws.{block_at_lem}
 use native.Mathlib.Omega.{arith}
-use borrow.Author.Rules.{rules}
 use Rattle.absint.proofs.interpreter.block_at.Goals as goal
 
 pub bounds-blocks-i : goal.bounds-blocks-i

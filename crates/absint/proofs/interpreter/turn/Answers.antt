@@ -3,7 +3,6 @@ use native.Mathlib.Numerals.{add-one}
 use Rattle.meaning.specs.Loop.{at}
 use Rattle.absint.specs.TurnLaws as Law
 use native.Mathlib.Omega.{arith}
-use borrow.Author.Rules.{rules}
 use Rattle.absint.proofs.interpreter.turn.Goals as goal
 
 pub start_from-k-requires : goal.start_from-k-requires
@@ -24,6 +23,6 @@ onward-requires c =
 
 pub returns : goal.returns
 returns c =
-        let o = c.onward in
+    let o = c.onward in
     Law.turned_over c.args.listing.now c.args.code.now c.args.routine c.args.area.now c.args.t c.requires o.result
     ((c.start_from-k.ensures refl refl refl).absent c.if-k.false) o.ensures.1 (o.ensures.0 c.requires.going ∙ ap at (add-one c.args.t.next)) o.ensures.2 o.ensures.3 o.ensures.4

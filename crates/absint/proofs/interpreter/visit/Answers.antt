@@ -16,7 +16,6 @@ use Rattle.absint.specs.Models.{statuses_of, next_of, Sound, Propagated}
 use Rattle.absint.specs.PropagateLaws.{take_some}
 use Rattle.absint.specs.TurnLaws as Law
 use native.Mathlib.Omega.{arith}
-use borrow.Author.Rules.{rules}
 use Rattle.absint.proofs.interpreter.visit.Goals as goal
 use Rattle.absint.proofs.interpreter.visit.Lts as lts
 use Rattle.absint.proofs.interpreter.visit.Reads as reads
@@ -37,21 +36,21 @@ last c = words c.run_block-r.new.locals c.run_block-r.new.names c.run_block-r.ne
 abbrev block : (lts.After-run_block tie.the-claims reads.Pre reads.Post) → Block
 block c = block_of c.block_at-b.result
 
-ran : (c : (lts.After-run_block tie.the-claims reads.Pre reads.Post)) →     ran_of (block c) (last c) c.run_block-r.result.place.0 ≡ exec (routine c.before.before.before.before.before.before.before.before) c.args.t.next (state_of (first c.before.before.before.before.before.before.before.before))
+ran : (c : (lts.After-run_block tie.the-claims reads.Pre reads.Post)) → ran_of (block c) (last c) c.run_block-r.result.place.0 ≡ exec (routine c.before.before.before.before.before.before.before.before) c.args.t.next (state_of (first c.before.before.before.before.before.before.before.before))
 ran c =
-        sym
+    sym
     (Law.ran (routine c.before.before.before.before.before.before.before.before) c.args.t.next (block c) (state_of (first c.before.before.before.before.before.before.before.before)) (state_in c.args.routine.locals (first c.before.before.before.before.before.before.before.before)) (ran_of (block c) (last c) c.run_block-r.result.place.0)
     c.block_at-b.ensures
     (λ z. record { locals = locals_in (first c.before.before.before.before.before.before.before.before).locals (sym c.requires.1.locals z); graph = (running_of (first c.before.before.before.before.before.before.before.before)).graph }) (c.run_block-r.ensures.ends c.requires.1.fits))
 
 -- without a number it came to its end
-ended : (c : (lts.After-run_block tie.the-claims reads.Pre reads.Post)) →     c.run_block-r.result.state.violation ≡ 0 → c.run_block-r.result.state.refusal ≡ 0
+ended : (c : (lts.After-run_block tie.the-claims reads.Pre reads.Post)) → c.run_block-r.result.state.violation ≡ 0 → c.run_block-r.result.state.refusal ≡ 0
     → exec (routine c.before.before.before.before.before.before.before.before) c.args.t.next (state_of (first c.before.before.before.before.before.before.before.before)) ≡ end_for (block c).successors (running_of (last c))
 ended c =
     let x = c.run_block-r.result in
     Law.placed_end (block c).successors x.state.blurred x.state.violation x.state.borrowed_at.0 x.state.refusal (running_of (last c)) x.place.0 _ (ran c)
 
-ended_some : (c : (lts.After-run_block tie.the-claims reads.Pre reads.Post)) →     c.run_block-r.result.state.violation ≡ 0 → c.run_block-r.result.state.refusal ≡ 0
+ended_some : (c : (lts.After-run_block tie.the-claims reads.Pre reads.Post)) → c.run_block-r.result.state.violation ≡ 0 → c.run_block-r.result.state.refusal ≡ 0
     → (c.block_at-b.result.count ≡ 0 → ⊥) → exec (routine c.before.before.before.before.before.before.before.before) c.args.t.next (state_of (first c.before.before.before.before.before.before.before.before)) ≡ Result.ended c.run_block-r.result.state.blurred (state_of (last c))
 ended_some c v n h =
     let b = c.block_at-b.result in
@@ -138,7 +137,7 @@ fail-requires c =
 pub returns-then-s-ne0 : goal.returns-then-s-ne0
 unfolding statuses_of
 returns-then-s-ne0 c =
-                let x = c.run_block-r.result in
+    let x = c.run_block-r.result in
     let fail = c.fail in
     Law.turned_violated c.args.listing.now c.args.code.now c.args.routine c.args.area.now c.args.t c.requires.0
     (state_of (first c.before.before.before.before.before.before.before.before.before.before.before.before.before.before.before.before.before.before)) c.requires.1.kept (counted c.before.before.before.before.before.before.before fail.ensures.3) fail.result x.state.blurred x.state.violation x.place.0 x.state.borrowed_at.0
@@ -150,7 +149,7 @@ returns-then-s-ne0 c =
 pub returns-then-s-ne0-2 : goal.returns-then-s-ne0-2
 unfolding statuses_of
 returns-then-s-ne0-2 c =
-                let x = c.run_block-r.result in
+    let x = c.run_block-r.result in
     let stop = c.stop in
     Law.turned_refused c.args.listing.now c.args.code.now c.args.routine c.args.area.now c.args.t c.requires.0
     (state_of (first c.before.before.before.before.before.before.before.before.before.before.before.before.before.before.before.before.before.before)) c.requires.1.kept (counted c.before.before.before.before.before.before.before stop.ensures.3) stop.result x.state.refusal x.place.0
@@ -175,7 +174,7 @@ clear-v-requires c =
 pub returns-then-b-eq0 : goal.returns-then-b-eq0
 unfolding statuses_of
 returns-then-b-eq0 c =
-                let b = c.block_at-b in
+    let b = c.block_at-b in
     let clear = c.clear-v in
     let none = ap {B = List ℕ} (λ (n : ℕ). take n (b.result.first.0 ∷ b.result.second.0 ∷ [])) c.if-b-eq0.true in
     Law.turned_returned c.args.listing.now c.args.code.now c.args.routine c.args.area.now c.args.t c.requires.0
@@ -187,7 +186,7 @@ returns-then-b-eq0 c =
 pub propagate-requires : goal.propagate-requires
 propagate-requires c =
     let p = c.requires.0 in
-        let l = c.with_locals-e.ensures.0 in (
+    let l = c.with_locals-e.ensures.0 in (
       p.blocks,
       p.area,
       record {
@@ -202,9 +201,9 @@ propagate-requires c =
 pub returns : goal.returns
 unfolding statuses_of
 returns c =
-                    let b = c.block_at-b in
+    let b = c.block_at-b in
     let clear = c.clear-v in
-        Law.turned_ended c.args.listing.now c.args.code.now c.args.routine c.args.area.now c.args.t c.requires.0
+    Law.turned_ended c.args.listing.now c.args.code.now c.args.routine c.args.area.now c.args.t c.requires.0
     (state_of (first c.before.before.before.before.before.before.before.before.before.before.before.before.before.before.before.before.before.before.before.before.before.before.before.before.before.before)) c.requires.1.kept (counted c.before.before.before.before.before.before.before.before.before.before.before.before.before.before.before clear.ensures.3)
     c.run_block-r.result.state.blurred (state_of (sent c.before.before.before.before.before)) (block c.before.before.before.before.before.before.before.before.before.before.before.before.before.before.before.before.before.before) c.propagate.new.area clear.result c.propagate.result
     (ended_some c.before.before.before.before.before.before.before.before.before.before.before.before.before.before.before.before.before.before c.if-s-ne0.false

@@ -5,14 +5,13 @@ use Rattle.meaning.specs.AbstractState.{State}
 use Rattle.meaning.specs.Area.{kept_of}
 use Rattle.references.specs.Models.{names_in, edges_in}
 use Rattle.abstract_state.specs.Models.{locals_in}
-use borrow.Author.Rules.{rules}
 use Rattle.absint.proofs.kept.start_from.Goals as goal
 
 pub returns : goal.returns
 returns c =
     λ x y z.
     let a = c.args in
-        let e = c.load-k.ensures.2 x y z in
+    let e = c.load-k.ensures.2 x y z in
     let s : State = record {
       locals = locals_in c.load-k.new.locals a.num_locals;
       graph = record { names = names_in c.load-k.new.names c.load-k.result.refs; edges = edges_in c.load-k.new.edges c.load-k.result.edges };

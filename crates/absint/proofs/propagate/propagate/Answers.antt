@@ -9,7 +9,6 @@ use Rattle.abstract_state.specs.Models.{words, state_of}
 use Rattle.absint.specs.Models.{blurred_end}
 use Rattle.absint.specs.PropagateLaws as H
 use native.Mathlib.Omega.{arith}
-use borrow.Author.Rules.{rules}
 use Rattle.absint.proofs.propagate.propagate.Goals as goal
 
 pub propagate_to-u-requires : goal.propagate_to-u-requires
@@ -26,7 +25,7 @@ returns-then-b-eq1 c =
 
 pub propagate_to-requires : goal.propagate_to-requires
 propagate_to-requires c =
-        let first = c.propagate_to-u in
+    let first = c.propagate_to-u in
     let wide : area_words ≤ length c.args.area.now = c.requires.1 in
     let k = first.auto.area in
     let small : c.args.t.blurred + u32_most ≤ blurred_end = c.requires.4 in
@@ -38,7 +37,7 @@ propagate_to-requires c =
 pub returns : goal.returns
 returns c =
     let pre = c.requires in
-            let a = c.args in
+    let a = c.args in
     H.propagate_two (blocks_in a.blocks a.n) a.s.num_locals (block_of a.b) (state_of (words a.locals.now a.names.now a.edges.now a.s)) a.area.now a.t
     a.b.first.0 a.b.second.0 c.propagate_to-u.new.area c.propagate_to.new.area c.propagate_to-u.result c.propagate_to.result
     (H.take_two a.b.count a.b.first.0 a.b.second.0 (let h : 1 ≤ a.b.count = pre.3 in λ z. omega (arith, h, z)) c.if-b-eq1.false) c.propagate_to-u.ensures.0 c.propagate_to.ensures.0

@@ -13,7 +13,6 @@ use Rattle.abstract_state_join.specs.Models.{Joins, changed_by}
 use Rattle.absint.specs.Models.{statuses_of, From, StartsFrom}
 use Rattle.absint.specs.PropagateLaws as H
 use Rattle.absint.specs.TurnLaws.{kept_root}
-use borrow.Author.Rules.{rules}
 use Rattle.absint.proofs.propagate.propagate_at.Goals as goal
 use Rattle.absint.proofs.propagate.propagate_at.Lts as lts
 use Rattle.absint.proofs.propagate.propagate_at.Reads as reads
@@ -77,10 +76,10 @@ start_from-k-requires c = λ k e. (c.requires.3.sound _ k e).form.formed
 
 pub returns-then-not-k : goal.returns-then-not-k
 returns-then-not-k c =
-        let a = c.args in
+    let a = c.args in
     let p = c.requires.3 in
     let clear = c.clear in
-        let w = c.store.ensures p.fits.locals p.fits.tells.words p.fits.tells.rows in (
+    let w = c.store.ensures p.fits.locals p.fits.tells.words p.fits.tells.rows in (
       λ bs e within few. H.propagated_fresh bs a.s.num_locals (block_of a.b) (state_of (sent c.before.before.before.before.before.before.before.before.before.before.before.before.before)) a.e.0 a.area.now a.t c.requires.0 a.j e within few c.requires.2
           clear.result clear.ensures.3 a.s.num_locals c.store.new.area (λ us i. refl) ((begun c.before.before.before.before.before.before.before.before).absent (not_true c.if-not-k.true)) w
           clear.ensures.0 clear.ensures.1 clear.ensures.2,
@@ -93,7 +92,7 @@ plus-requires c = (its-start c.before).requires.4
 pub returns-then-x-ne0 : goal.returns-then-x-ne0
 unfolding statuses_of
 returns-then-x-ne0 c =
-        let plus = c.plus in
+    let plus = c.plus in
     let s = its-start c.before.before.before.before.before in
     let a = s.args in
     let stop = c.stop in
@@ -113,12 +112,12 @@ revisit-requires c =
 pub returns-then-x : goal.returns-then-x
 unfolding statuses_of
 returns-then-x c =
-        let plus = c.plus in
+    let plus = c.plus in
     let s = its-start c.before.before.before.before.before.before.before.before.before.before.before.before.before.before.before.before in
     let a = s.args in
     let f = (joins c.before.before.before.before.before.before.before.before.before.before.before.before.before.before.before.before).fits in
     let z = c.if-x-ne0.false in
-        let r = c.revisit in
+    let r = c.revisit in
     let m = c.join-x.result.state.num_locals in
     let w = c.store-then-x.ensures f.locals f.tells.words f.tells.rows in (
       λ bs e within few. H.propagated_changed bs a.s.num_locals (block_of a.b) (state_of (sent s)) a.e.0 a.area.now a.t s.requires.0 a.j e within few s.requires.2
@@ -131,7 +130,7 @@ returns-then-x c =
 pub returns : goal.returns
 unfolding statuses_of
 returns c =
-        let plus = c.plus in
+    let plus = c.plus in
     let s = its-start c.before.before.before.before in
     let a = s.args in
     let z = c.if-x-ne0.false in (

@@ -1,13 +1,6 @@
-use Prim.Native.Nat.{◌+◌, ◌-◌, ◌*◌, ◌≤◌}
-use mathlib.Core.Path.{◌≡◌}
-use mathlib.Core.List.{[]}
-use lib.ListN.{length}
-use Rattle.meaning.specs.Area.{edge_in, word_at}
-use Rattle.meaning.specs.Laws.Area.{Filled, filled_none, filled_one}
-use Rattle.references.specs.Models.{row_of}
+use Rattle.meaning.specs.Laws.Area.{filled_none, filled_one}
 use Rattle.absint_area.specs.ModelLaws.{filled_all}
 use native.Mathlib.Omega.{arith}
-use borrow.Author.Rules.{rules}
 use Rattle.absint_area.proofs.read.get_edges.Goals as goal
 
 pub loop-i-init : goal.loop-i-init

@@ -3,11 +3,8 @@ use mathlib.Core.Path.{◌≡◌}
 use mathlib.Core.List.{[]}
 use lib.ListN.{length}
 use Rattle.meaning.specs.Area.{edge_in, word_at}
-use Rattle.meaning.specs.Laws.Area.{Filled, filled_none, filled_one}
+use Rattle.meaning.specs.Laws.Area.{Filled}
 use Rattle.references.specs.Models.{row_of}
-use Rattle.absint_area.specs.ModelLaws.{filled_all}
-use native.Mathlib.Omega.{arith}
-use borrow.Author.Rules.{rules}
 use Rattle.absint_area.proofs.read.get_edges.Given as goal
 
 abbrev pub invariant-loop-i : goal.invariant-loop-i

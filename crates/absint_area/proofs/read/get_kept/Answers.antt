@@ -6,7 +6,6 @@ use lib.ListN.{get_or}
 use Rattle.meaning.specs.Laws.Area.{kept_read}
 use Rattle.absint_area.specs.ModelLaws.{state_filled}
 use native.Mathlib.Omega.{arith}
-use borrow.Author.Rules.{rules}
 use Rattle.absint_area.proofs.read.get_kept.Goals as goal
 
 pub overflow_cast-ws : goal.overflow_cast-ws

@@ -1,8 +1,5 @@
-use Prim.Native.Nat.{◌-◌, ◌≤◌}
-use mathlib.Core.Path.{◌≡◌, refl}
-use lib.ListN.{length}
-use Rattle.meaning.specs.Area.{name_in, words_from}
-use Rattle.meaning.specs.Laws.Area.{Filled, filled_none, filled_one}
+use mathlib.Core.Path.{refl}
+use Rattle.meaning.specs.Laws.Area.{filled_none, filled_one}
 use Rattle.absint_area.specs.ModelLaws.{filled_all}
 use native.Mathlib.Omega.{arith}
 use Rattle.absint_area.proofs.read.get_refs.Goals as goal

@@ -1,10 +1,8 @@
 use Prim.Native.Nat.{◌-◌, ◌≤◌}
-use mathlib.Core.Path.{◌≡◌, refl}
+use mathlib.Core.Path.{◌≡◌}
 use lib.ListN.{length}
 use Rattle.meaning.specs.Area.{name_in, words_from}
-use Rattle.meaning.specs.Laws.Area.{Filled, filled_none, filled_one}
-use Rattle.absint_area.specs.ModelLaws.{filled_all}
-use native.Mathlib.Omega.{arith}
+use Rattle.meaning.specs.Laws.Area.{Filled}
 use Rattle.absint_area.proofs.read.get_refs.Given as goal
 
 abbrev pub invariant-loop-i : goal.invariant-loop-i

@@ -1,9 +1,6 @@
 use Prim.Native.Nat.{ℕ, ◌-◌, ◌≤◌}
-use mathlib.Core.Path.{refl}
-use Rattle.meaning.specs.Area.{word_at, words_from}
-use Rattle.meaning.specs.Laws.Area.{Filled, filled_none, filled_one}
-use Rattle.absint_area.specs.ModelLaws.{row_words}
-use native.Mathlib.Omega.{arith}
+use Rattle.meaning.specs.Area.{words_from}
+use Rattle.meaning.specs.Laws.Area.{Filled}
 use Rattle.absint_area.proofs.read.get_row.Given as goal
 
 abbrev pub invariant-loop-i : goal.invariant-loop-i

@@ -1,6 +1,5 @@
 use Rattle.meaning.specs.Laws.Area.{above_none}
 use native.Mathlib.Omega.{arith}
-use borrow.Author.Rules.{rules}
 use Rattle.absint_area.proofs.write.above_local.Goals as goal
 
 pub returns : goal.returns

@@ -1,10 +1,6 @@
 use Prim.Native.Nat.{◌-◌, ◌≤◌}
-use mathlib.Core.Path.{◌≡◌, refl, ap, ◌∙◌}
-use lib.ListN.{length}
+use mathlib.Core.Path.{◌≡◌}
 use Rattle.meaning.specs.Area.{unkept}
-use Rattle.meaning.specs.Laws.Area.{unkept_length, unkept_one}
-use Rattle.absint_area.specs.ModelLaws.{unkept_all}
-use native.Mathlib.Omega.{arith}
 use Rattle.absint_area.proofs.write.put_absent.Given as goal
 
 abbrev pub invariant-loop-b : goal.invariant-loop-b

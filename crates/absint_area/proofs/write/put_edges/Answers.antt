@@ -1,6 +1,4 @@
-use Prim.Native.Nat.{◌-◌, ◌≤◌}
-use Rattle.meaning.specs.Laws.Area.{WrittenEdges, edges_none, edges_one, edges_all}
-use Rattle.absint_area.specs.ModelLaws.{row_at}
+use Rattle.meaning.specs.Laws.Area.{edges_none, edges_one, edges_all}
 use native.Mathlib.Omega.{arith}
 use Rattle.absint_area.proofs.write.put_edges.Goals as goal
 

@@ -1,7 +1,6 @@
 use Prim.Native.Nat.{◌-◌, ◌≤◌}
-use Rattle.meaning.specs.Laws.Area.{WrittenEdges, edges_none, edges_one, edges_all}
+use Rattle.meaning.specs.Laws.Area.{WrittenEdges}
 use Rattle.absint_area.specs.ModelLaws.{row_at}
-use native.Mathlib.Omega.{arith}
 use Rattle.absint_area.proofs.write.put_edges.Given as goal
 
 abbrev pub invariant-loop-i : goal.invariant-loop-i

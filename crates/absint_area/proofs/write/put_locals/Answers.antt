@@ -1,9 +1,7 @@
-use Prim.Native.Nat.{◌-◌, ◌≤◌}
 use mathlib.Core.Path.{refl}
-use Rattle.meaning.specs.Laws.Area.{Written, IsLocal, written_none, written_one, written_all}
-use Rattle.absint_area.specs.ModelLaws.{local_at, local_above}
+use Rattle.meaning.specs.Laws.Area.{written_none, written_one, written_all}
+use Rattle.absint_area.specs.ModelLaws.{local_above}
 use native.Mathlib.Omega.{arith}
-use borrow.Author.Rules.{rules}
 use Rattle.absint_area.proofs.write.put_locals.Goals as goal
 
 pub loop-i-init : goal.loop-i-init

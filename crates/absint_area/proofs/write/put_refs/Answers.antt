@@ -1,7 +1,5 @@
-use Prim.Native.Nat.{◌-◌, ◌≤◌}
 use mathlib.Core.Path.{refl}
-use Rattle.meaning.specs.Laws.Area.{Written, IsName, written_none, written_one, written_all}
-use Rattle.absint_area.specs.ModelLaws.{name_at}
+use Rattle.meaning.specs.Laws.Area.{written_none, written_one, written_all}
 use native.Mathlib.Omega.{arith}
 use Rattle.absint_area.proofs.write.put_refs.Goals as goal
 

@@ -1,8 +1,6 @@
 use Prim.Native.Nat.{◌-◌, ◌≤◌}
-use mathlib.Core.Path.{refl}
-use Rattle.meaning.specs.Laws.Area.{Written, IsName, written_none, written_one, written_all}
+use Rattle.meaning.specs.Laws.Area.{Written, IsName}
 use Rattle.absint_area.specs.ModelLaws.{name_at}
-use native.Mathlib.Omega.{arith}
 use Rattle.absint_area.proofs.write.put_refs.Given as goal
 
 abbrev pub invariant-loop-i : goal.invariant-loop-i

@@ -1,10 +1,7 @@
 use Prim.Native.Nat.{◌-◌, ◌≤◌}
-use mathlib.Core.Path.{◌≡◌, refl, sym}
+use mathlib.Core.Path.{◌≡◌}
 use lib.ListN.{get_or}
-use Rattle.meaning.specs.Area.{word_at}
-use Rattle.meaning.specs.Laws.Area.{Written, written_none, written_one}
-use Rattle.absint_area.specs.ModelLaws.{row_words}
-use native.Mathlib.Omega.{arith}
+use Rattle.meaning.specs.Laws.Area.{Written}
 use Rattle.absint_area.proofs.write.put_row.Given as goal
 
 abbrev pub invariant-loop-i : goal.invariant-loop-i

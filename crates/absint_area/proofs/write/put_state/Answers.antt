@@ -4,7 +4,6 @@ use Rattle.meaning.specs.AbstractState.{State}
 use Rattle.meaning.specs.Laws.Area.{put_frame, put_decode}
 use Rattle.absint_area.specs.ModelLaws.{local_at, name_at, row_at, state_made}
 use native.Mathlib.Omega.{arith}
-use borrow.Author.Rules.{rules}
 use Rattle.absint_area.proofs.write.put_state.Goals as goal
 
 pub returns : goal.returns

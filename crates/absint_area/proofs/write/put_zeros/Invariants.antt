@@ -1,6 +1,5 @@
-use Rattle.meaning.specs.Laws.Area.{Written, IsZero, written_none, zeros_one, written_all}
+use Rattle.meaning.specs.Laws.Area.{Written, IsZero}
 use Prim.Native.Nat.{◌-◌, ◌≤◌}
-use native.Mathlib.Omega.{arith}
 use Rattle.absint_area.proofs.write.put_zeros.Given as goal
 
 abbrev pub invariant-loop-i : goal.invariant-loop-i

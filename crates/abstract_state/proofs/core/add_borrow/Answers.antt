@@ -3,7 +3,6 @@ use Rattle.std.specs.Prelude.{[]}
 use Rattle.meaning.specs.BorrowGraph.{borrow_weak}
 use Rattle.meaning.specs.EntryPoints.{add_borrow}
 use Rattle.abstract_state.specs.ModelLaws.{does_as}
-use borrow.Author.Rules.{rules}
 use Rattle.abstract_state.proofs.core.add_borrow.Goals as goal
 
 pub returns : goal.returns

@@ -3,7 +3,6 @@ use Rattle.std.specs.Prelude.{[]}
 use Rattle.meaning.specs.BorrowGraph.{borrow_strong}
 use Rattle.meaning.specs.EntryPoints.{add_copy}
 use Rattle.abstract_state.specs.ModelLaws.{does_as}
-use borrow.Author.Rules.{rules}
 use Rattle.abstract_state.proofs.core.add_copy.Goals as goal
 
 pub returns : goal.returns

@@ -4,7 +4,6 @@ use Rattle.std.specs.Prelude.{[], ◌∷◌}
 use Rattle.meaning.specs.Labels.{local_label}
 use Rattle.meaning.specs.BorrowGraph.{borrow_strong}
 use Rattle.meaning.specs.EntryPoints.{add_local_borrow}
-use borrow.Author.Rules.{rules}
 use Rattle.abstract_state.proofs.core.add_local_borrow.Goals as goal
 
 pub returns : goal.returns

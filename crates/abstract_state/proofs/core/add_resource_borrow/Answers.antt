@@ -4,7 +4,6 @@ use Rattle.std.specs.Prelude.{[], ◌∷◌}
 use Rattle.meaning.specs.Labels.{global_label}
 use Rattle.meaning.specs.BorrowGraph.{borrow_weak}
 use Rattle.meaning.specs.EntryPoints.{add_resource_borrow}
-use borrow.Author.Rules.{rules}
 use Rattle.abstract_state.proofs.core.add_resource_borrow.Goals as goal
 
 pub returns : goal.returns

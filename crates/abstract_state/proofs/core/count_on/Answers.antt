@@ -1,5 +1,4 @@
 use native.Mathlib.Omega.{arith}
-use borrow.Author.Rules.{rules}
 use Rattle.abstract_state.proofs.core.count_on.Goals as goal
 
 pub returns-then-n-k : goal.returns-then-n-k

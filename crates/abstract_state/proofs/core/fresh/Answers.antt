@@ -1,6 +1,5 @@
 use mathlib.Core.Path.{refl}
 use borrow.Author.Tests.{lt-ltb, le-ltb}
-use borrow.Author.Rules.{rules}
 use Rattle.abstract_state.proofs.core.fresh.Goals as goal
 
 pub returns-then-state-lt-NAME_END : goal.returns-then-state-lt-NAME_END

@@ -6,7 +6,6 @@ use Rattle.references.specs.Models.{told}
 use Rattle.borrow_graph.specs.Models.{graph_in}
 use Rattle.abstract_state.specs.Models.{running_of, words}
 use Rattle.abstract_state.specs.ModelLaws.{does_as, here, stays, answered, named, next_named}
-use borrow.Author.Rules.{rules}
 use Rattle.abstract_state.proofs.core.new_ref.Goals as goal
 
 pub returns-then-state : goal.returns-then-state
@@ -14,7 +13,7 @@ returns-then-state c =
     λ ls es.
     let a = c.args in
     let if1 = c.if-state-lt-NAME_END in
-        let k = a.state.blurred in
+    let k = a.state.blurred in
     let v = a.state.violation in
     let o = a.state.borrowed_at.0 in
     let n = a.state.refusal in
@@ -32,7 +31,7 @@ pub returns-else-state : goal.returns-else-state
 returns-else-state c =
     λ ls es.
     let a = c.args in
-        let r = running_of (words ls a.names.now es a.state) in
+    let r = running_of (words ls a.names.now es a.state) in
     record {
       fits = λ h. record { locals = h.locals; tells = (c.new_ref-a.ensures es h.tells).tells };
       does = λ h. stays a.state.blurred a.state.violation a.state.borrowed_at.0 a.state.refusal r (named r (graph_in c.new_ref-a.new.names es c.new_ref-a.result.graph)) (new_ref a.mutable) c.if-state.false;

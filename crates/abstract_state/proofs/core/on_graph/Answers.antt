@@ -6,7 +6,6 @@ use Rattle.references.specs.Models.{told}
 use Rattle.borrow_graph.specs.Models.{graph_in}
 use Rattle.abstract_state.specs.Models.{running_of, words, halted}
 use Rattle.abstract_state.specs.ModelLaws.{answered, counted, passed_up_lem, here, stays}
-use borrow.Author.Rules.{rules}
 use Rattle.abstract_state.proofs.core.on_graph.Goals as goal
 
 pub returns-then-state : goal.returns-then-state

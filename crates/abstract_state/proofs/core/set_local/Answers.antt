@@ -2,7 +2,6 @@ use lib.ListN.{length-set}
 use Rattle.abstract_state.specs.Models.{local_of, words, running_of}
 use Rattle.abstract_state.specs.ModelLaws.{local_set, local_unset, relocated}
 use native.Mathlib.Omega.{arith}
-use borrow.Author.Rules.{rules}
 use Rattle.abstract_state.proofs.core.set_local.Goals as goal
 
 pub returns-then-i-lt-MAX_LOCALS : goal.returns-then-i-lt-MAX_LOCALS

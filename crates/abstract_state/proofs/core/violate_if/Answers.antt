@@ -17,14 +17,14 @@ overflow_cast-borrowed_at c =
 pub returns-then-t : goal.returns-then-t
 returns-then-t c =
     λ ls ns es.
-            let a = c.args in
+    let a = c.args in
     let r = running_of (words ls ns es a.state) in
     does_here _ ls ns es _ _ refl (failed a.state.violation a.state.borrowed_at.0 a.state.refusal r a.t.refusal c.if-state.true a.t.offset a.code c.if-t.true)
 
 pub returns-else-t : goal.returns-else-t
 returns-else-t c =
     λ ls ns es.
-            let a = c.args in
+    let a = c.args in
     let r = running_of (words ls ns es a.state) in
     does_here _ ls ns es _ _ refl (not_failed a.state.violation a.state.borrowed_at.0 a.state.refusal r a.t.refusal c.if-state.true a.t.offset a.code c.if-t.false)
 

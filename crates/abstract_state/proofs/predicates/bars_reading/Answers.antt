@@ -2,7 +2,6 @@ use Rattle.meaning.specs.BorrowGraph.{borrows_mutably}
 use Rattle.references.specs.Models.{filter_of}
 use Rattle.borrow_graph.specs.Models.{graph_in}
 use Rattle.abstract_state.specs.ModelLaws.{barred}
-use borrow.Author.Rules.{rules}
 use Rattle.abstract_state.proofs.predicates.bars_reading.Goals as goal
 
 pub returns : goal.returns

@@ -1,12 +1,11 @@
 use mathlib.Core.Option.{none}
 use Rattle.borrow_graph.specs.Models.{graph_in, borrows_of}
 use Rattle.abstract_state.specs.ModelLaws.{asked}
-use borrow.Author.Rules.{rules}
 use Rattle.abstract_state.proofs.predicates.has_full_borrows.Goals as goal
 
 pub returns : goal.returns
 returns c =
     λ ls h.
-        let a = c.args in
+    let a = c.args in
     let b = c.borrowed_by-b.result in
     asked (graph_in a.names.now a.edges.now a.state.borrow_graph) a.id.0 none b.refusal (borrows_of b) (λ x. x.full) (c.borrowed_by-b.ensures h.tells)

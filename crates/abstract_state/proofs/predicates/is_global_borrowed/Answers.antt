@@ -1,4 +1,3 @@
-use borrow.Author.Rules.{rules}
 use Rattle.abstract_state.proofs.predicates.is_global_borrowed.Goals as goal
 
 pub returns : goal.returns

@@ -1,5 +1,4 @@
 use Rattle.meaning.specs.BorrowGraph.{mutable_of}
-use borrow.Author.Rules.{rules}
 use Rattle.abstract_state.proofs.predicates.is_mutable.Goals as goal
 
 pub returns : goal.returns

@@ -1,7 +1,6 @@
 use Rattle.std.specs.Prelude.{◌/◌, ◌%◌}
 use Rattle.abstract_state.specs.Models.{operand_of}
 use Rattle.abstract_state.specs.ModelLaws.{local_kind}
-use borrow.Author.Rules.{rules}
 use Rattle.abstract_state.proofs.words.local_of.Goals as goal
 
 pub returns : goal.returns

@@ -1,6 +1,5 @@
 use mathlib.Core.Path.{refl, sym, ◌∙◌}
 use mathlib.Core.Bool.{true≢false}
-use borrow.Author.Rules.{rules}
 use Rattle.abstract_state.proofs.words.local_word.Goals as goal
 
 pub returns-then-x : goal.returns-then-x

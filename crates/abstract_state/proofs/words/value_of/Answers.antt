@@ -1,6 +1,5 @@
 use mathlib.Core.Path.{refl}
 use borrow.Author.Tests.{lt-ltb, le-ltb}
-use borrow.Author.Rules.{rules}
 use Rattle.abstract_state.proofs.words.value_of.Goals as goal
 
 pub returns-then-w-lt2 : goal.returns-then-w-lt2

@@ -6,7 +6,6 @@ use Rattle.abstract_state.specs.Models.{words, running_of, state_of}
 use Rattle.abstract_state.specs.ModelLaws.{stays}
 use Rattle.abstract_state_join.specs.Models.{canonical_end}
 use Rattle.abstract_state_join.specs.CanonicalLaws.{canonical_as, end_goes}
-use borrow.Author.Rules.{rules}
 use Rattle.abstract_state_join.proofs.canonical.construct_canonical_state.Goals as goal
 
 pub returns-then-state : goal.returns-then-state

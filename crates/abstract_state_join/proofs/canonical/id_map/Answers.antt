@@ -1,7 +1,7 @@
-use mathlib.Core.Path.{◌≡◌, refl, sym, ap, ◌∙◌}
+use mathlib.Core.Path.{refl, sym, ap, ◌∙◌}
 use mathlib.Core.List.{List, ◌++◌, map, append-nil}
-use Prim.Native.Nat.{◌+◌, ◌-◌, ◌≤◌}
-use lib.ListN.{length, take, drop, get_or, length-set}
+use Prim.Native.Nat.{◌+◌}
+use lib.ListN.{take, drop, get_or, length-set}
 use Rattle.meaning.specs.Laws.Array.{push_map}
 use Rattle.meaning.specs.BorrowGraph.{Change}
 use Rattle.meaning.specs.Area.{local_in}
@@ -11,7 +11,6 @@ use Rattle.abstract_state_join.specs.Models.{held_by, renames}
 use Rattle.abstract_state_join.specs.LocalLaws.{local_next, locals_end}
 use Rattle.abstract_state_join.specs.CanonicalLaws.{renames_held, renames_none, renames_end}
 use native.Mathlib.Omega.{arith}
-use borrow.Author.Rules.{rules}
 use Rattle.abstract_state_join.proofs.canonical.id_map.Goals as goal
 
 pub loop-i-init : goal.loop-i-init

@@ -1,17 +1,10 @@
-use mathlib.Core.Path.{◌≡◌, refl, sym, ap, ◌∙◌}
-use mathlib.Core.List.{List, ◌++◌, map, append-nil}
+use mathlib.Core.Path.{◌≡◌}
+use mathlib.Core.List.{◌++◌, map}
 use Prim.Native.Nat.{◌+◌, ◌-◌, ◌≤◌}
-use lib.ListN.{length, take, drop, get_or, length-set}
-use Rattle.meaning.specs.Laws.Array.{push_map}
-use Rattle.meaning.specs.BorrowGraph.{Change}
-use Rattle.meaning.specs.Area.{local_in}
-use Rattle.borrow_graph.specs.Models.{change_of, map_of}
-use Rattle.abstract_state.specs.Models.{locals_in, operand_of}
-use Rattle.abstract_state_join.specs.Models.{held_by, renames}
-use Rattle.abstract_state_join.specs.LocalLaws.{local_next, locals_end}
-use Rattle.abstract_state_join.specs.CanonicalLaws.{renames_held, renames_none, renames_end}
-use native.Mathlib.Omega.{arith}
-use borrow.Author.Rules.{rules}
+use lib.ListN.{length, take, drop}
+use Rattle.borrow_graph.specs.Models.{change_of}
+use Rattle.abstract_state.specs.Models.{locals_in}
+use Rattle.abstract_state_join.specs.Models.{renames}
 use Rattle.abstract_state_join.proofs.canonical.id_map.Given as goal
 
 abbrev pub invariant-loop-i : goal.invariant-loop-i

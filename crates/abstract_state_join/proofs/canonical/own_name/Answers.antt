@@ -1,7 +1,6 @@
 use mathlib.Core.Path.{sym, ap, ◌∙◌}
 use Rattle.abstract_state.specs.Models.{operand_of, local_of}
 use Rattle.abstract_state_join.specs.CanonicalLaws.{own_held, own_none}
-use borrow.Author.Rules.{rules}
 use Rattle.abstract_state_join.proofs.canonical.own_name.Goals as goal
 
 pub returns-in-Reference : goal.returns-in-Reference

@@ -1,7 +1,7 @@
 use mathlib.Core.Path.{◌≡◌, refl, sym, ap, ◌∙◌}
 use mathlib.Core.List.{List, ◌∷◌, ◌++◌, map}
-use Prim.Native.Nat.{◌+◌, ◌-◌, ◌≤◌}
-use lib.ListN.{length, take, drop, get_or, set, length-set}
+use Prim.Native.Nat.{◌+◌}
+use lib.ListN.{take, drop, get_or, set, length-set}
 use Rattle.meaning.specs.Area.{local_in}
 use Rattle.meaning.specs.AbstractState as S
 use Rattle.meaning.specs.AbstractState.{own_names}
@@ -10,7 +10,6 @@ use Rattle.abstract_state_join.specs.Models.{own_name}
 use Rattle.abstract_state_join.specs.LocalLaws.{local_next, locals_end, written, all_written, unread}
 use Rattle.abstract_state_join.specs.CanonicalLaws.{own_step, own_end}
 use native.Mathlib.Omega.{arith}
-use borrow.Author.Rules.{rules}
 use Rattle.abstract_state_join.proofs.canonical.own_names.Goals as goal
 
 pub loop-i-init : goal.loop-i-init

@@ -1,16 +1,10 @@
-use mathlib.Core.Path.{◌≡◌, refl, sym, ap, ◌∙◌}
-use mathlib.Core.List.{List, ◌∷◌, ◌++◌, map}
-use Prim.Native.Nat.{◌+◌, ◌-◌, ◌≤◌}
-use lib.ListN.{length, take, drop, get_or, set, length-set}
+use mathlib.Core.Path.{◌≡◌}
+use mathlib.Core.List.{◌++◌, map}
+use Prim.Native.Nat.{◌-◌, ◌≤◌}
+use lib.ListN.{length, take, drop}
 use Rattle.meaning.specs.Area.{local_in}
-use Rattle.meaning.specs.AbstractState as S
 use Rattle.meaning.specs.AbstractState.{own_names}
 use Rattle.abstract_state.specs.Models.{locals_in}
-use Rattle.abstract_state_join.specs.Models.{own_name}
-use Rattle.abstract_state_join.specs.LocalLaws.{local_next, locals_end, written, all_written, unread}
-use Rattle.abstract_state_join.specs.CanonicalLaws.{own_step, own_end}
-use native.Mathlib.Omega.{arith}
-use borrow.Author.Rules.{rules}
 use Rattle.abstract_state_join.proofs.canonical.own_names.Given as goal
 
 abbrev pub invariant-loop-i : goal.invariant-loop-i

@@ -1,15 +1,13 @@
 use mathlib.Core.Path.{◌≡◌, sym, ap, ◌∙◌}
-use mathlib.Core.List.{◌∷◌, ◌++◌, map}
-use Prim.Native.Nat.{ℕ, ◌+◌, ◌-◌, ◌≤◌}
-use lib.ListN.{length, take, drop, length-set}
+use mathlib.Core.List.{◌∷◌, map}
+use Prim.Native.Nat.{ℕ, ◌+◌, ◌-◌}
+use lib.ListN.{take, drop, length-set}
 use Rattle.meaning.specs.AbstractState as S
-use Rattle.meaning.specs.Area.{local_in}
 use Rattle.meaning.specs.Listing.{token_as}
 use Rattle.meaning.specs.AbstractState.{first_locals}
 use Rattle.abstract_state_join.specs.LocalLaws.{written, all_written}
 use Rattle.abstract_state_join.specs.FirstLaws.{local_step, local_end}
 use native.Mathlib.Omega.{arith}
-use borrow.Author.Rules.{rules}
 use Rattle.abstract_state_join.proofs.first.first_locals.Goals as goal
 
 pub loop-i-init : goal.loop-i-init

@@ -1,16 +1,10 @@
-use mathlib.Core.Path.{◌≡◌, refl, sym, ap, ◌∙◌}
-use mathlib.Core.List.{List, [], ◌∷◌, ◌++◌, map, append-nil}
-use Prim.Native.Nat.{ℕ, ◌+◌, ◌-◌, ◌≤◌}
-use lib.ListN.{length, take, drop, get_or, length-set}
-use borrow.Author.Tests.{eq-eqb, ne_eqb}
+use mathlib.Core.Path.{◌≡◌}
+use mathlib.Core.List.{◌++◌, map}
+use Prim.Native.Nat.{◌-◌, ◌≤◌}
+use lib.ListN.{length, take, drop}
 use Rattle.meaning.specs.Listing.{token_as}
-use Rattle.meaning.specs.BorrowGraph.{Name}
 use Rattle.meaning.specs.AbstractState.{first_names}
 use Rattle.references.specs.Models.{names_in}
-use Rattle.references.specs.ModelLaws.{names_push}
-use Rattle.abstract_state_join.specs.FirstLaws.{token_step, pass_value, pass_reference, root_last}
-use native.Mathlib.Omega.{arith}
-use borrow.Author.Rules.{rules}
 use Rattle.abstract_state_join.proofs.first.first_names.Given as goal
 
 abbrev pub invariant-loop-i : goal.invariant-loop-i

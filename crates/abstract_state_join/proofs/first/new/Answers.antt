@@ -9,7 +9,6 @@ use Rattle.meaning.specs.AbstractState.{non_ref}
 use Rattle.references.specs.Models.{edges_in}
 use Rattle.abstract_state_join.specs.FirstLaws.{bare, first_made, first_formed}
 use native.Mathlib.Omega.{arith}
-use borrow.Author.Rules.{rules}
 use Rattle.abstract_state_join.proofs.first.new.Goals as goal
 
 pub returns : goal.returns

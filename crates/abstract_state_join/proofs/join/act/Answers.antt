@@ -5,7 +5,6 @@ use Rattle.borrow_graph.specs.Models.{graph_in}
 use Rattle.abstract_state_join.specs.Models.{acted}
 use Rattle.abstract_state_join.specs.declared.join.Action.{Action}
 use Rattle.abstract_state_join.specs.JoinLaws.{acted_ours, acted_theirs, released_blurs}
-use borrow.Author.Rules.{rules}
 use Rattle.abstract_state_join.proofs.join.act.Goals as goal
 
 pub returns-in-ReleaseOurs : goal.returns-in-ReleaseOurs
@@ -41,8 +40,7 @@ returns-in-ReleaseTheirs c =
     )
 
 pub returns-in-Refuse : goal.returns-in-Refuse
-returns-in-Refuse c =
-    (
+returns-in-Refuse c = (
   omega arith,
   λ l t u.
       let a = c.args in

@@ -1,10 +1,8 @@
 use mathlib.Core.Path.{sym, ap, ◌∙◌}
 use Prim.Native.Nat.{ℕ}
 use Rattle.meaning.specs.AbstractState.{eq_locals}
-use Rattle.meaning.specs.Laws.Base.{not_true, not_no}
 use Rattle.abstract_state.specs.Models.{locals_in, words, state_of}
 use Rattle.abstract_state_join.specs.JoinLaws.{changed_locals, changed_graph}
-use borrow.Author.Rules.{rules}
 use Rattle.abstract_state_join.proofs.join.changed.Goals as goal
 
 pub returns-then-not-same_locals : goal.returns-then-not-same_locals

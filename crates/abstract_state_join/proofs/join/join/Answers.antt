@@ -8,7 +8,6 @@ use Rattle.references.specs.ModelLaws.{told_yes, told_no}
 use Rattle.abstract_state.specs.Models.{words, state_of}
 use Rattle.abstract_state_join.specs.Models.{changed_by}
 use Rattle.abstract_state_join.specs.JoinLaws.{blurs_refused}
-use borrow.Author.Rules.{rules}
 use Rattle.abstract_state_join.proofs.join.join.Goals as goal
 use Rattle.abstract_state_join.proofs.join.join.Lts as lts
 use Rattle.abstract_state_join.proofs.join.join.Reads as reads

@@ -5,7 +5,6 @@ use Rattle.references.specs.ModelLaws.{told_yes, told_no}
 use Rattle.borrow_graph.specs.Models.{graph_in}
 use Rattle.abstract_state.specs.Models.{words, state_of}
 use Rattle.abstract_state_join.specs.JoinLaws.{join_early, join_late, blurs_early, blurs_late, released_blurs}
-use borrow.Author.Rules.{rules}
 use Rattle.abstract_state_join.proofs.join.join_.Goals as goal
 
 pub returns-then-refusal-ne0 : goal.returns-then-refusal-ne0

@@ -1,22 +1,20 @@
 use mathlib.Core.Path.{◌≡◌, refl, ap, ◌∙◌}
 use mathlib.Core.Logic.{◌⊎◌, inl, inr}
 use mathlib.Core.List.{map}
-use Prim.Native.Nat.{ℕ, ◌+◌, ◌*◌, ◌-◌, ◌≤◌, ◌<◌, min}
+use Prim.Native.Nat.{ℕ, ◌-◌, ◌≤◌, ◌<◌, min}
 use lib.Dec.{leb}
 use lib.ListN.{length, take, drop, get_or, length-set, length-drop}
-use Rattle.meaning.specs.Answers.{and_then}
 use Rattle.meaning.specs.Laws.Base.{decide, leb_le, leb_gt}
 use Rattle.meaning.specs.Area.{local_in}
 use Rattle.meaning.specs.BorrowGraph.{Graph}
 use Rattle.meaning.specs.AbstractState.{join_local, join_locals}
 use Rattle.references.specs.ModelLaws.{told_yes}
-use Rattle.borrow_graph.specs.Models.{graph_in, Tells}
+use Rattle.borrow_graph.specs.Models.{graph_in}
 use Rattle.abstract_state.specs.Models.{locals_in}
 use Rattle.abstract_state_join.specs.Models.{step_by}
 use Rattle.abstract_state_join.specs.LocalLaws.{clip, locals_are, locals_end, locals_all}
-use Rattle.abstract_state_join.specs.JoinLaws.{after, start, written, goes_on, ends, end_equal, end_unequal}
+use Rattle.abstract_state_join.specs.JoinLaws.{start, written, goes_on, ends, end_equal, end_unequal}
 use native.Mathlib.Omega.{arith}
-use borrow.Author.Rules.{rules}
 use Rattle.abstract_state_join.proofs.join.join_locals.Goals as goal
 use Rattle.abstract_state_join.proofs.join.join_locals.Lts as lts
 use Rattle.abstract_state_join.proofs.join.join_locals.Reads as reads
@@ -53,8 +51,8 @@ bounds-locals-i-in-loop-i c = omega arith
 pub returns-then-p-ne0 : goal.returns-then-p-ne0
 returns-then-p-ne0 c =
     let turn = c.turn-p in
-        let l = c.loop-i in
-        let a = c.args in
+    let l = c.loop-i in
+    let a = c.args in
     let n = c.count-n in
     let m = c.count-m in
     let i : l.i < c.lesser-k.result = c.loop-i-test.true in (
@@ -78,10 +76,10 @@ returns-then-p-ne0 c =
     )
 
 pub overflow_add-p : goal.overflow_add-p
-overflow_add-p c =     omega (arith, c.loop-i.invariant.2, c.turn-p.ensures.0, c.loop-i-test.true, c.lesser-k.ensures, c.count-n.ensures)
+overflow_add-p c = omega (arith, c.loop-i.invariant.2, c.turn-p.ensures.0, c.loop-i-test.true, c.lesser-k.ensures, c.count-n.ensures)
 
 pub overflow_add-i : goal.overflow_add-i
-overflow_add-i c =     omega (arith, c.loop-i-test.true, c.lesser-k.ensures, c.count-n.ensures)
+overflow_add-i c = omega (arith, c.loop-i-test.true, c.lesser-k.ensures, c.count-n.ensures)
 
 pub loop-i-smaller : goal.loop-i-smaller
 loop-i-smaller c = omega (arith, c.loop-i-test.true)
@@ -89,8 +87,8 @@ loop-i-smaller c = omega (arith, c.loop-i-test.true)
 pub loop-i-preserved : goal.loop-i-preserved
 loop-i-preserved c =
     let turn = c.turn-p in
-        let l = c.loop-i in
-        let a = c.args in
+    let l = c.loop-i in
+    let a = c.args in
     let n = c.count-n in
     let m = c.count-m in
     let i : l.i < c.lesser-k.result = c.loop-i-test.true in (

@@ -1,22 +1,13 @@
-use mathlib.Core.Path.{◌≡◌, refl, ap, ◌∙◌}
-use mathlib.Core.Logic.{◌⊎◌, inl, inr}
+use mathlib.Core.Path.{◌≡◌}
 use mathlib.Core.List.{map}
-use Prim.Native.Nat.{ℕ, ◌+◌, ◌*◌, ◌-◌, ◌≤◌, ◌<◌, min}
-use lib.Dec.{leb}
-use lib.ListN.{length, take, drop, get_or, length-set, length-drop}
+use Prim.Native.Nat.{◌*◌, ◌-◌, ◌≤◌}
+use lib.ListN.{length, take, drop}
 use Rattle.meaning.specs.Answers.{and_then}
-use Rattle.meaning.specs.Laws.Base.{decide, leb_le, leb_gt}
 use Rattle.meaning.specs.Area.{local_in}
-use Rattle.meaning.specs.BorrowGraph.{Graph}
-use Rattle.meaning.specs.AbstractState.{join_local, join_locals}
-use Rattle.references.specs.ModelLaws.{told_yes}
+use Rattle.meaning.specs.AbstractState.{join_locals}
 use Rattle.borrow_graph.specs.Models.{graph_in, Tells}
 use Rattle.abstract_state.specs.Models.{locals_in}
-use Rattle.abstract_state_join.specs.Models.{step_by}
-use Rattle.abstract_state_join.specs.LocalLaws.{clip, locals_are, locals_end, locals_all}
-use Rattle.abstract_state_join.specs.JoinLaws.{after, start, written, goes_on, ends, end_equal, end_unequal}
-use native.Mathlib.Omega.{arith}
-use borrow.Author.Rules.{rules}
+use Rattle.abstract_state_join.specs.JoinLaws.{after}
 use Rattle.abstract_state_join.proofs.join.join_locals.Given as goal
 
 abbrev pub invariant-loop-i : goal.invariant-loop-i

@@ -1,7 +1,6 @@
 use mathlib.Core.Path.{sym, ap, ◌∙◌}
 use Rattle.abstract_state.specs.Models.{operand_of}
 use Rattle.abstract_state_join.specs.JoinLaws.{meet_same, meet_ours, meet_theirs, meet_none}
-use borrow.Author.Rules.{rules}
 use Rattle.abstract_state_join.proofs.join.meet.Goals as goal
 
 pub returns-then-a-b : goal.returns-then-a-b

@@ -1,7 +1,6 @@
 use mathlib.Core.Path.{◌∙◌}
 use Rattle.abstract_state.specs.Models.{operand_of}
 use Rattle.abstract_state_join.specs.JoinLaws.{same_present, same_absent}
-use borrow.Author.Rules.{rules}
 use Rattle.abstract_state_join.proofs.join.same_local.Goals as goal
 
 pub returns-then-a-b : goal.returns-then-a-b

@@ -1,6 +1,6 @@
 use mathlib.Core.Path.{◌≡◌, refl, sym, ap, ◌∙◌}
 use mathlib.Core.Bool.{Bool, ◌&&◌}
-use Prim.Native.Nat.{◌+◌, ◌-◌}
+use Prim.Native.Nat.{◌+◌}
 use lib.ListN.{length, drop, get_or}
 use Rattle.meaning.specs.Area.{local_in}
 use Rattle.meaning.specs.AbstractState.{eq_local, eq_locals}
@@ -8,7 +8,6 @@ use Rattle.abstract_state.specs.Models.{locals_in}
 use Rattle.abstract_state_join.specs.LocalLaws.{local_next, locals_end}
 use Rattle.abstract_state_join.specs.JoinLaws.{eq_locals_step, eq_locals_end}
 use native.Mathlib.Omega.{arith}
-use borrow.Author.Rules.{rules}
 use Rattle.abstract_state_join.proofs.join.same_locals.Goals as goal
 
 turn : (c : goal.In-loop-i) → let a' = c.args in

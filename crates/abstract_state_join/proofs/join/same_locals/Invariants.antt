@@ -1,14 +1,8 @@
-use mathlib.Core.Path.{◌≡◌, refl, sym, ap, ◌∙◌}
-use mathlib.Core.Bool.{Bool, ◌&&◌}
-use Prim.Native.Nat.{◌+◌, ◌-◌}
-use lib.ListN.{length, drop, get_or}
-use Rattle.meaning.specs.Area.{local_in}
-use Rattle.meaning.specs.AbstractState.{eq_local, eq_locals}
+use mathlib.Core.Path.{◌≡◌}
+use Prim.Native.Nat.{◌-◌}
+use lib.ListN.{length, drop}
+use Rattle.meaning.specs.AbstractState.{eq_locals}
 use Rattle.abstract_state.specs.Models.{locals_in}
-use Rattle.abstract_state_join.specs.LocalLaws.{local_next, locals_end}
-use Rattle.abstract_state_join.specs.JoinLaws.{eq_locals_step, eq_locals_end}
-use native.Mathlib.Omega.{arith}
-use borrow.Author.Rules.{rules}
 use Rattle.abstract_state_join.proofs.join.same_locals.Given as goal
 
 abbrev pub invariant-loop-i : goal.invariant-loop-i

@@ -1,4 +1,3 @@
-use borrow.Author.Rules.{rules}
 use Rattle.abstract_state_join.proofs.join.same_value.Goals as goal
 
 pub returns-in-Reference-b : goal.returns-in-Reference-b

@@ -4,7 +4,6 @@ use Rattle.meaning.specs.Laws.Blurs.{newly_self}
 use Rattle.borrow_graph.specs.Models.{graph_in}
 use Rattle.abstract_state.specs.Models.{local_of}
 use Rattle.abstract_state_join.specs.JoinLaws.{idle_step, busy_step}
-use borrow.Author.Rules.{rules}
 use Rattle.abstract_state_join.proofs.join.turn.Goals as goal
 
 pub returns-then-x : goal.returns-then-x

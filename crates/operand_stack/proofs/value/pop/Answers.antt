@@ -3,7 +3,6 @@ use mathlib.Core.Path.{◌≡◌, ap}
 use lib.ListN.{length}
 use Rattle.meaning.specs.Laws.Array.{length_of_map}
 use Rattle.abstract_state.specs.declared.state.Operands.{Operands}
-use borrow.Author.Rules.{rules}
 use Rattle.operand_stack.proofs.value.pop.Goals as goal
 
 pub returns : goal.returns

@@ -4,7 +4,6 @@ use mathlib.Core.List.{List}
 use lib.ListN.{length}
 use Rattle.meaning.specs.Laws.Array.{length_of_map}
 use Rattle.abstract_state.specs.declared.state.Operands.{Operands}
-use borrow.Author.Rules.{rules}
 use Rattle.operand_stack.proofs.value.push.Goals as goal
 
 pub returns : goal.returns

@@ -4,7 +4,6 @@ use native.Mathlib.Numerals.{add-one}
 use Rattle.meaning.specs.EntryPoints.{Running}
 use Rattle.borrow_graph.specs.Models.{graph_in}
 use Rattle.abstract_state.specs.Models.{locals_in}
-use borrow.Author.Rules.{rules}
 use Rattle.reference_safety.proofs.block.begin.Goals as goal
 
 pub returns : goal.returns

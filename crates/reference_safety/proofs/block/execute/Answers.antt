@@ -1,7 +1,6 @@
 use mathlib.Core.Path.{refl}
 use Rattle.reference_safety.specs.BlockLaws.{stepped}
 use Rattle.reference_safety.proofs.Arms.{left}
-use borrow.Author.Rules.{rules}
 use Rattle.reference_safety.proofs.block.execute.Goals as goal
 
 pub execute_on_references-requires : goal.execute_on_references-requires

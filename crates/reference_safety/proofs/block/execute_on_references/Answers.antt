@@ -1,7 +1,6 @@
 use mathlib.Core.Path.{◌∙◌}
 use Rattle.reference_safety.specs.BlockLaws.{stepped}
 use Rattle.reference_safety.proofs.Arms.{no_other}
-use borrow.Author.Rules.{rules}
 use Rattle.reference_safety.proofs.block.execute_on_references.Goals as goal
 
 pub returns-in-FreezeRef : goal.returns-in-FreezeRef

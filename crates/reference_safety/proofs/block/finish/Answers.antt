@@ -11,7 +11,6 @@ use Rattle.reference_safety.specs.Models.{placed}
 use Rattle.abstract_state.specs.ModelLaws.{goes}
 use Rattle.reference_safety.specs.BlockLaws.{not_halted, finish_left, finish_none, finish_some}
 use native.Mathlib.Omega.{arith}
-use borrow.Author.Rules.{rules}
 use Rattle.reference_safety.proofs.block.finish.Goals as goal
 
 pub returns-then-m-ne0 : goal.returns-then-m-ne0

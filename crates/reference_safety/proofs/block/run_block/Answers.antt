@@ -1,12 +1,10 @@
 use Rattle.std.specs.Prelude.{◌-◌, map, get_or, take, drop}
 use mathlib.Core.Path.{refl}
-use Rattle.meaning.specs.Blocks.{run_block}
 use Rattle.listing.specs.Models.{decoded_at, decoded_of, block_of, routine_of}
-use Rattle.abstract_state.specs.Models.{words, state_of}
+use Rattle.abstract_state.specs.Models.{words}
 use Rattle.reference_safety.specs.Models.{board, state_in}
-use Rattle.reference_safety.specs.BlockLaws.{Going, going, next_instr, code_length, begins, at_step, turns, stops, finishes, begun}
+use Rattle.reference_safety.specs.BlockLaws.{going, next_instr, code_length, begins, at_step, turns, stops, finishes, begun}
 use native.Mathlib.Omega.{arith}
-use borrow.Author.Rules.{rules}
 use Rattle.reference_safety.proofs.block.run_block.Goals as goal
 
 pub overflow_cast-k : goal.overflow_cast-k

@@ -1,12 +1,9 @@
-use Rattle.std.specs.Prelude.{◌-◌, map, get_or, take, drop}
-use mathlib.Core.Path.{refl}
+use Rattle.std.specs.Prelude.{◌-◌, map, take, drop}
 use Rattle.meaning.specs.Blocks.{run_block}
-use Rattle.listing.specs.Models.{decoded_at, decoded_of, block_of, routine_of}
+use Rattle.listing.specs.Models.{decoded_at, block_of, routine_of}
 use Rattle.abstract_state.specs.Models.{words, state_of}
-use Rattle.reference_safety.specs.Models.{board, state_in}
-use Rattle.reference_safety.specs.BlockLaws.{Going, going, next_instr, code_length, begins, at_step, turns, stops, finishes, begun}
-use native.Mathlib.Omega.{arith}
-use borrow.Author.Rules.{rules}
+use Rattle.reference_safety.specs.Models.{board}
+use Rattle.reference_safety.specs.BlockLaws.{Going}
 use Rattle.reference_safety.proofs.block.run_block.Given as goal
 
 abbrev pub invariant-loop-k : goal.invariant-loop-k

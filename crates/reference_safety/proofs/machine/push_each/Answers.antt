@@ -1,10 +1,7 @@
-use Rattle.std.specs.Prelude.{ℕ, ◌-◌, List}
+use Rattle.std.specs.Prelude.{◌-◌}
 use mathlib.Core.Path.{refl}
-use Rattle.file_format.specs.Models.{token_of}
-use Rattle.reference_safety.specs.Models.{board}
-use Rattle.reference_safety.specs.MachineLaws.{Turns, new_turn, new_out, new_end}
+use Rattle.reference_safety.specs.MachineLaws.{new_turn, new_out, new_end}
 use native.Mathlib.Omega.{arith}
-use borrow.Author.Rules.{rules}
 use Rattle.reference_safety.proofs.machine.push_each.Goals as goal
 
 pub loop-left-init : goal.loop-left-init

@@ -2,7 +2,6 @@ use mathlib.Core.Path.{ap}
 use Rattle.meaning.specs.Steps.{push_new}
 use Rattle.file_format.specs.Models.{token_of}
 use Rattle.reference_safety.specs.MachineLaws.{push_runs, values_runs, runs_from}
-use borrow.Author.Rules.{rules}
 use Rattle.reference_safety.proofs.machine.push_new.Goals as goal
 
 pub returns-in-Value : goal.returns-in-Value

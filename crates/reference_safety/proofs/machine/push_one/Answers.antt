@@ -2,7 +2,6 @@ use Rattle.meaning.specs.EntryPoints.{value_for}
 use Rattle.meaning.specs.Steps.{pushed}
 use Rattle.file_format.specs.Models.{token_of}
 use Rattle.reference_safety.specs.MachineLaws.{gives, steps_from}
-use borrow.Author.Rules.{rules}
 use Rattle.reference_safety.proofs.machine.push_one.Goals as goal
 
 pub returns : goal.returns

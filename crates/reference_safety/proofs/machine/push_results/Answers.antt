@@ -1,5 +1,4 @@
 use Rattle.reference_safety.specs.MachineLaws.{push_runs}
-use borrow.Author.Rules.{rules}
 use Rattle.reference_safety.proofs.machine.push_results.Goals as goal
 
 pub returns : goal.returns

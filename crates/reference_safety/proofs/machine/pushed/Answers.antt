@@ -1,5 +1,4 @@
 use Rattle.reference_safety.specs.MachineLaws.{push_runs, pushed_one}
-use borrow.Author.Rules.{rules}
 use Rattle.reference_safety.proofs.machine.pushed.Goals as goal
 
 pub returns : goal.returns

@@ -1,7 +1,6 @@
 use Rattle.meaning.specs.EntryPoints.{vector_element_borrow}
 use Rattle.meaning.specs.Steps.{pop_values, pushed}
 use Rattle.reference_safety.specs.MachineLaws.{under_runs, gives}
-use borrow.Author.Rules.{rules}
 use Rattle.reference_safety.proofs.steps.borrow_element.Goals as goal
 
 pub returns : goal.returns

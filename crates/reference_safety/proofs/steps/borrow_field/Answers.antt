@@ -1,7 +1,6 @@
 use Rattle.meaning.specs.EntryPoints.{borrow_field}
 use Rattle.meaning.specs.Steps.{pushed}
 use Rattle.reference_safety.specs.MachineLaws.{ref_runs, gives}
-use borrow.Author.Rules.{rules}
 use Rattle.reference_safety.proofs.steps.borrow_field.Goals as goal
 
 pub returns : goal.returns

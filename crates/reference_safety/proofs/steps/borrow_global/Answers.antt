@@ -1,7 +1,6 @@
 use Rattle.meaning.specs.EntryPoints.{borrow_global}
 use Rattle.meaning.specs.Steps.{pop_values, pushed}
 use Rattle.reference_safety.specs.MachineLaws.{rest_runs, gives}
-use borrow.Author.Rules.{rules}
 use Rattle.reference_safety.proofs.steps.borrow_global.Goals as goal
 
 pub returns : goal.returns

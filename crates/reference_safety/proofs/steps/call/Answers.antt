@@ -6,14 +6,13 @@ use Rattle.meaning.specs.Steps.{push_all}
 use Rattle.abstract_state.specs.Models.{operands_of}
 use Rattle.operand_stack.specs.Models.{stack_in}
 use Rattle.reference_safety.specs.MachineLaws.{many_runs, answers_runs}
-use borrow.Author.Rules.{rules}
 use Rattle.reference_safety.proofs.steps.call.Goals as goal
 
 pub returns : goal.returns
 returns c =
     λ ls.
     let k = c.call-a in
-        let p = c.pop_many-p in
+    let p = c.pop_many-p in
     let a = c.args in
     let acquired = take a.d.acquired_count a.d.acquired in
     let tokens = map token_as (take a.d.token_count a.d.tokens) in

@@ -2,7 +2,6 @@ use Rattle.meaning.specs.EntryPoints.{comparison}
 use Rattle.meaning.specs.Steps.{pop, pushed}
 use Rattle.abstract_state.specs.Models.{operand_of}
 use Rattle.reference_safety.specs.MachineLaws.{pop_runs, gives}
-use borrow.Author.Rules.{rules}
 use Rattle.reference_safety.proofs.steps.compare.Goals as goal
 
 pub returns : goal.returns

@@ -1,5 +1,4 @@
 use Rattle.reference_safety.specs.MachineLaws.{gives}
-use borrow.Author.Rules.{rules}
 use Rattle.reference_safety.proofs.steps.copy_loc.Goals as goal
 
 pub returns : goal.returns

@@ -1,7 +1,6 @@
 use Rattle.meaning.specs.EntryPoints.{move_from}
 use Rattle.meaning.specs.Steps.{pop_values, pushed}
 use Rattle.reference_safety.specs.MachineLaws.{rest_runs, gives}
-use borrow.Author.Rules.{rules}
 use Rattle.reference_safety.proofs.steps.move_from.Goals as goal
 
 pub returns : goal.returns

@@ -1,7 +1,6 @@
 use Rattle.meaning.specs.EntryPoints.{release_value}
 use Rattle.meaning.specs.Steps.{pop_values, unchanged}
 use Rattle.reference_safety.specs.MachineLaws.{under_runs, keeps}
-use borrow.Author.Rules.{rules}
 use Rattle.reference_safety.proofs.steps.move_to.Goals as goal
 
 pub returns : goal.returns

@@ -1,7 +1,6 @@
 use Rattle.meaning.specs.EntryPoints.{read_ref}
 use Rattle.meaning.specs.Steps.{pushed}
 use Rattle.reference_safety.specs.MachineLaws.{ref_runs, gives}
-use borrow.Author.Rules.{rules}
 use Rattle.reference_safety.proofs.steps.read_ref.Goals as goal
 
 pub returns : goal.returns

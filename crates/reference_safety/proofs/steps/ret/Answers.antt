@@ -1,7 +1,6 @@
 use Rattle.meaning.specs.EntryPoints as R
 use Rattle.meaning.specs.Steps.{unchanged}
 use Rattle.reference_safety.specs.MachineLaws.{many_runs, keeps}
-use borrow.Author.Rules.{rules}
 use Rattle.reference_safety.proofs.steps.ret.Goals as goal
 
 pub returns : goal.returns

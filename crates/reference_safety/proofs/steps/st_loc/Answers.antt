@@ -1,7 +1,6 @@
 use Rattle.meaning.specs.EntryPoints.{st_loc}
 use Rattle.meaning.specs.Steps.{unchanged}
 use Rattle.reference_safety.specs.MachineLaws.{pop_runs, keeps}
-use borrow.Author.Rules.{rules}
 use Rattle.reference_safety.proofs.steps.st_loc.Goals as goal
 
 pub returns : goal.returns

@@ -1,7 +1,6 @@
 use Rattle.meaning.specs.Steps.{push_new}
 use Rattle.file_format.specs.Models.{token_of}
 use Rattle.reference_safety.specs.MachineLaws.{rest_runs}
-use borrow.Author.Rules.{rules}
 use Rattle.reference_safety.proofs.steps.values.Goals as goal
 
 pub returns : goal.returns

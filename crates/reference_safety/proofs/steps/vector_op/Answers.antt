@@ -3,7 +3,6 @@ use Rattle.meaning.specs.EntryPoints.{vector_op}
 use Rattle.meaning.specs.Steps.{push_new}
 use Rattle.file_format.specs.Models.{token_of}
 use Rattle.reference_safety.specs.MachineLaws.{under_runs, does_runs}
-use borrow.Author.Rules.{rules}
 use Rattle.reference_safety.proofs.steps.vector_op.Goals as goal
 
 pub returns : goal.returns

@@ -1,7 +1,6 @@
 use Rattle.meaning.specs.EntryPoints.{write_ref}
 use Rattle.meaning.specs.Steps.{pop_values, unchanged}
 use Rattle.reference_safety.specs.MachineLaws.{ref_runs, rest_runs, keeps}
-use borrow.Author.Rules.{rules}
 use Rattle.reference_safety.proofs.steps.write_ref.Goals as goal
 
 pub returns : goal.returns

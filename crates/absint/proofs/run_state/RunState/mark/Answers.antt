@@ -3,7 +3,6 @@ use lib.ListN.{length}
 use Rattle.meaning.specs.Laws.Array.{length_of_map}
 use Rattle.absint.specs.LoopLaws.{statuses_set, statuses_count}
 use Rattle.absint.specs.Models.{statuses_of}
-use borrow.Author.Rules.{rules}
 use Rattle.absint.proofs.run_state.RunState.mark.Goals as goal
 
 pub returns : goal.returns

@@ -3,7 +3,6 @@ use mathlib.Core.Path.{refl, ap}
 use mathlib.Core.Bool.{Bool, cond}
 use Rattle.meaning.specs.Loop.{Next, at, stopped}
 use Rattle.absint.specs.Models.{statuses_of}
-use borrow.Author.Rules.{rules}
 use Rattle.absint.proofs.run_state.RunState.onward.Goals as goal
 
 pub returns : goal.returns

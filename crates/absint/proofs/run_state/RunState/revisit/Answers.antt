@@ -3,13 +3,12 @@ use mathlib.Core.Bool.{Bool, cond}
 use Rattle.meaning.specs.Loop.{Next, at, stopped}
 use Rattle.absint.specs.Models.{statuses_of}
 use Rattle.absint.specs.PropagateLaws.{going, not_stopped}
-use borrow.Author.Rules.{rules}
 use Rattle.absint.proofs.run_state.RunState.revisit.Goals as goal
 
 pub returns-then-back : goal.returns-then-back
 unfolding statuses_of
 returns-then-back c =
-        let clear = c.clear-t in
+    let clear = c.clear-t in
     let u = clear.result in
     let off = not_stopped u _ (clear.ensures.0 ∙ going c.args.self c.requires.1) in (
       ap {B = Next} (λ (b : Bool). cond b (stopped u.number u.place.0) (at c.args.j)) off
@@ -21,7 +20,7 @@ returns-then-back c =
 
 pub returns-else-back : goal.returns-else-back
 returns-else-back c =
-        let clear = c.clear-t in (
+    let clear = c.clear-t in (
       clear.ensures.0 ∙ going c.args.self c.requires.1 ∙ ap (λ (b : Bool). at (cond b c.args.j c.args.self.next)) (sym c.if-back.false),
       clear.ensures.1,
       clear.ensures.2,
