@@ -3,10 +3,10 @@ use Rattle.std.specs.Prelude.{ℕ, zero, suc, ◌+◌, ◌≤◌, ◌<◌, ◌�
 use Rattle.std.proofs.Common.{arith, sym, ap, ◌∙◌, add-one, drop-cons, length-take, drop_of_length-le}
 use Rattle.std.proofs.Math.Option.{Option, none, some}
 use Rattle.std.proofs.lemmas.List.{length-map}
-use Rattle.meaning.specs.Laws.Array.{front_map_step, map_step}
+use Rattle.meaning.proofs.Laws.Array.{front_map_step, map_step}
 use Rattle.meaning.specs.Loop as M
 use Rattle.meaning.specs.Loop.{Status, fine, position, Failure, lower, Verdict, accept, violation, refusal, verdict_for}
-use Rattle.meaning.specs.Laws.Fit.{lowest_by}
+use Rattle.meaning.proofs.Laws.Fit.{lowest_by}
 use Rattle.listing.specs.Models.{block_of, blocks_in}
 use Rattle.listing.specs.declared.Block.{Block}
 use Rattle.absint.specs.Models.{status_of, statuses_of, failure_of, verdict_in}

@@ -5,27 +5,27 @@ use Rattle.std.proofs.Math.Path.{refl, ap, subst}
 use Rattle.std.proofs.Math.Bool.{true, false, not}
 use Rattle.std.proofs.Math.Option.{none, some}
 use Rattle.std.proofs.lemmas.List.{length-map}
-use Rattle.meaning.specs.Laws.Array.{front_all}
+use Rattle.meaning.proofs.Laws.Array.{front_all}
 use Rattle.meaning.specs.Limits.{area_words, u32_most}
 use Rattle.meaning.specs.Area.{local_in, kept_of, Stored, forgotten}
-use Rattle.meaning.specs.Laws.Area.{Forgotten, forgotten_law}
+use Rattle.meaning.proofs.Laws.Area.{Forgotten, forgotten_law}
 use Rattle.meaning.specs.AbstractState.{State, join, join_blurs, changed, first_state}
 use Rattle.meaning.specs.EntryPoints as R
 use Rattle.meaning.specs.AbstractState as S
 use Rattle.meaning.specs.Answers as A
 use Rattle.meaning.specs.Answers.{Outcome, done}
 use Rattle.meaning.specs.EntryPoints.{Running}
-use Rattle.meaning.specs.Laws.Base.{and_l, leb_le}
+use Rattle.meaning.proofs.Laws.Base.{and_l, leb_le}
 use Rattle.meaning.specs.Lists.{all}
 use Rattle.meaning.specs.Blocks.{Routine, exec, run_block, instrs_of}
-use Rattle.meaning.specs.Laws.Forms.{Strong}
-use Rattle.meaning.specs.Laws.Promised.{promised, within_frame, rets_placed as placed-rets}
-use Rattle.meaning.specs.Laws.Block.{exec_keeps}
+use Rattle.meaning.proofs.Laws.Forms.{Strong}
+use Rattle.meaning.proofs.Laws.Promised.{promised, within_frame, rets_placed as placed-rets}
+use Rattle.meaning.proofs.Laws.Block.{exec_keeps}
 use Rattle.meaning.specs.Loop as M
 use Rattle.meaning.specs.Loop.{most_changes, most_visits, Result, Status, fine, failed, Next, at, stopped, Run, no_block, turn, turns, run, has_ended}
-use Rattle.meaning.specs.Laws.Fit as F
-use Rattle.meaning.specs.Laws.Fit.{Reached}
-use Rattle.meaning.specs.Laws.Run as RunLaws
+use Rattle.meaning.proofs.Laws.Fit as F
+use Rattle.meaning.proofs.Laws.Fit.{Reached}
+use Rattle.meaning.proofs.Laws.Run as RunLaws
 use Rattle.meaning.specs.Verify.{run_with, run_of}
 use Rattle.listing.specs.Models.{block_of, blocks_in, routine_of}
 use Rattle.listing.specs.declared.Block.{Block}

@@ -2,14 +2,14 @@
 use Rattle.std.specs.Prelude.{ℕ, ◌≤◌, ◌<◌, ◌≡◌, refl, Bool, true, false, cond, List, ◌++◌, leb, length, drop}
 use Rattle.std.proofs.Common.{arith, sym, ap, ◌∙◌, subst}
 use Rattle.std.proofs.Math.Option.{none}
-use Rattle.meaning.specs.Laws.Base.{decide, leb_le, leb_gt}
+use Rattle.meaning.proofs.Laws.Base.{decide, leb_le, leb_gt}
 use Rattle.meaning.specs.Limits.{area_words}
 use Rattle.meaning.specs.Area.{kept_of, forgotten, cleared, zeros}
-use Rattle.meaning.specs.Laws.Area.{forgotten_law, forgotten_short, cleared_long}
+use Rattle.meaning.proofs.Laws.Area.{forgotten_law, forgotten_short, cleared_long}
 use Rattle.meaning.specs.Blocks.{Routine}
 use Rattle.meaning.specs.Loop.{at, stopped, visits, Verdict, refusal, verdict_for, verdict, verdict_at}
-use Rattle.meaning.specs.Laws.Fit.{lowest_by, lowest_by_lem}
-use Rattle.meaning.specs.Laws.Verify.{verify_long}
+use Rattle.meaning.proofs.Laws.Fit.{lowest_by, lowest_by_lem}
+use Rattle.meaning.proofs.Laws.Verify.{verify_long}
 use Rattle.meaning.specs.Listing.{Listed, read, nothing, refused, read_listing}
 use Rattle.meaning.specs.Verify as Whole
 use Rattle.meaning.specs.Verify.{run_of, kept_by}

@@ -4,7 +4,8 @@ use Rattle.std.proofs.Common.{ap, ◌∙◌, arith}
 use Rattle.std.proofs.Math.Option.{Option, none, some}
 use Rattle.meaning.specs.Lists.{up_to}
 use Rattle.meaning.specs.Area.{local_in, name_in, label_in, edge_in, unkept}
-use Rattle.meaning.specs.Laws.Area.{up_to_same, up_to_front, Filled, filled_front, local_word, IsLocal, above_local}
+use Rattle.meaning.specs.Laws.Area.{Filled, IsLocal, above_local}
+use Rattle.meaning.proofs.Laws.Area.{up_to_same, up_to_front, filled_front, local_word}
 use Rattle.meaning.specs.BorrowGraph.{Name, GEdge}
 use Rattle.meaning.specs.AbstractState as S
 use Rattle.references.specs.Models.{row_of, names_in, edges_in}

@@ -4,8 +4,8 @@ use Rattle.std.specs.Prelude.{refl}
 use Rattle.std.proofs.Common.{sym, ap, ◌∙◌, true≢false, not-suc-le-zero, le_of_suc-le-suc, add-one, arith, ne_eqb, le-ltb}
 use Rattle.std.proofs.Math.Option.{Option, none, some}
 use Rattle.meaning.specs.Answers.{Ans, ok, refuse, guard, Outcome, done, violated, refused, then, lift, needs, fails_at}
-use Rattle.meaning.specs.Laws.Base.{ok_inj, refuse≢ok}
-use Rattle.meaning.specs.Laws.Lowest.{lowest_guard}
+use Rattle.meaning.proofs.Laws.Base.{ok_inj, refuse≢ok}
+use Rattle.meaning.proofs.Laws.Lowest.{lowest_guard}
 use Rattle.meaning.specs.BorrowGraph.{Graph, GEdge, blurs_by, Borrows, well_formed, held, is_mutable, new_name, borrows_fully, borrows, borrows_mutably, lowest_of, borrowed_by}
 use Rattle.meaning.specs.BorrowGraph as L
 use Rattle.meaning.specs.AbstractState as S

@@ -12,10 +12,10 @@ use Rattle.meaning.specs.BorrowGraph.{GEdge, well_formed, held, borrows, lower_o
 use Rattle.meaning.specs.BorrowGraph as L
 use Rattle.meaning.specs.AbstractState.{count1}
 use Rattle.meaning.specs.EntryPoints.{Running, ascend, none_borrowed, not_acquired}
-use Rattle.meaning.specs.Laws.Base.{decide, eqb_self}
-use Rattle.meaning.specs.Laws.Own.{times, count_yes}
-use Rattle.meaning.specs.Laws.InTurn.{Sorted, ascend_sorted}
-use Rattle.meaning.specs.Laws.Tests.{is_some, lowest_some, gather_ascend}
+use Rattle.meaning.proofs.Laws.Base.{decide, eqb_self}
+use Rattle.meaning.proofs.Laws.Own.{times, count_yes}
+use Rattle.meaning.proofs.Laws.InTurn.{Sorted, ascend_sorted}
+use Rattle.meaning.proofs.Laws.Tests.{is_some, lowest_some, gather_ascend}
 use Rattle.references.specs.Models.{told}
 use Rattle.borrow_graph.specs.Models.{low_in}
 use Rattle.borrow_graph.specs.Folds.{lower_if}

@@ -5,7 +5,7 @@ use Rattle.std.proofs.Common.{◌∙◌, append_assoc, append-nil}
 use Rattle.std.proofs.Math.Option.{Option, none, some}
 use Rattle.meaning.specs.Limits.{GLOBAL_REFERENCE, CALL_BORROWED_MUTABLE_REFERENCE, UNSAFE_RET, RET_BORROWED_MUTABLE_REFERENCE}
 use Rattle.meaning.specs.Lists.{keep}
-use Rattle.meaning.specs.Laws.Base.{and_l}
+use Rattle.meaning.proofs.Laws.Base.{and_l}
 use Rattle.meaning.specs.Labels.{global_label}
 use Rattle.meaning.specs.BorrowGraph.{well_formed, held, is_mutable, borrows, lowest_of}
 use Rattle.meaning.specs.BorrowGraph as L

@@ -5,7 +5,7 @@ use Rattle.std.proofs.Common.{sym, ap, ◌∙◌, append-nil, drop_of_length-le,
 use Rattle.std.proofs.lemmas.List.{length-map}
 use Rattle.meaning.specs.Area.{local_in}
 use Rattle.meaning.specs.AbstractState.{Local, Operand}
-use Rattle.meaning.specs.Laws.Array.{front_map_step, push_map}
+use Rattle.meaning.proofs.Laws.Array.{front_map_step, push_map}
 use Rattle.references.specs.declared.RefID.{RefID}
 use Rattle.abstract_state.specs.Models.{operand_in, operands_in, locals_in}
 use Rattle.abstract_state_calls.specs.Models.{id_of, ids_of}

@@ -2,7 +2,7 @@
 use Rattle.std.specs.Prelude.{ℕ, suc, ◌+◌, ◌≡◌, refl, true, ◌&&◌, cond, List, [], ◌∷◌, eqb}
 use Rattle.std.proofs.Common.{arith, add-one, sym, ap, ◌∙◌}
 use Rattle.meaning.specs.Answers.{then}
-use Rattle.meaning.specs.Laws.Base.{decide, and_l, and_r, eqb_eq, eqb_self, eqb_no, eqb_ne}
+use Rattle.meaning.proofs.Laws.Base.{decide, and_l, and_r, eqb_eq, eqb_self, eqb_no, eqb_ne}
 use Rattle.meaning.specs.BorrowGraph.{Graph, renamed, name_after}
 use Rattle.meaning.specs.AbstractState as S
 use Rattle.meaning.specs.AbstractState.{State, absent, value, ref, local_holding, new_name_of, own_names, canonical, non_ref, reference}

@@ -5,14 +5,14 @@ use Rattle.std.proofs.Math.Path.{ap}
 use Rattle.std.proofs.Math.Bool.{cond}
 use Rattle.std.proofs.Math.Dec.{eqb}
 use Rattle.std.proofs.lemmas.List.{length-map}
-use Rattle.meaning.specs.Laws.Base.{decide, leb_le, leb_gt}
-use Rattle.meaning.specs.Laws.Array.{front_map_step}
+use Rattle.meaning.proofs.Laws.Base.{decide, leb_le, leb_gt}
+use Rattle.meaning.proofs.Laws.Array.{front_map_step}
 use Rattle.meaning.specs.BorrowGraph.{Name, Graph, well_formed}
 use Rattle.meaning.specs.AbstractState as S
 use Rattle.meaning.specs.AbstractState.{Token, of_value, of_ref, first_locals, first_names, first_state}
 use Rattle.meaning.specs.EntryPoints.{Running}
 use Rattle.meaning.specs.Listing.{token_as}
-use Rattle.meaning.specs.Laws.First.{first_strong}
+use Rattle.meaning.proofs.Laws.First.{first_strong}
 use Rattle.abstract_state_join.specs.Models.{first_at, first_running}
 
 -- ---- tokens

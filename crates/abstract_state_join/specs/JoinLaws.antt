@@ -8,14 +8,14 @@ use mathlib.Core.List.{List, [], ◌∷◌, ◌++◌, map, append-nil}
 use Rattle.std.proofs.Math.Seq.{append_snoc}
 use Rattle.meaning.specs.Answers.{Ans, ok, refuse, and_then, guard}
 use Rattle.meaning.specs.Lists.{all, empty}
-use Rattle.meaning.specs.Laws.Base.{and_l, and_i, or_l, or_r, and_then_ok, guard_ok, ok_inj, refuse≢ok, eqb_self}
-use Rattle.meaning.specs.Laws.Array.{push_map}
+use Rattle.meaning.proofs.Laws.Base.{and_l, and_i, or_l, or_r, and_then_ok, guard_ok, ok_inj, refuse≢ok, eqb_self}
+use Rattle.meaning.proofs.Laws.Array.{push_map}
 use Rattle.meaning.specs.BorrowGraph.{Name, Graph, blurs_to, blurs_by, holds, held, well_formed, same_names, unmatched, release, join_graphs, covering}
-use Rattle.meaning.specs.Laws.Cover.{covered_at, unmatched_none}
+use Rattle.meaning.proofs.Laws.Cover.{covered_at, unmatched_none}
 use Rattle.meaning.specs.AbstractState as S
 use Rattle.meaning.specs.AbstractState.{State, Step, absent, join_local, join_locals, join, join_blurs, passed, eq_local, eq_locals, changed, Operand, non_ref, reference}
-use Rattle.meaning.specs.Laws.State.{Joined, join_law}
-use Rattle.meaning.specs.Laws.Change.{leq, rust_changed, changed_is_rust, eq_locals_eq}
+use Rattle.meaning.proofs.Laws.State.{Joined, join_law}
+use Rattle.meaning.proofs.Laws.Change.{leq, rust_changed, changed_is_rust, eq_locals_eq}
 use Rattle.meaning.specs.EntryPoints as R
 use Rattle.references.specs.Models.{told}
 use Rattle.references.specs.ModelLaws.{told_on, told_off, told_yes}

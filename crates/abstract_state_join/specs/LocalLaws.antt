@@ -5,8 +5,8 @@ use Rattle.std.proofs.Math.Path.{sym, ap}
 use Rattle.std.proofs.Common.{◌∙◌, drop_of_length-le, length-take, take_all}
 use mathlib.Core.List.{List, [], ◌∷◌, ◌++◌, map, append-nil}
 use Rattle.std.proofs.lemmas.List.{length-map}
-use Rattle.meaning.specs.Laws.Base.{decide, leb_le, leb_gt}
-use Rattle.meaning.specs.Laws.Array.{front_map_step, push_map, drop_set}
+use Rattle.meaning.proofs.Laws.Base.{decide, leb_le, leb_gt}
+use Rattle.meaning.proofs.Laws.Array.{front_map_step, push_map, drop_set}
 use Rattle.meaning.specs.Area.{local_in}
 use Rattle.meaning.specs.AbstractState as S
 use Rattle.meaning.specs.EntryPoints as R

@@ -4,7 +4,7 @@ use Rattle.std.proofs.Math.Path.{refl, ap}
 use Rattle.std.proofs.Common.{sym, ◌∙◌}
 use Rattle.std.proofs.Math.Option.{Option, none, some}
 use Rattle.meaning.specs.Answers.{Ans, ok, refuse, guard, Outcome, done, refused, then, fails_at, needs}
-use Rattle.meaning.specs.Laws.Base.{ok_inj, refuse≢ok}
+use Rattle.meaning.proofs.Laws.Base.{ok_inj, refuse≢ok}
 use Rattle.meaning.specs.Labels.{local_label, global_label}
 use Rattle.meaning.specs.BorrowGraph.{Graph, GEdge, well_formed, held, is_mutable, borrows, borrows_mutably, lowest_of}
 use Rattle.meaning.specs.BorrowGraph as L

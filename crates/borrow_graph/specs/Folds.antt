@@ -6,8 +6,8 @@ use Rattle.std.proofs.lemmas.Bool.{false≢true}
 use Rattle.std.proofs.Math.Option.{Option, none, some}
 use mathlib.Core.List.{List, [], ◌∷◌, foldl}
 use Rattle.meaning.specs.References.{weakest, short, lt_edge, eq_edge}
-use Rattle.meaning.specs.Laws.Base.{and_l, decide}
-use Rattle.meaning.specs.Laws.Array.{empty_length}
+use Rattle.meaning.proofs.Laws.Base.{and_l, decide}
+use Rattle.meaning.proofs.Laws.Array.{empty_length}
 use Rattle.meaning.specs.BorrowGraph.{GEdge, Name, is_before, mutable_in, meets_label, empty_path, borrows, borrows_fully, lower_of, lowest_of, Borrows}
 use Rattle.meaning.specs.Refinement.Chain.{same, link, next_count, chain, climbs}
 use Rattle.borrow_graph.specs.Models.{low_in}

@@ -6,8 +6,8 @@ use Rattle.meaning.specs.Lists.{up_to}
 use Rattle.meaning.specs.References.{short}
 use Rattle.meaning.specs.BorrowGraph.{Graph}
 use Rattle.meaning.specs.Area.{name_in, label_in}
-use Rattle.meaning.specs.Laws.Listing.{up_to_length}
-use Rattle.meaning.specs.Laws.Array.{front_map_step, front_all}
+use Rattle.meaning.proofs.Laws.Listing.{up_to_length}
+use Rattle.meaning.proofs.Laws.Array.{front_map_step, front_all}
 use Rattle.references.specs.Models.{row_of, edges_in, names_in, told}
 use Rattle.borrow_graph.specs.Models.{graph_in, Tells, Answers, change_of, map_of}
 use Rattle.borrow_graph.specs.declared.graph.BorrowGraph.{BorrowGraph}

@@ -6,9 +6,10 @@ use Rattle.std.proofs.lemmas.Bool.{false≢true}
 use Rattle.meaning.specs.Answers.{refuse, and_then}
 use Rattle.meaning.specs.Lists.{any, all, keep}
 use Rattle.meaning.specs.BorrowGraph.{Name, GEdge, well_formed, pair_ok, between, add_edge, add_all, limit, shift, moves, borrow_strong}
-use Rattle.meaning.specs.Laws.Base.{and_l, and_r, and_i, leb_le, le_leb}
-use Rattle.meaning.specs.Laws.Add.{keep_few}
-use Rattle.meaning.specs.Laws.Put.{Moved, shifted_kept, shifted_rest, shifted_length, strong_9, strong_still, stay_formed, moved_pairs, strong_last}
+use Rattle.meaning.proofs.Laws.Base.{and_l, and_r, and_i, leb_le, le_leb}
+use Rattle.meaning.proofs.Laws.Add.{keep_few}
+use Rattle.meaning.specs.Laws.Put.{Moved}
+use Rattle.meaning.proofs.Laws.Put.{shifted_kept, shifted_rest, shifted_length, strong_9, strong_still, stay_formed, moved_pairs, strong_last}
 use Rattle.references.specs.Models.{edges_in}
 use Rattle.references.specs.ModelLaws.{edges_count}
 use Rattle.borrow_graph_edit.specs.Edits.{graph_with, Added, added_left}

@@ -6,8 +6,8 @@ use Rattle.meaning.specs.Answers.{Ans, ok, refuse, and_then, guard, leaves}
 use Rattle.meaning.specs.References.{EdgeSet, insert}
 use Rattle.meaning.specs.BorrowGraph.{Name, GEdge, Graph, set_at, set_to, add_edge, limit, well_formed, newly_blurred, blurs_by}
 use Rattle.meaning.specs.Refinement.Pairs.{few_edges}
-use Rattle.meaning.specs.Laws.Base.{decide, eqb_eq, eqb_ne}
-use Rattle.meaning.specs.Laws.Blurs.{newly_self}
+use Rattle.meaning.proofs.Laws.Base.{decide, eqb_eq, eqb_ne}
+use Rattle.meaning.proofs.Laws.Blurs.{newly_self}
 use Rattle.references.specs.Models.{edges_in, names_in, told}
 use Rattle.references.specs.ModelLaws.{told_yes, told_no}
 use Rattle.borrow_graph.specs.Models.{graph_in, Tells}

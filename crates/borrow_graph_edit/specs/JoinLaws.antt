@@ -5,11 +5,11 @@ use Rattle.meaning.specs.Answers.{Ans, ok, and_then}
 use Rattle.meaning.specs.References.{Edge, EdgeSet, covered, insert}
 use Rattle.meaning.specs.BorrowGraph.{GEdge, eq_pair}
 use Rattle.meaning.specs.Laws.Graph.{insert_all}
-use Rattle.meaning.specs.Laws.Pair.{insert_all_on, insert_all_end, pass_end}
+use Rattle.meaning.proofs.Laws.Pair.{insert_all_on, insert_all_end, pass_end}
 use Rattle.meaning.specs.Refinement.Pairs.{Pair, pair_of, replace_lim}
 use Rattle.meaning.specs.Refinement.Passes.{uncovered, pairs_from}
-use Rattle.meaning.specs.Laws.PairCall.{firsts_end}
-use Rattle.meaning.specs.Laws.Pass.{uncovered_skip, uncovered_take, pass_first, pairs_take, pairs_skip}
+use Rattle.meaning.proofs.Laws.PairCall.{firsts_end}
+use Rattle.meaning.proofs.Laws.Pass.{uncovered_skip, uncovered_take, pass_first, pairs_take, pairs_skip}
 use Rattle.references.specs.Models.{row_of, set_edges, edges_in}
 use Rattle.references.specs.ModelLaws.{edge_in, set_step, set_end, set_count, set_cut, edges_next, edges_over}
 

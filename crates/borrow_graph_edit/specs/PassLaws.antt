@@ -7,9 +7,9 @@ use Rattle.meaning.specs.References.{EdgeSet}
 use Rattle.meaning.specs.BorrowGraph.{GEdge}
 use Rattle.meaning.specs.Refinement.Pairs.{Pair, replace_lim}
 use Rattle.meaning.specs.Refinement.Passes.{children_from, parents_from}
-use Rattle.meaning.specs.Laws.Pair.{pass_end}
-use Rattle.meaning.specs.Laws.PairCall.{firsts_end}
-use Rattle.meaning.specs.Laws.Pass.{pass_each, children_take, children_skip, parents_take, parents_skip}
+use Rattle.meaning.proofs.Laws.Pair.{pass_end}
+use Rattle.meaning.proofs.Laws.PairCall.{firsts_end}
+use Rattle.meaning.proofs.Laws.Pass.{pass_each, children_take, children_skip, parents_take, parents_skip}
 
 -- n: the name; last: the child or parent before; p and c: the ends of the edge y, as the code has read them
 module _ (sh : Bool) (new : ℕ → ℕ → Ans EdgeSet) (n last : ℕ) (f : Pair → List Pair) (es : List GEdge) (r : Ans (List GEdge)) (xs : List GEdge) where

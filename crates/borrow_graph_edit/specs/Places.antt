@@ -6,10 +6,11 @@ use Rattle.meaning.specs.Lists.{keep}
 use Rattle.meaning.specs.References.{EdgeSet}
 use Rattle.meaning.specs.BorrowGraph.{GEdge, is_before, set_to, newly_blurred}
 use Rattle.meaning.specs.Refinement.Pairs.{edges_at, few_edges}
-use Rattle.meaning.specs.Laws.Pair.{Neat, length_set_to}
-use Rattle.meaning.specs.Laws.Blurs.{newly_set_to}
-use Rattle.meaning.specs.Laws.Cut.{set_to_cut}
-use Rattle.meaning.specs.Laws.Put.{insert_first}
+use Rattle.meaning.specs.Laws.Pair.{Neat}
+use Rattle.meaning.proofs.Laws.Pair.{length_set_to}
+use Rattle.meaning.proofs.Laws.Blurs.{newly_set_to}
+use Rattle.meaning.proofs.Laws.Cut.{set_to_cut}
+use Rattle.meaning.proofs.Laws.Put.{insert_first}
 use Rattle.std.proofs.lemmas.Bool.{lt-leb}
 use Rattle.borrow_graph_edit.specs.Models.{add_row}
 

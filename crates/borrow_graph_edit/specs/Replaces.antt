@@ -7,15 +7,17 @@ use Rattle.meaning.specs.Lists.{keep}
 use Rattle.meaning.specs.References.{Edge, EdgeSet, insert, offer, Report, report, offer_report, fits}
 use Rattle.meaning.specs.BorrowGraph.{GEdge, is_before, tagged, set_at, set_to, newly_blurred}
 use Rattle.meaning.specs.Refinement.Pairs.{edges_at, replace_one, few_edges}
-use Rattle.meaning.specs.Laws.Pair.{Neat, length_set_to}
+use Rattle.meaning.specs.Laws.Pair.{Neat}
+use Rattle.meaning.proofs.Laws.Pair.{length_set_to}
 use Rattle.meaning.specs.AbstractState.{count1}
-use Rattle.meaning.specs.Laws.Blurs.{newly_insert}
-use Rattle.meaning.specs.Laws.Report.{is_now, insert_now}
-use Rattle.meaning.specs.Laws.Cut.{set_to_cut}
-use Rattle.meaning.specs.Laws.Base.{refuse≢ok}
-use Rattle.meaning.specs.Laws.Put.{insert_short}
-use Rattle.meaning.specs.Laws.Listing.{up_to_length}
-use Rattle.meaning.specs.Laws.Pass.{replace_idle, replace_21, replace_fits, offer_ok}
+use Rattle.meaning.proofs.Laws.Blurs.{newly_insert}
+use Rattle.meaning.specs.Laws.Report.{is_now}
+use Rattle.meaning.proofs.Laws.Report.{insert_now}
+use Rattle.meaning.proofs.Laws.Cut.{set_to_cut}
+use Rattle.meaning.proofs.Laws.Base.{refuse≢ok}
+use Rattle.meaning.proofs.Laws.Put.{insert_short}
+use Rattle.meaning.proofs.Laws.Listing.{up_to_length}
+use Rattle.meaning.proofs.Laws.Pass.{replace_idle, replace_21, replace_fits, offer_ok}
 use Rattle.references.specs.Models.{told, row_of}
 use Rattle.borrow_graph_edit.specs.Models.{add_row}
 use Rattle.borrow_graph_edit.specs.Places.{few_fits, few_over}

@@ -6,11 +6,11 @@ use Rattle.meaning.specs.Lists.{all, keep}
 use Rattle.meaning.specs.References.{Edge, EdgeSet, insert}
 use Rattle.meaning.specs.BorrowGraph.{GEdge, splice}
 use Rattle.meaning.specs.Laws.Graph.{insert_all}
-use Rattle.meaning.specs.Laws.Pair.{insert_all_on, insert_all_append, insert_all_end}
+use Rattle.meaning.proofs.Laws.Pair.{insert_all_on, insert_all_append, insert_all_end}
 use Rattle.meaning.specs.Refinement.Passes.{splices}
 use Rattle.meaning.specs.Area.{label_in}
-use Rattle.meaning.specs.Laws.Array.{front_all}
-use Rattle.meaning.specs.Laws.Listing.{up_to_length}
+use Rattle.meaning.proofs.Laws.Array.{front_all}
+use Rattle.meaning.proofs.Laws.Listing.{up_to_length}
 use Rattle.references.specs.Models.{row_of, edges_in, set_edges}
 use Rattle.borrow_graph.specs.ArrayLaws.{keep_in, keep_out}
 use Rattle.references.specs.ModelLaws.{edges_next, edges_over, edges_push, edges_past}

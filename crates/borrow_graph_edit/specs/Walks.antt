@@ -6,10 +6,10 @@ use Rattle.std.proofs.lemmas.List.{length-map}
 use Rattle.meaning.specs.Lists.{keep}
 use Rattle.meaning.specs.References.{Edge, EdgeSet, less, equal, greater}
 use Rattle.meaning.specs.BorrowGraph.{GEdge, is_before, set_at, side, tagged}
-use Rattle.meaning.specs.Laws.Array.{middle_step, last_step, map_step, drop_step}
+use Rattle.meaning.proofs.Laws.Array.{middle_step, last_step, map_step, drop_step}
 use Rattle.meaning.specs.Refinement.Pairs.{edges_at}
-use Rattle.meaning.specs.Laws.Base.{or_false, or_assoc}
-use Rattle.meaning.specs.Laws.Cut.{less_set, less_low, equal_set, equal_low, greater_set, greater_low}
+use Rattle.meaning.proofs.Laws.Base.{or_false, or_assoc}
+use Rattle.meaning.proofs.Laws.Cut.{less_set, less_low, equal_set, equal_low, greater_set, greater_low}
 use Rattle.references.specs.Models.{row_of, set_edges, set_in}
 use Rattle.references.specs.ModelLaws.{set_push, set_count}
 

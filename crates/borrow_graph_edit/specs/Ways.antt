@@ -8,15 +8,15 @@ use mathlib.Core.List.{List, [], ◌∷◌, ◌++◌}
 use Rattle.std.proofs.Math.ListN.{length}
 use Rattle.meaning.specs.Answers.{Ans, ok, refuse, and_then, guard}
 use Rattle.meaning.specs.Lists.{keep, each, all}
-use Rattle.meaning.specs.Laws.Base.{and_i, and_l, and_r, not_true, leb_le, all_imp, keep_passes}
+use Rattle.meaning.proofs.Laws.Base.{and_i, and_l, and_r, not_true, leb_le, all_imp, keep_passes}
 use Rattle.meaning.specs.References.{Edge, Offered, fits, too_long, fitting}
 use Rattle.meaning.specs.BorrowGraph.{Name, GEdge, Graph, holds, held, pair_ok, other, set_at, set_to, between, splice, spliced, without, well_formed, add_edge, add_all, limit, release}
-use Rattle.meaning.specs.Laws.Call.{holds_all}
-use Rattle.meaning.specs.Laws.Graph.{wf→inv, room}
+use Rattle.meaning.proofs.Laws.Call.{holds_all}
+use Rattle.meaning.proofs.Laws.Graph.{wf→inv, room}
 use Rattle.meaning.specs.Refinement.Flat.{meet, spliced_row, row_if, spliced_rows}
-use Rattle.meaning.specs.Laws.Spliced.{spliced_rows_lem}
-use Rattle.meaning.specs.Laws.Add.{limit_pass, without_formed, keep_few}
-use Rattle.meaning.specs.Laws.Put.{insert_short, add_fits, made_length}
+use Rattle.meaning.proofs.Laws.Spliced.{spliced_rows_lem}
+use Rattle.meaning.proofs.Laws.Add.{limit_pass, without_formed, keep_few}
+use Rattle.meaning.proofs.Laws.Put.{insert_short, add_fits, made_length}
 use Rattle.meaning.specs.Refinement.Passes.{apart}
 use Rattle.references.specs.Models.{row_of, told}
 use Rattle.references.specs.ModelLaws.{told_no}

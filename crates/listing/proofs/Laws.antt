@@ -11,14 +11,14 @@ use lib.Seq.{get_or-take, take-take, take-nil, length-take-le}
 use lib.Dec.{leb, ltb, eqb, eqb-suc-zero}
 use borrow.Author.Tests.{lt-ltb, le-ltb, eq-eqb, ne_eqb}
 use Rattle.meaning.specs.Lists.{any, empty, up_to}
-use Rattle.meaning.specs.Laws.Base.{decide, eqb_eq, or_false}
+use Rattle.meaning.proofs.Laws.Base.{decide, eqb_eq, or_false}
 use Rattle.meaning.specs.Loop.{no_block}
 use Rattle.meaning.specs.Loop as M
 use Rattle.meaning.specs.Steps as I
 use Rattle.meaning.specs.Steps.{is_ret}
 use Rattle.meaning.specs.Listing as D
-use Rattle.meaning.specs.Laws.Listing.{Rows, by_row, up_to_length}
-use Rattle.meaning.specs.Laws.Search.{search_at, search_end, array_at, array_end}
+use Rattle.meaning.proofs.Laws.Listing.{Rows, by_row, up_to_length}
+use Rattle.meaning.proofs.Laws.Search.{search_at, search_end, array_at, array_end}
 use Rattle.listing.specs.declared.Block.{Block}
 use Rattle.listing.specs.Models.{block_of, blocks_in, faulty_successors}
 use Rattle.listing_records.specs.Models.{before_ret}

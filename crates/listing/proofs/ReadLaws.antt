@@ -10,13 +10,13 @@ use lib.Seq.{get_or-take}
 use lib.Dec.{ltb, eqb, eqb-suc-zero}
 use borrow.Author.Tests.{lt-ltb, le-ltb, eq-eqb, ne_eqb}
 use Rattle.meaning.specs.Lists.{all, empty, up_to}
-use Rattle.meaning.specs.Laws.Base.{decide, and_l, and_r, eqb_eq, le_leb, all_imp}
+use Rattle.meaning.proofs.Laws.Base.{decide, and_l, and_r, eqb_eq, le_leb, all_imp}
 use Rattle.meaning.specs.AbstractState.{Token}
 use Rattle.meaning.specs.Loop as M
 use Rattle.meaning.specs.Steps as I
 use Rattle.meaning.specs.Blocks as Q
 use Rattle.meaning.specs.Listing as D
-use Rattle.meaning.specs.Laws.Listing.{ok_block_lem, ok_code_lem, two_successors, call_limits, frame_limits, ok_block, ok_code, Good, places_good, first_passed, first_kind, read_places_lem}
+use Rattle.meaning.proofs.Laws.Listing.{ok_block_lem, ok_code_lem, two_successors, call_limits, frame_limits, ok_block, ok_code, Good, places_good, first_passed, first_kind, read_places_lem}
 use Rattle.listing_records.specs.declared.Places.{Places}
 use Rattle.listing.specs.Models.{call_for, decoded_at, two_at, Sound, ruled_places, bytes_at}
 use Rattle.listing_records.specs.Models.{places_in, places_of, ReadInto}

@@ -9,7 +9,7 @@ use lib.ListN.{length}
 use lib.Dec.{leb, eqb}
 use borrow.Author.Tests.{ne_eqb}
 use Rattle.meaning.specs.Lists.{up_to}
-use Rattle.meaning.specs.Laws.Base.{decide, beq_eq, eqb_eq, eqb_ne, leb_le, leb_gt}
+use Rattle.meaning.proofs.Laws.Base.{decide, beq_eq, eqb_eq, eqb_ne, leb_le, leb_gt}
 use Rattle.meaning.specs.Listing as D
 use Rattle.listing_records.specs.Models.{packed, body_limits, padded, limit_row}
 use Rattle.listing_records.proofs.Lists.{ranged, up_to_all}

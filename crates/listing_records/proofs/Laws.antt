@@ -13,9 +13,9 @@ use lib.Seq.{drop-drop, take-suc-set, take_all, length-take-le}
 use lib.Dec.{leb, ltb, eqb}
 use borrow.Author.Tests.{lt-leb, lt-ltb, le-ltb, eq-eqb, ne_eqb, ltb-true, ltb-false, not-false}
 use Rattle.meaning.specs.Lists.{all, empty}
-use Rattle.meaning.specs.Laws.Base.{decide, leb_le, leb_gt, le_leb, and_i, and_l, and_r, not_true}
+use Rattle.meaning.proofs.Laws.Base.{decide, leb_le, leb_gt, le_leb, and_i, and_l, and_r, not_true}
 use Rattle.meaning.specs.Listing as D
-use Rattle.meaning.specs.Laws.Listing.{places_step}
+use Rattle.meaning.proofs.Laws.Listing.{places_step}
 use Rattle.listing_records.specs.declared.Cursor.{Cursor}
 use Rattle.listing_records.specs.declared.Found.{Found}
 use Rattle.listing_records.specs.declared.Found.TheVariants.{Record, Short, End}

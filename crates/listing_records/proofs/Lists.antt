@@ -11,8 +11,8 @@ use lib.ListN.{length, take, get_or, set, length-take, length-map, get_or-map}
 use lib.Seq.{get_or-take, take-suc-set, take-suc}
 use lib.Dec.{leb, eqb}
 use Rattle.meaning.specs.Lists.{all, up_to}
-use Rattle.meaning.specs.Laws.Base.{both, decide, leb_le, le_leb, leb_gt, eqb_eq, eqb_ne, and_l, and_r}
-use Rattle.meaning.specs.Laws.Area.{up_to_more}
+use Rattle.meaning.proofs.Laws.Base.{both, decide, leb_le, le_leb, leb_gt, eqb_eq, eqb_ne, and_l, and_r}
+use Rattle.meaning.proofs.Laws.Area.{up_to_more}
 
 pub leb_iff : (a b c d : ℕ) → (a ≤ b → c ≤ d) → (c ≤ d → a ≤ b) → leb a b ≡ leb c d
 leb_iff a b c d f g =

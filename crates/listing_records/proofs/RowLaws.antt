@@ -12,7 +12,7 @@ use lib.Seq.{get_or-drop, take-take}
 use lib.Dec.{leb, ltb, eqb}
 use borrow.Author.Tests.{ltb-true, ne_eqb}
 use Rattle.meaning.specs.Lists.{all, up_to}
-use Rattle.meaning.specs.Laws.Base.{and_l, and_r, and_i, le_leb, leb_le, eqb_eq}
+use Rattle.meaning.proofs.Laws.Base.{and_l, and_r, and_i, le_leb, leb_le, eqb_eq}
 use Rattle.meaning.specs.Listing as D
 use Rattle.listing_records.specs.Models.{body_limits, padded, limit_row, limit_rows, keeps_to, place_fault, body_fault}
 use Rattle.listing_records.proofs.Lists.{up_to_all}

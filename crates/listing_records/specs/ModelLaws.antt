@@ -10,7 +10,7 @@ use native.Mathlib.Omega.{arith}
 use Rattle.std.proofs.Math.ListN.{length}
 use Rattle.std.proofs.Math.Dec.{eqb}
 use borrow.Author.Tests.{eq-eqb, ne_eqb}
-use Rattle.meaning.specs.Laws.Base.{decide, eqb_eq, eqb_ne}
+use Rattle.meaning.proofs.Laws.Base.{decide, eqb_eq, eqb_ne}
 use Rattle.meaning.specs.Listing.{kind_at}
 use Rattle.listing_records.specs.Models.{before_ret, one_more}
 

@@ -2,7 +2,7 @@
 use Rattle.std.specs.Prelude.{ℕ, ◌+◌, ◌≤◌, ◌<◌, ◌≡◌, List, ◌∷◌, ◌++◌, length, take, drop, get_or, set}
 use Rattle.std.proofs.Common.{add-one, arith, sym, ap, ◌∙◌, append-nil, append_assoc, drop_of_length-le, drop-cons, length-take-le}
 use Rattle.io.specs.Counts.{IsPrefixLen}
-use Rattle.meaning.specs.Laws.Array.{push}
+use Rattle.meaning.proofs.Laws.Array.{push}
 
 pub put_start : (text bytes : List ℕ) (at : ℕ) → take (at + 0) bytes ++ text ≡ take at bytes ++ text
 put_start text bytes at = let e : at + 0 ≡ at = omega arith in ap (λ (k : ℕ). take k bytes ++ text) e

@@ -2,7 +2,7 @@
 use Rattle.std.specs.Prelude.{ℕ, zero, suc, ◌+◌, ◌-◌, ◌*◌, ◌/◌, ◌%◌, ◌^◌, ◌≤◌, ◌<◌, ◌≡◌, refl, List, [], ◌∷◌, ◌++◌, ltb, length}
 use Rattle.std.proofs.Math.Numerals.{unary_clauses}
 use Rattle.std.proofs.Common.{arith, not-suc-le-zero, ap, lt-ltb, le-ltb, length-append}
-use Rattle.meaning.specs.Laws.Base.{decide}
+use Rattle.meaning.proofs.Laws.Base.{decide}
 use Rattle.io.specs.Digits.{last_digits, hex_digit_ascii, IsDigitCount}
 use Rattle.loader_line.specs.Text.{decimal_by}
 

@@ -11,7 +11,7 @@ use Rattle.std.proofs.Math.Dec.{ltb}
 use Rattle.std.proofs.Math.ListN.{take, length-map}
 use Rattle.std.proofs.lemmas.List.{length-reverse}
 use Rattle.std.proofs.Math.Seq.{take-nil}
-use Rattle.meaning.specs.Laws.Array.{front_map_step}
+use Rattle.meaning.proofs.Laws.Array.{front_map_step}
 use Rattle.meaning.specs.Answers.{Outcome, done, refused, then, needs}
 use Rattle.meaning.specs.AbstractState.{Operand, non_ref, reference, of_value}
 use Rattle.meaning.specs.EntryPoints.{Running, value_for}

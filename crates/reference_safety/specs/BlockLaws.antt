@@ -6,7 +6,7 @@ use Rattle.std.proofs.lemmas.List.{length-map}
 use Rattle.std.proofs.Math.Seq.{take-nil}
 use Rattle.meaning.specs.Answers.{Outcome, done, violated, refused, then}
 use Rattle.meaning.specs.AbstractState.{State, Operand}
-use Rattle.meaning.specs.Laws.Array.{front_map_step}
+use Rattle.meaning.proofs.Laws.Array.{front_map_step}
 use Rattle.meaning.specs.EntryPoints.{Running}
 use Rattle.meaning.specs.Steps.{Instr, Machine, step_on, step}
 use Rattle.meaning.specs.Loop.{Result, Block}

@@ -8,8 +8,8 @@ use Rattle.meaning.specs.References.{Edge, EdgeSet, fits, too_long, weakest, blu
 use Rattle.meaning.specs.BorrowGraph.{Name, GEdge}
 use Rattle.meaning.specs.Area.{name_in}
 use Rattle.meaning.specs.Refinement.Pairs.{or21}
-use Rattle.meaning.specs.Laws.Place.{offset_of}
-use Rattle.meaning.specs.Laws.Array.{front_map_step, front_take, front_all, push_map, drop_set}
+use Rattle.meaning.proofs.Laws.Place.{offset_of}
+use Rattle.meaning.proofs.Laws.Array.{front_map_step, front_take, front_all, push_map, drop_set}
 use Rattle.references.specs.Models.{row_of, edges_in, names_in, set_edges, set_in, candidate_of, told}
 use Rattle.references.specs.declared.rows.Candidate.{Candidate}
 

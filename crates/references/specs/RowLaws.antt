@@ -11,10 +11,11 @@ use Rattle.meaning.specs.Lists.{up_to}
 use Rattle.meaning.specs.References.{Edge, Cmp, less, equal, greater, prefix, compare_paths, compare_edges, fits, too_long, fitting}
 use Rattle.meaning.specs.BorrowGraph.{GEdge, side, meets_label}
 use Rattle.meaning.specs.Area.{label_in}
-use Rattle.meaning.specs.Laws.Area.{up_to_ext, up_to_more, bit, marks_blurred, marks_strong, marks_count, marks_offset}
-use Rattle.meaning.specs.Laws.Base.{decide}
-use Rattle.meaning.specs.Laws.Place.{by_strong, edges_by}
-use Rattle.meaning.specs.Laws.Listing.{up_to_length}
+use Rattle.meaning.specs.Laws.Area.{bit}
+use Rattle.meaning.proofs.Laws.Area.{up_to_ext, up_to_more, marks_blurred, marks_strong, marks_count, marks_offset}
+use Rattle.meaning.proofs.Laws.Base.{decide}
+use Rattle.meaning.proofs.Laws.Place.{by_strong, edges_by}
+use Rattle.meaning.proofs.Laws.Listing.{up_to_length}
 use Rattle.references.specs.Models.{row_of, path_at, filter_of}
 use Rattle.references.specs.declared.rows.LabelFilter.{LabelFilter}
 use Rattle.references.specs.declared.rows.LabelFilter.TheVariants.{Any, At}

@@ -1,7 +1,7 @@
 use mathlib.Core.Path.{sym, ◌∙◌}
 use lib.ListN.{length}
-use Rattle.meaning.specs.Laws.Listing.{accepted_promised, accepted_block}
-use Rattle.meaning.specs.Laws.Verify.{verify_short}
+use Rattle.meaning.proofs.Laws.Listing.{accepted_promised, accepted_block}
+use Rattle.meaning.proofs.Laws.Verify.{verify_short}
 use Rattle.listing.specs.ModelLaws.{reading_is}
 use Rattle.absint.specs.Models.{ruling_of}
 use Rattle.absint.specs.WholeLaws as Law

@@ -1,4 +1,4 @@
-use Rattle.meaning.specs.Laws.Area.{cleared_written, cleared_short}
+use Rattle.meaning.proofs.Laws.Area.{cleared_written, cleared_short}
 use mathlib.Core.Path.{sym}
 use Rattle.absint_area.proofs.clear.Goals as goal
 

@@ -1,5 +1,5 @@
 use mathlib.Core.Path.{◌∙◌, sym}
-use Rattle.meaning.specs.Laws.Area.{forgotten_long, forgotten_short}
+use Rattle.meaning.proofs.Laws.Area.{forgotten_long, forgotten_short}
 use Rattle.absint_area.proofs.forget.Goals as goal
 
 pub returns-then-area-ge-AREA_WORDS : goal.returns-then-area-ge-AREA_WORDS

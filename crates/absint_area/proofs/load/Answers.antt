@@ -1,6 +1,6 @@
 use lib.ListN.{length}
 use mathlib.Core.Path.{sym, ◌∙◌}
-use Rattle.meaning.specs.Laws.Area.{has_block_lem, kept_in, kept_out}
+use Rattle.meaning.proofs.Laws.Area.{has_block_lem, kept_in, kept_out}
 use native.Mathlib.Omega.{arith}
 use Rattle.absint_area.proofs.load.Goals as goal
 

@@ -1,6 +1,6 @@
 use lib.ListN.{length}
 use mathlib.Core.Path.{sym, ◌∙◌}
-use Rattle.meaning.specs.Laws.Area.{has_block_lem, stored, not_stored}
+use Rattle.meaning.proofs.Laws.Area.{has_block_lem, stored, not_stored}
 use native.Mathlib.Omega.{arith}
 use Rattle.absint_area.proofs.store.Goals as goal
 

@@ -1,6 +1,6 @@
 use Rattle.std.specs.Prelude.{◌≡◌, ◌<◌, ◌≤◌, min, [], ◌∷◌, length}
 use lib.ListN.{drop_of_length-le}
-use Rattle.meaning.specs.Laws.Array.{length_of_map}
+use Rattle.meaning.proofs.Laws.Array.{length_of_map}
 use Rattle.meaning.specs.AbstractState.{Operand}
 use Rattle.meaning.specs.EntryPoints.{hand_over}
 use Rattle.abstract_state.specs.Models.{operand_of, operands_of, words}

@@ -3,7 +3,7 @@ use mathlib.Core.Path.{sym, ap, ◌∙◌}
 use mathlib.Core.Option.{Option}
 use lib.ListN.{length-take, drop_of_length-le}
 use Rattle.meaning.specs.EntryPoints.{Running}
-use Rattle.meaning.specs.Laws.Array.{front_step}
+use Rattle.meaning.proofs.Laws.Array.{front_step}
 use Rattle.borrow_graph.specs.Folds.{lower_if}
 use Rattle.abstract_state.specs.Models.{words, running_of}
 use Rattle.abstract_state_calls.specs.Models.{is_borrowed, lowest_borrowed}

@@ -1,7 +1,7 @@
 use Rattle.std.specs.Prelude.{◌≡◌, ℕ, ◌<◌, ◌≤◌, min, List, map, length, take}
 use mathlib.Core.Path.{refl, subst}
 use lib.ListN.{length-set, drop_of_length-le}
-use Rattle.meaning.specs.Laws.Array.{front_map_step}
+use Rattle.meaning.proofs.Laws.Array.{front_map_step}
 use Rattle.meaning.specs.AbstractState.{Token}
 use Rattle.meaning.specs.Listing.{token_as}
 use Rattle.meaning.specs.EntryPoints.{return_values}

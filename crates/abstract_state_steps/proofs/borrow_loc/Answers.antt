@@ -3,7 +3,7 @@ use Rattle.std.specs.Prelude.{cond, not}
 use mathlib.Core.Option.{none, some}
 use Rattle.meaning.specs.Labels.{local_label}
 use Rattle.meaning.specs.BorrowGraph.{of_name, borrows_mutably, lowest_of}
-use Rattle.meaning.specs.Laws.Lowest.{lowest_guard}
+use Rattle.meaning.proofs.Laws.Lowest.{lowest_guard}
 use Rattle.references.specs.Models.{told}
 use Rattle.borrow_graph.specs.Models.{low_in}
 use Rattle.abstract_state.specs.Models.{words, running_of}

@@ -4,7 +4,7 @@ use mathlib.Core.Option.{some}
 use Rattle.meaning.specs.Labels.{global_label}
 use Rattle.meaning.specs.BorrowGraph.{GEdge, of_name, borrows, is_mutable}
 use Rattle.meaning.specs.EntryPoints.{bars_resource_borrow}
-use Rattle.meaning.specs.Laws.Lowest.{lowest_same}
+use Rattle.meaning.proofs.Laws.Lowest.{lowest_same}
 use Rattle.abstract_state.specs.Models.{words, running_of}
 use Rattle.abstract_state.specs.ModelLaws.{does_as}
 use Rattle.abstract_state_steps.specs.EntryLaws as E

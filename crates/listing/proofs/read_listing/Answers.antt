@@ -1,7 +1,7 @@
 use mathlib.Core.Path.{sym, ap, ◌∙◌}
 use native.Mathlib.Omega.{arith}
 use Rattle.meaning.specs.Listing.{after_records}
-use Rattle.meaning.specs.Laws.Listing.{no_bytes, some_bytes}
+use Rattle.meaning.proofs.Laws.Listing.{no_bytes, some_bytes}
 use Rattle.listing.specs.Models.{ruled_places}
 use Rattle.listing.specs.ModelLaws.{listed_as}
 use Rattle.listing.proofs.ReadLaws.{places_stop, sound, were_read}

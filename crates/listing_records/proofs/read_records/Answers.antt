@@ -1,7 +1,7 @@
 use mathlib.Core.Path.{◌≡◌, refl, sym, ap, ◌∙◌}
 use Prim.Native.Nat.{◌<◌}
 use lib.ListN.{take, length-set}
-use Rattle.meaning.specs.Laws.Listing.{places_end}
+use Rattle.meaning.proofs.Laws.Listing.{places_end}
 use Rattle.listing_records.specs.Models.{fault_of, places_of, before_ret}
 use Rattle.listing_records.specs.ModelLaws.{ret_put}
 use Rattle.listing_records.proofs.Laws.{room_block, room_code, stop_fault, stop_full, go_block, go_code, go_first, none_read}

@@ -5,7 +5,7 @@ use Prim.Native.Nat.{ℕ, ◌+◌, ◌-◌, ◌≤◌, ◌<◌}
 use lib.Dec.{leb, ltb, eqb}
 use lib.ListN.{length, get_or}
 use borrow.Author.Tests.{ltb-true, not-true}
-use Rattle.meaning.specs.Laws.Base.{and_l, and_r, leb_le, eqb_ne}
+use Rattle.meaning.proofs.Laws.Base.{and_l, and_r, leb_le, eqb_ne}
 use Rattle.meaning.specs.Listing.{kind_at, u16_at}
 use Rattle.listing_records.specs.Models.{keeps_to, limit_rows}
 use Rattle.listing_records.proofs.RowLaws.{keeps_fine, keeps_inside}

@@ -1,7 +1,7 @@
 use Prim.Native.Nat.{◌+◌}
 use mathlib.Core.Path.{◌≡◌, refl, sym, ap, ◌∙◌}
 use lib.ListN.{length, drop, get_or, length-set}
-use Rattle.meaning.specs.Laws.Array.{length_of_map}
+use Rattle.meaning.proofs.Laws.Array.{length_of_map}
 use Rattle.abstract_state.specs.Models.{operand_in, operands_of}
 use Rattle.operand_stack.specs.Models.{stack_in, push_each}
 use Rattle.operand_stack.specs.StackLaws.{stack_cut, push_full, push_turn, operands_step, operands_end}

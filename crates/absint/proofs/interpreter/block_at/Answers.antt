@@ -1,6 +1,6 @@
 use mathlib.Core.Path.{◌≡◌}
 use lib.ListN.{length}
-use Rattle.meaning.specs.Laws.Array.{length_of_map}
+use Rattle.meaning.proofs.Laws.Array.{length_of_map}
 use Rattle.absint.specs.TurnLaws.{block_at_lem}
 use native.Mathlib.Omega.{arith}
 use Rattle.absint.proofs.interpreter.block_at.Goals as goal

@@ -2,8 +2,8 @@ use mathlib.Core.Path.{◌≡◌}
 use Prim.Native.Nat.{◌+◌}
 use borrow.Author.Tests.{eq-eqb, ne_eqb}
 use lib.ListN.{length, drop, get_or}
-use Rattle.meaning.specs.Laws.Array.{length_of_map}
-use Rattle.meaning.specs.Laws.Search.{array_at, array_end}
+use Rattle.meaning.proofs.Laws.Array.{length_of_map}
+use Rattle.meaning.proofs.Laws.Search.{array_at, array_end}
 use Rattle.meaning.specs.Loop.{position}
 use Rattle.listing.specs.Models.{block_of, blocks_in}
 use Rattle.absint.specs.LoopLaws.{past_block, blocks_count, position_found, position_passed, position_none}

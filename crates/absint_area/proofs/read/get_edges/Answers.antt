@@ -1,4 +1,4 @@
-use Rattle.meaning.specs.Laws.Area.{filled_none, filled_one}
+use Rattle.meaning.proofs.Laws.Area.{filled_none, filled_one}
 use Rattle.absint_area.specs.ModelLaws.{filled_all}
 use native.Mathlib.Omega.{arith}
 use Rattle.absint_area.proofs.read.get_edges.Goals as goal

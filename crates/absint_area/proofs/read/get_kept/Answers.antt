@@ -3,7 +3,7 @@ use mathlib.Core.Path.{◌∙◌}
 use Prim.Native.Nat.{◌+◌, ◌/◌}
 use lib.Dec.{eqb}
 use lib.ListN.{get_or}
-use Rattle.meaning.specs.Laws.Area.{kept_read}
+use Rattle.meaning.proofs.Laws.Area.{kept_read}
 use Rattle.absint_area.specs.ModelLaws.{state_filled}
 use native.Mathlib.Omega.{arith}
 use Rattle.absint_area.proofs.read.get_kept.Goals as goal

@@ -1,6 +1,6 @@
 use mathlib.Core.Path.{refl}
 use Rattle.meaning.specs.Area.{word_at}
-use Rattle.meaning.specs.Laws.Area.{filled_none, filled_one}
+use Rattle.meaning.proofs.Laws.Area.{filled_none, filled_one}
 use Rattle.absint_area.specs.ModelLaws.{row_words}
 use native.Mathlib.Omega.{arith}
 use Rattle.absint_area.proofs.read.get_row.Goals as goal

@@ -1,4 +1,4 @@
-use Rattle.meaning.specs.Laws.Area.{above_none}
+use Rattle.meaning.proofs.Laws.Area.{above_none}
 use native.Mathlib.Omega.{arith}
 use Rattle.absint_area.proofs.write.above_local.Goals as goal
 

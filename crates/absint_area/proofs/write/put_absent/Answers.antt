@@ -1,7 +1,7 @@
 use mathlib.Core.Path.{refl, ap, ◌∙◌}
 use lib.ListN.{length}
 use Rattle.meaning.specs.Area.{unkept}
-use Rattle.meaning.specs.Laws.Area.{unkept_length, unkept_one}
+use Rattle.meaning.proofs.Laws.Area.{unkept_length, unkept_one}
 use Rattle.absint_area.specs.ModelLaws.{unkept_all}
 use native.Mathlib.Omega.{arith}
 use Rattle.absint_area.proofs.write.put_absent.Goals as goal

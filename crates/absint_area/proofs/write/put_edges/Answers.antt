@@ -1,4 +1,4 @@
-use Rattle.meaning.specs.Laws.Area.{edges_none, edges_one, edges_all}
+use Rattle.meaning.proofs.Laws.Area.{edges_none, edges_one, edges_all}
 use native.Mathlib.Omega.{arith}
 use Rattle.absint_area.proofs.write.put_edges.Goals as goal
 

@@ -1,5 +1,5 @@
 use mathlib.Core.Path.{refl}
-use Rattle.meaning.specs.Laws.Area.{written_none, written_one, written_all}
+use Rattle.meaning.proofs.Laws.Area.{written_none, written_one, written_all}
 use native.Mathlib.Omega.{arith}
 use Rattle.absint_area.proofs.write.put_refs.Goals as goal
 

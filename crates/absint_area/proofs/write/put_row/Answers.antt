@@ -1,6 +1,6 @@
 use mathlib.Core.Path.{refl, sym}
 use Rattle.meaning.specs.Area.{word_at}
-use Rattle.meaning.specs.Laws.Area.{written_none, written_one}
+use Rattle.meaning.proofs.Laws.Area.{written_none, written_one}
 use Rattle.absint_area.specs.ModelLaws.{row_words}
 use native.Mathlib.Omega.{arith}
 use Rattle.absint_area.proofs.write.put_row.Goals as goal

@@ -1,7 +1,7 @@
 use mathlib.Core.Option.{Option, some}
 use mathlib.Core.Path.{ap, ◌∙◌}
 use Rattle.meaning.specs.AbstractState.{State}
-use Rattle.meaning.specs.Laws.Area.{put_frame, put_decode}
+use Rattle.meaning.proofs.Laws.Area.{put_frame, put_decode}
 use Rattle.absint_area.specs.ModelLaws.{local_at, name_at, row_at, state_made}
 use native.Mathlib.Omega.{arith}
 use Rattle.absint_area.proofs.write.put_state.Goals as goal

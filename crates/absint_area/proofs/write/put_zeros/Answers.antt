@@ -1,4 +1,4 @@
-use Rattle.meaning.specs.Laws.Area.{written_none, zeros_one, written_all}
+use Rattle.meaning.proofs.Laws.Area.{written_none, zeros_one, written_all}
 use native.Mathlib.Omega.{arith}
 use Rattle.absint_area.proofs.write.put_zeros.Goals as goal
 

@@ -1,7 +1,7 @@
 use Rattle.std.specs.Prelude.{◌<◌, eqb, ltb}
 use native.Mathlib.Omega.{arith}
 use borrow.Author.Tests.{ltb-true}
-use Rattle.meaning.specs.Laws.Base.{and_r}
+use Rattle.meaning.proofs.Laws.Base.{and_r}
 use mathlib.Core.Path.{refl}
 use Rattle.borrow_graph.specs.Models.{low_of}
 use Rattle.abstract_state.specs.Models.{running_of, words, failing}

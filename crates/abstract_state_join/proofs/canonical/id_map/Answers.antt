@@ -2,7 +2,7 @@ use mathlib.Core.Path.{refl, sym, ap, ◌∙◌}
 use mathlib.Core.List.{List, ◌++◌, map, append-nil}
 use Prim.Native.Nat.{◌+◌}
 use lib.ListN.{take, drop, get_or, length-set}
-use Rattle.meaning.specs.Laws.Array.{push_map}
+use Rattle.meaning.proofs.Laws.Array.{push_map}
 use Rattle.meaning.specs.BorrowGraph.{Change}
 use Rattle.meaning.specs.Area.{local_in}
 use Rattle.borrow_graph.specs.Models.{change_of, map_of}

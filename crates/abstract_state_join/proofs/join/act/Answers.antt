@@ -1,6 +1,6 @@
 use mathlib.Core.Path.{sym, ap}
 use native.Mathlib.Omega.{arith}
-use Rattle.meaning.specs.Laws.Blurs.{newly_self}
+use Rattle.meaning.proofs.Laws.Blurs.{newly_self}
 use Rattle.borrow_graph.specs.Models.{graph_in}
 use Rattle.abstract_state_join.specs.Models.{acted}
 use Rattle.abstract_state_join.specs.declared.join.Action.{Action}

@@ -4,7 +4,7 @@ use mathlib.Core.List.{map}
 use Prim.Native.Nat.{ℕ, ◌-◌, ◌≤◌, ◌<◌, min}
 use lib.Dec.{leb}
 use lib.ListN.{length, take, drop, get_or, length-set, length-drop}
-use Rattle.meaning.specs.Laws.Base.{decide, leb_le, leb_gt}
+use Rattle.meaning.proofs.Laws.Base.{decide, leb_le, leb_gt}
 use Rattle.meaning.specs.Area.{local_in}
 use Rattle.meaning.specs.BorrowGraph.{Graph}
 use Rattle.meaning.specs.AbstractState.{join_local, join_locals}

@@ -1,6 +1,6 @@
 use mathlib.Core.Path.{◌∙◌}
 use native.Mathlib.Omega.{arith}
-use Rattle.meaning.specs.Laws.Blurs.{newly_self}
+use Rattle.meaning.proofs.Laws.Blurs.{newly_self}
 use Rattle.borrow_graph.specs.Models.{graph_in}
 use Rattle.abstract_state.specs.Models.{local_of}
 use Rattle.abstract_state_join.specs.JoinLaws.{idle_step, busy_step}

@@ -3,7 +3,8 @@ use mathlib.Core.List.{[]}
 use Prim.Native.Nat.{◌+◌}
 use lib.ListN.{drop}
 use Rattle.meaning.specs.Lists.{all}
-use Rattle.meaning.specs.Laws.Cover.{covered_in, first_in, seek_none, seek_next, seek_found}
+use Rattle.meaning.specs.Laws.Cover.{covered_in}
+use Rattle.meaning.proofs.Laws.Cover.{first_in, seek_none, seek_next, seek_found}
 use Rattle.references.specs.Models.{edges_in}
 use Rattle.references.specs.ModelLaws.{edges_step, edges_end, edges_size}
 use native.Mathlib.Omega.{arith}

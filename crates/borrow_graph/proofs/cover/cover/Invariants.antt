@@ -2,7 +2,8 @@ use mathlib.Core.Path.{◌≡◌}
 use Prim.Native.Nat.{◌+◌, ◌-◌, ◌*◌, ◌≤◌}
 use lib.ListN.{length, drop}
 use Rattle.meaning.specs.Lists.{all}
-use Rattle.meaning.specs.Laws.Cover.{covered_in, first_in}
+use Rattle.meaning.specs.Laws.Cover.{covered_in}
+use Rattle.meaning.proofs.Laws.Cover.{first_in}
 use Rattle.references.specs.Models.{edges_in}
 use Rattle.borrow_graph.proofs.cover.cover.Given as goal
 

@@ -3,7 +3,7 @@ use mathlib.Core.Bool.{Bool, ◌&&◌}
 use Rattle.meaning.specs.Answers.{Ans, ok}
 use Rattle.meaning.specs.Lists.{all}
 use Rattle.meaning.specs.BorrowGraph.{well_formed, held, covering}
-use Rattle.meaning.specs.Laws.Cover.{unmatched_none}
+use Rattle.meaning.proofs.Laws.Cover.{unmatched_none}
 use Rattle.references.specs.Models.{names_in}
 use Rattle.borrow_graph.specs.Models.{graph_in, Tells}
 use Rattle.borrow_graph.proofs.cover.leq.Goals as goal

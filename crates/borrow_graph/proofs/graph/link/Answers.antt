@@ -3,10 +3,10 @@ use mathlib.Core.Bool.{not, ◌&&◌, ◌||◌}
 use mathlib.Core.List.{[]}
 use Prim.Native.Nat.{◌<◌}
 use lib.Dec.{ltb, eqb, ltb→lt}
-use Rattle.meaning.specs.Laws.Base.{and_l, eq→T}
+use Rattle.meaning.proofs.Laws.Base.{and_l, eq→T}
 use Rattle.meaning.specs.BorrowGraph as G
-use Rattle.meaning.specs.Laws.Place.{bare_edge}
-use Rattle.meaning.specs.Laws.Cut.{before, other, here, neither}
+use Rattle.meaning.proofs.Laws.Place.{bare_edge}
+use Rattle.meaning.proofs.Laws.Cut.{before, other, here, neither}
 use Rattle.paths.specs.Models.{ordering_of}
 use Rattle.references.specs.Models.{row_of}
 use Rattle.borrow_graph.specs.ModelLaws.{row_short}

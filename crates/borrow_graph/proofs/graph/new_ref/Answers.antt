@@ -3,8 +3,8 @@ use mathlib.Core.List.{◌∷◌, ◌++◌}
 use lib.ListN.{take, drop}
 use Rattle.meaning.specs.Answers.{Ans, leaves}
 use Rattle.meaning.specs.BorrowGraph.{Graph}
-use Rattle.meaning.specs.Laws.Borrow.{new_name_law}
-use Rattle.meaning.specs.Laws.CallCases.{new_9, new_8, new_23, new_ok}
+use Rattle.meaning.proofs.Laws.Borrow.{new_name_law}
+use Rattle.meaning.proofs.Laws.CallCases.{new_9, new_8, new_23, new_ok}
 use Rattle.references.specs.Models.{names_in}
 use Rattle.references.specs.ModelLaws.{names_size}
 use Rattle.borrow_graph.specs.Models.{graph_in}

@@ -6,7 +6,7 @@ use Prim.Native.Nat.{ℕ, ◌+◌}
 use lib.ListN.{length, drop}
 use Rattle.meaning.specs.BorrowGraph.{pair_ok, well_formed}
 use Rattle.meaning.specs.Refinement.Chain.{chain, no_edge, climbs}
-use Rattle.meaning.specs.Laws.Chain.{chain_well_formed}
+use Rattle.meaning.proofs.Laws.Chain.{chain_well_formed}
 use Rattle.references.specs.Models.{row_of, names_in, edges_in}
 use Rattle.references.specs.ModelLaws.{names_few, edges_few, edges_step, edges_end, edges_size}
 use Rattle.borrow_graph.specs.Folds.{chain_on, chain_off}

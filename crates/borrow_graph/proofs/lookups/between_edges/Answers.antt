@@ -6,7 +6,7 @@ use lib.Dec.{eqb}
 use lib.ListN.{length}
 use Rattle.meaning.specs.Answers.{Ans, ok}
 use Rattle.meaning.specs.Lists.{keep, empty}
-use Rattle.meaning.specs.Laws.Array.{empty_length}
+use Rattle.meaning.proofs.Laws.Array.{empty_length}
 use Rattle.meaning.specs.BorrowGraph.{GEdge, well_formed, eq_pair, between_edges}
 use Rattle.references.specs.Models.{edges_in}
 use Rattle.references.specs.ModelLaws.{edges_count}

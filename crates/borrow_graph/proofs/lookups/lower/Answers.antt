@@ -2,7 +2,7 @@ use Prim.Native.Nat.{◌<◌}
 use native.Mathlib.Omega.{arith}
 use borrow.Author.Tests.{ltb-true}
 use lib.Dec.{ltb}
-use Rattle.meaning.specs.Laws.Base.{and_l, and_r}
+use Rattle.meaning.proofs.Laws.Base.{and_l, and_r}
 use Rattle.borrow_graph.specs.Folds.{lower_taken, lower_left}
 use Rattle.borrow_graph.proofs.lookups.lower.Goals as goal
 

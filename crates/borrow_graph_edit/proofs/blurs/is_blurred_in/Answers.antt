@@ -1,7 +1,7 @@
 use mathlib.Core.List.{[]}
 use mathlib.Core.Path.{refl, sym, ◌∙◌}
-use Rattle.meaning.specs.Laws.Blurs.{set_at_blurred}
-use Rattle.meaning.specs.Laws.Search.{any_found, any_on, any_none}
+use Rattle.meaning.proofs.Laws.Blurs.{set_at_blurred}
+use Rattle.meaning.proofs.Laws.Search.{any_found, any_on, any_none}
 use Rattle.references.specs.Models.{edges_in}
 use Rattle.references.specs.ModelLaws.{edges_next, edges_over}
 use Rattle.borrow_graph_edit.specs.Models.{blurred_at}

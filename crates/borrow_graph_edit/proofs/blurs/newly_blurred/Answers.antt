@@ -2,7 +2,7 @@ use mathlib.Core.List.{[]}
 use mathlib.Core.Path.{sym, ◌∙◌}
 use Prim.Native.Nat.{◌+◌}
 use lib.ListN.{drop, get_or}
-use Rattle.meaning.specs.Laws.Blurs.{newly_yes, newly_no, newly_none}
+use Rattle.meaning.proofs.Laws.Blurs.{newly_yes, newly_no, newly_none}
 use Rattle.references.specs.Models.{row_of, edges_in}
 use Rattle.references.specs.ModelLaws.{edges_next, edges_over}
 use native.Mathlib.Omega.{arith}

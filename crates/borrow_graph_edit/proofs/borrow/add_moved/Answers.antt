@@ -2,7 +2,7 @@ use mathlib.Core.Path.{subst, refl, sym, ap, ◌∙◌}
 use mathlib.Core.List.{[], List}
 use lib.ListN.{get_or, drop}
 use Rattle.meaning.specs.BorrowGraph.{GEdge, moves}
-use Rattle.meaning.specs.Laws.Pass.{wf_neat}
+use Rattle.meaning.proofs.Laws.Pass.{wf_neat}
 use Rattle.references.specs.Models.{row_of, edges_in, path_at}
 use Rattle.references.specs.ModelLaws.{edges_over}
 use Rattle.borrow_graph_edit.specs.Edits.{Added, graph_with}

@@ -1,6 +1,6 @@
 use Rattle.meaning.specs.BorrowGraph.{well_formed, pair_ok, borrow_strong}
-use Rattle.meaning.specs.Laws.Base.{and_l}
-use Rattle.meaning.specs.Laws.Borrow.{borrow_strong_law}
+use Rattle.meaning.proofs.Laws.Base.{and_l}
+use Rattle.meaning.proofs.Laws.Borrow.{borrow_strong_law}
 use Rattle.references.specs.Models.{path_at}
 use Rattle.borrow_graph.specs.Models.{graph_in}
 use Rattle.borrow_graph_edit.specs.Edits.{answers_9, answers_edits}

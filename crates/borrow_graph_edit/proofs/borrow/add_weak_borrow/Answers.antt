@@ -1,10 +1,10 @@
 use mathlib.Core.Path.{sym, ◌∙◌, subst}
 use mathlib.Core.Bool.{false}
 use Rattle.meaning.specs.BorrowGraph.{GEdge, well_formed, pair_ok, between, borrow_weak}
-use Rattle.meaning.specs.Laws.Base.{and_l, and_r}
-use Rattle.meaning.specs.Laws.Borrow.{borrow_weak_law}
-use Rattle.meaning.specs.Laws.CallCases.{weak_9, weak_ok}
-use Rattle.meaning.specs.Laws.Pass.{wf_neat}
+use Rattle.meaning.proofs.Laws.Base.{and_l, and_r}
+use Rattle.meaning.proofs.Laws.Borrow.{borrow_weak_law}
+use Rattle.meaning.proofs.Laws.CallCases.{weak_9, weak_ok}
+use Rattle.meaning.proofs.Laws.Pass.{wf_neat}
 use Rattle.references.specs.Models.{path_at}
 use Rattle.borrow_graph.specs.Models.{graph_in}
 use Rattle.borrow_graph_edit.specs.Edits.{Added, added_edits, answers_9, answers_edits}

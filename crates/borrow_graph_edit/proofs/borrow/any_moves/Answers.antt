@@ -1,7 +1,7 @@
 use mathlib.Core.List.{[]}
 use mathlib.Core.Path.{refl}
 use Rattle.meaning.specs.BorrowGraph.{moves}
-use Rattle.meaning.specs.Laws.Search.{any_found, any_on, any_none}
+use Rattle.meaning.proofs.Laws.Search.{any_found, any_on, any_none}
 use Rattle.references.specs.Models.{path_at}
 use Rattle.references.specs.ModelLaws.{edges_next, edges_over}
 use native.Mathlib.Omega.{arith}

@@ -1,7 +1,7 @@
 use mathlib.Core.Path.{sym, ◌∙◌, subst}
 use Rattle.meaning.specs.BorrowGraph.{GEdge, well_formed, pair_ok}
-use Rattle.meaning.specs.Laws.Base.{and_l}
-use Rattle.meaning.specs.Laws.Pass.{wf_neat}
+use Rattle.meaning.proofs.Laws.Base.{and_l}
+use Rattle.meaning.proofs.Laws.Pass.{wf_neat}
 use Rattle.references.specs.Models.{edges_in, path_at}
 use Rattle.borrow_graph_edit.specs.Edits.{graph_with, Added, added_edits}
 use Rattle.borrow_graph_edit.specs.BorrowLaws.{strong, strong_idle}

@@ -3,8 +3,8 @@ use Prim.Native.Nat.{◌≤◌}
 use lib.ListN.{length}
 use Rattle.meaning.specs.Limits.{max_edges}
 use Rattle.meaning.specs.BorrowGraph.{GEdge, Name, well_formed, pair_ok, borrow_strong}
-use Rattle.meaning.specs.Laws.Blurs.{newly_self}
-use Rattle.meaning.specs.Laws.Pass.{wf_neat}
+use Rattle.meaning.proofs.Laws.Blurs.{newly_self}
+use Rattle.meaning.proofs.Laws.Pass.{wf_neat}
 use Rattle.references.specs.Models.{edges_in, path_at, told}
 use Rattle.references.specs.ModelLaws.{edges_few, edges_count, told_yes, told_no}
 use Rattle.borrow_graph_edit.specs.Edits.{graph_with, Added, added_edits}

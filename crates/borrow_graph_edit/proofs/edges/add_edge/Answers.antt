@@ -5,7 +5,7 @@ use lib.ListN.{length, take, drop}
 use Rattle.meaning.specs.Answers.{Ans, ok}
 use Rattle.meaning.specs.Lists.{keep}
 use Rattle.meaning.specs.BorrowGraph.{GEdge, is_before}
-use Rattle.meaning.specs.Laws.Blurs.{newly_self}
+use Rattle.meaning.proofs.Laws.Blurs.{newly_self}
 use Rattle.meaning.specs.Refinement.Pairs.{edges_at}
 use Rattle.references.specs.Models.{row_of, edges_in}
 use Rattle.references.specs.ModelLaws.{edges_count}

@@ -8,8 +8,8 @@ use Rattle.meaning.specs.References.{EdgeSet, fits, insert, offer, report, offer
 use Rattle.meaning.specs.Lists.{keep}
 use Rattle.meaning.specs.BorrowGraph.{is_before, set_at}
 use Rattle.meaning.specs.BorrowGraph as G
-use Rattle.meaning.specs.Laws.Blurs.{newly_self}
-use Rattle.meaning.specs.Laws.Pass.{neat_few}
+use Rattle.meaning.proofs.Laws.Blurs.{newly_self}
+use Rattle.meaning.proofs.Laws.Pass.{neat_few}
 use Rattle.meaning.specs.Laws.Pair.{Neat}
 use Rattle.meaning.specs.Refinement.Pairs.{edges_at}
 use Rattle.references.specs.Models.{row_of, edges_in, set_in, report_of}

@@ -1,7 +1,7 @@
 use mathlib.Core.Path.{◌≡◌, sym, ap, ◌∙◌}
 use Prim.Native.Nat.{ℕ, ◌+◌, ◌-◌}
 use lib.ListN.{length-set}
-use Rattle.meaning.specs.Laws.Array.{around, room_start, room_on, room_end}
+use Rattle.meaning.proofs.Laws.Array.{around, room_start, room_on, room_end}
 use Rattle.references.specs.Models.{row_of}
 use Rattle.references.specs.ModelLaws.{edges_made}
 use native.Mathlib.Omega.{arith}

@@ -1,7 +1,7 @@
 use mathlib.Core.Path.{◌≡◌}
 use Prim.Native.Nat.{◌+◌, ◌≤◌}
 use lib.ListN.{length}
-use Rattle.meaning.specs.Laws.Array.{around}
+use Rattle.meaning.proofs.Laws.Array.{around}
 use Rattle.references.specs.Models.{row_of, edges_in}
 use Rattle.borrow_graph_edit.proofs.edges.insert_at.Given as goal
 

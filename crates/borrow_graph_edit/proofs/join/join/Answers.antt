@@ -4,10 +4,10 @@ use mathlib.Core.List.{List}
 use lib.Dec.{leb}
 use Rattle.meaning.specs.Limits.{max_edges}
 use Rattle.meaning.specs.Answers.{Ans, ok, refuse, and_then}
-use Rattle.meaning.specs.Laws.Base.{answered, declined, and_l, and_r, and_i, leb_le, le_leb}
+use Rattle.meaning.proofs.Laws.Base.{answered, declined, and_l, and_r, and_i, leb_le, le_leb}
 use Rattle.meaning.specs.BorrowGraph.{GEdge, Graph, join_graphs, well_formed, same_names, blurs_by}
-use Rattle.meaning.specs.Laws.Pass.{join_9, join_when, join_neat}
-use Rattle.meaning.specs.Laws.Call.{join_graphs_law}
+use Rattle.meaning.proofs.Laws.Pass.{join_9, join_when, join_neat}
+use Rattle.meaning.proofs.Laws.Call.{join_graphs_law}
 use Rattle.references.specs.Models.{edges_in}
 use Rattle.references.specs.ModelLaws.{told_yes, told_no, told_declined}
 use Rattle.borrow_graph.specs.Models.{graph_in, Tells}

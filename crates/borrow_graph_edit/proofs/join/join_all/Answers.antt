@@ -8,7 +8,7 @@ use Rattle.meaning.specs.Answers.{and_then}
 use Rattle.meaning.specs.Refinement.Pairs.{loop_at, replace_lim, two_pass}
 use Rattle.meaning.specs.Refinement.Passes.{join_set, pairs_from}
 use Rattle.meaning.specs.Laws.Pair.{Neat}
-use Rattle.meaning.specs.Laws.Pass.{join_set_ok, pass_neat, pass_again}
+use Rattle.meaning.proofs.Laws.Pass.{join_set_ok, pass_neat, pass_again}
 use Rattle.references.specs.Models.{edges_in, told}
 use Rattle.references.specs.ModelLaws.{told_yes, told_on, told_off, told_first}
 use Rattle.borrow_graph_edit.proofs.join.join_all.Goals as goal

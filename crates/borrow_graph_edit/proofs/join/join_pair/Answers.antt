@@ -4,7 +4,7 @@ use Rattle.meaning.specs.References.{EdgeSet}
 use Rattle.meaning.specs.Laws.Graph.{insert_all}
 use Rattle.meaning.specs.Refinement.Pairs.{replace_one}
 use Rattle.meaning.specs.Refinement.Passes.{uncovered, join_set}
-use Rattle.meaning.specs.Laws.Pass.{neat_few, pass_one}
+use Rattle.meaning.proofs.Laws.Pass.{neat_few, pass_one}
 use Rattle.references.specs.Models.{edges_in}
 use Rattle.borrow_graph_edit.proofs.join.join_pair.Goals as goal
 

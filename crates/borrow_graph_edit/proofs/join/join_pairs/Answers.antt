@@ -9,7 +9,7 @@ use Rattle.meaning.specs.Answers.{and_then}
 use Rattle.meaning.specs.Refinement.Pairs.{Pair, loop_at, replace_lim}
 use Rattle.meaning.specs.Laws.Pair.{Neat}
 use Rattle.meaning.specs.Refinement.Passes.{join_set, pairs_from}
-use Rattle.meaning.specs.Laws.Pass.{join_set_ok, pass_neat}
+use Rattle.meaning.proofs.Laws.Pass.{join_set_ok, pass_neat}
 use Rattle.references.specs.Models.{edges_in}
 use Rattle.references.specs.ModelLaws.{told_yes, told_on, told_off}
 use Rattle.borrow_graph_edit.specs.JoinLaws.{skip_pair, take_pair, no_pair_left}

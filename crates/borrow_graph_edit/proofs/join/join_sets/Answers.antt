@@ -7,7 +7,7 @@ use Rattle.meaning.specs.Answers.{and_then}
 use Rattle.meaning.specs.References.{Edge, insert}
 use Rattle.meaning.specs.Laws.Graph.{insert_all}
 use Rattle.meaning.specs.Refinement.Passes.{uncovered}
-use Rattle.meaning.specs.Laws.Pass.{offer_ok}
+use Rattle.meaning.proofs.Laws.Pass.{offer_ok}
 use Rattle.references.specs.Models.{set_edges, set_in}
 use Rattle.references.specs.ModelLaws.{edge_in, told_on, told_off}
 use Rattle.borrow_graph_edit.specs.JoinLaws.{set_clip, skip_covered, take_uncovered, none_left}

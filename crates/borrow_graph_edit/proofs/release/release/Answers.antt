@@ -1,7 +1,7 @@
 use Rattle.meaning.specs.Lists.{keep}
 use Rattle.meaning.specs.BorrowGraph.{well_formed, holds, other, release}
-use Rattle.meaning.specs.Laws.Call.{release_law}
-use Rattle.meaning.specs.Laws.Pass.{release_9}
+use Rattle.meaning.proofs.Laws.Call.{release_law}
+use Rattle.meaning.proofs.Laws.Pass.{release_9}
 use Rattle.borrow_graph.specs.Models.{graph_in}
 use Rattle.borrow_graph_edit.specs.Edits.{answers_9, answers_refused, answers_named}
 use Rattle.borrow_graph_edit.specs.BorrowLaws.{test_few, test_yes, test_no}

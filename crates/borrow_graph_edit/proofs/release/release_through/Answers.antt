@@ -3,11 +3,11 @@ use mathlib.Core.Bool.{true, ◌&&◌}
 use mathlib.Core.List.{List}
 use lib.ListN.{length}
 use Rattle.meaning.specs.Lists.{keep}
-use Rattle.meaning.specs.Laws.Base.{and_l}
+use Rattle.meaning.proofs.Laws.Base.{and_l}
 use Rattle.meaning.specs.BorrowGraph.{Name, well_formed, holds, other, release}
-use Rattle.meaning.specs.Laws.Blurs.{newly_self}
+use Rattle.meaning.proofs.Laws.Blurs.{newly_self}
 use Rattle.meaning.specs.Refinement.Passes.{apart}
-use Rattle.meaning.specs.Laws.Pass.{release_when, without_neat, wf_neat}
+use Rattle.meaning.proofs.Laws.Pass.{release_when, without_neat, wf_neat}
 use Rattle.references.specs.Models.{edges_in, told}
 use Rattle.references.specs.ModelLaws.{told_yes, told_no}
 use Rattle.borrow_graph_edit.specs.Edits.{graph_with, told_as}

@@ -10,7 +10,7 @@ use Rattle.meaning.specs.BorrowGraph.{GEdge}
 use Rattle.meaning.specs.Refinement.Pairs.{replace_lim, two_pass}
 use Rattle.meaning.specs.Laws.Pair.{Neat}
 use Rattle.meaning.specs.Refinement.Passes.{apart, splice_set, splice_pairs}
-use Rattle.meaning.specs.Laws.Pass.{splice_set_ok, pass_neat, pass_again}
+use Rattle.meaning.proofs.Laws.Pass.{splice_set_ok, pass_neat, pass_again}
 use Rattle.references.specs.Models.{edges_in, told}
 use Rattle.references.specs.ModelLaws.{told_yes, told_on, told_off, told_first}
 use Rattle.borrow_graph_edit.specs.Models.{replaced_in}

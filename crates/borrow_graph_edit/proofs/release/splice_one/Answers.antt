@@ -1,7 +1,7 @@
 use mathlib.Core.List.{List, [], map}
 use lib.ListN.{get_or, drop}
 use Rattle.meaning.specs.References.{Edge, Offered, offer}
-use Rattle.meaning.specs.Laws.Pass.{offer_fitting}
+use Rattle.meaning.proofs.Laws.Pass.{offer_fitting}
 use Rattle.references.specs.ModelLaws.{set_step, set_end, set_count, told_on, told_off}
 use Rattle.borrow_graph_edit.specs.RowLaws.{set_cut, one_turn, insert_end}
 use mathlib.Core.Path.{refl, ap, ◌∙◌}

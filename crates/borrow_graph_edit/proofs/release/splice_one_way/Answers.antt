@@ -3,10 +3,10 @@ use mathlib.Core.Bool.{Bool, cond}
 use mathlib.Core.List.{List, [], ◌∷◌}
 use Rattle.meaning.specs.Lists.{keep}
 use Rattle.meaning.specs.BorrowGraph.{GEdge, other, between, newly_blurred}
-use Rattle.meaning.specs.Laws.Base.{decide, eqb_eq, eqb_ne}
-use Rattle.meaning.specs.Laws.Blurs.{newly_keep, newly_apart}
-use Rattle.meaning.specs.Laws.Call.{release_law}
-use Rattle.meaning.specs.Laws.Pass.{wf_neat}
+use Rattle.meaning.proofs.Laws.Base.{decide, eqb_eq, eqb_ne}
+use Rattle.meaning.proofs.Laws.Blurs.{newly_keep, newly_apart}
+use Rattle.meaning.proofs.Laws.Call.{release_law}
+use Rattle.meaning.proofs.Laws.Pass.{wf_neat}
 use Rattle.meaning.specs.Refinement.Passes.{apart}
 use lib.Dec.{eqb}
 use Rattle.references.specs.Models.{row_of, edges_in}

@@ -3,7 +3,7 @@ use Rattle.meaning.specs.Answers.{Ans, and_then}
 use Rattle.meaning.specs.References.{EdgeSet}
 use Rattle.meaning.specs.Refinement.Pairs.{replace_one}
 use Rattle.meaning.specs.Refinement.Passes.{splice_set}
-use Rattle.meaning.specs.Laws.Pass.{pass_cycle, pass_across}
+use Rattle.meaning.proofs.Laws.Pass.{pass_cycle, pass_across}
 use Rattle.references.specs.Models.{edges_in}
 use Rattle.borrow_graph_edit.proofs.release.splice_pair.Goals as goal
 

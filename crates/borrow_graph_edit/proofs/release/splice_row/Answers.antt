@@ -3,7 +3,7 @@ use mathlib.Core.List.{[]}
 use mathlib.Core.Path.{refl, sym, ◌∙◌}
 use lib.ListN.{get_or}
 use Rattle.meaning.specs.Refinement.Passes.{splice_set}
-use Rattle.meaning.specs.Laws.Pass.{splice_set_ok, pass_neat}
+use Rattle.meaning.proofs.Laws.Pass.{splice_set_ok, pass_neat}
 use Rattle.references.specs.Models.{row_of, edges_in}
 use Rattle.references.specs.ModelLaws.{edges_next, edges_over, told_yes, told_on, told_off}
 use Rattle.borrow_graph_edit.specs.PassLaws.{child_turn, child_skip, child_end}

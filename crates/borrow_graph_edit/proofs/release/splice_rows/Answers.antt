@@ -3,7 +3,7 @@ use mathlib.Core.Path.{refl, sym, ◌∙◌}
 use mathlib.Core.List.{[]}
 use lib.ListN.{get_or}
 use Rattle.meaning.specs.Refinement.Passes.{splice_set, child_row, splice_pairs}
-use Rattle.meaning.specs.Laws.Pass.{splice_set_ok, pass_neat}
+use Rattle.meaning.proofs.Laws.Pass.{splice_set_ok, pass_neat}
 use Rattle.references.specs.Models.{row_of, edges_in}
 use Rattle.references.specs.ModelLaws.{edges_next, edges_over, told_yes, told_on, told_off}
 use Rattle.borrow_graph_edit.specs.PassLaws.{parent_turn, parent_skip, parent_end}

@@ -1,7 +1,7 @@
 use mathlib.Core.Path.{refl, ◌∙◌}
 use Rattle.meaning.specs.Laws.Graph.{insert_all}
 use Rattle.meaning.specs.Refinement.Passes.{splices, splice_set}
-use Rattle.meaning.specs.Laws.Pass.{neat_few}
+use Rattle.meaning.proofs.Laws.Pass.{neat_few}
 use Rattle.references.specs.Models.{edges_in}
 use Rattle.borrow_graph_edit.proofs.release.spliced.Goals as goal
 

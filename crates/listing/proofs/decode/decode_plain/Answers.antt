@@ -1,6 +1,6 @@
 use mathlib.Core.Path.{◌≡◌, refl}
 use Rattle.meaning.specs.Listing.{instructions, instr_in, instr_of}
-use Rattle.meaning.specs.Laws.Listing.{by_row}
+use Rattle.meaning.proofs.Laws.Listing.{by_row}
 use Rattle.meaning.specs.Steps.{Instr}
 use Rattle.listing.proofs.decode.decode_plain.Goals as goal
 

@@ -2,7 +2,7 @@ use Prim.Native.Nat.{ℕ}
 use mathlib.Core.Path.{◌≡◌, ap, ◌∙◌}
 use mathlib.Core.List.{List}
 use lib.ListN.{length}
-use Rattle.meaning.specs.Laws.Array.{length_of_map}
+use Rattle.meaning.proofs.Laws.Array.{length_of_map}
 use Rattle.abstract_state.specs.declared.state.Operands.{Operands}
 use Rattle.operand_stack.proofs.value.push.Goals as goal
 

@@ -5,7 +5,8 @@ use mathlib.Core.Path.{sym, ap, ◌∙◌, subst}
 use mathlib.Core.List.{List}
 use lib.ListN.{length}
 use Rattle.meaning.specs.Verify.{Answered, verify}
-use Rattle.meaning.specs.Laws.Answer.{Low, low_answer}
+use Rattle.meaning.specs.Laws.Answer.{Low}
+use Rattle.meaning.proofs.Laws.Answer.{low_answer}
 use Rattle.reference_safety_lib.specs.Words.{words_of, put_words}
 use Rattle.reference_safety_lib.specs.WordLaws.{no_room_kept, room_kept}
 use borrow.Author.Rules.{rules}

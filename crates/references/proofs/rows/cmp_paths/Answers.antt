@@ -4,7 +4,7 @@ use Prim.Native.Nat.{◌+◌}
 use lib.ListN.{drop, get_or}
 use Rattle.meaning.specs.Area.{label_in}
 use Rattle.meaning.specs.References.{compare_paths}
-use Rattle.meaning.specs.Laws.Place.{paths_less, paths_greater, paths_equal, paths_end, paths_prefix, paths_longer}
+use Rattle.meaning.proofs.Laws.Place.{paths_less, paths_greater, paths_equal, paths_end, paths_prefix, paths_longer}
 use Rattle.references.specs.RowLaws.{path_in, count_in, path_length, both_on, first_on, second_on, both_over}
 use native.Mathlib.Omega.{arith}
 use borrow.Author.Rules.{rules}

@@ -1,5 +1,5 @@
 use mathlib.Core.Path.{sym, ap, ◌∙◌}
-use Rattle.meaning.specs.Laws.Place.{is_equal, eq_of}
+use Rattle.meaning.proofs.Laws.Place.{is_equal, eq_of}
 use Rattle.paths.specs.Models.{ordering_of}
 use Rattle.references.proofs.rows.eq.Goals as goal
 

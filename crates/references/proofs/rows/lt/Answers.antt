@@ -1,5 +1,5 @@
 use mathlib.Core.Path.{sym, ap, ◌∙◌}
-use Rattle.meaning.specs.Laws.Place.{is_less, lt_of}
+use Rattle.meaning.proofs.Laws.Place.{is_less, lt_of}
 use Rattle.paths.specs.Models.{ordering_of}
 use Rattle.references.proofs.rows.lt.Goals as goal
 

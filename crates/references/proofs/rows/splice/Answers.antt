@@ -6,7 +6,7 @@ use lib.ListN.{length, length-append}
 use Rattle.meaning.specs.References.{Offered, fits, too_long, fitting}
 use Rattle.meaning.specs.BorrowGraph.{GEdge}
 use Rattle.meaning.specs.Laws.Area.{bit}
-use Rattle.meaning.specs.Laws.Pass.{fitting_short, splice_strong, splice_weak}
+use Rattle.meaning.proofs.Laws.Pass.{fitting_short, splice_strong, splice_weak}
 use Rattle.references.specs.Models.{row_of}
 use Rattle.references.specs.RowLaws.{path_in, count_in, path_length, row_joined, fitting_long}
 use native.Mathlib.Omega.{arith}

@@ -1,6 +1,6 @@
 use mathlib.Core.Path.{ap}
 use Prim.Native.Nat.{ℕ, ◌+◌, ◌*◌}
-use Rattle.meaning.specs.Laws.Area.{name_word}
+use Rattle.meaning.proofs.Laws.Area.{name_word}
 use native.Mathlib.Omega.{arith}
 use Rattle.references.proofs.words.name_word.Goals as goal
 

@@ -1,6 +1,6 @@
 use mathlib.Core.Path.{◌≡◌, refl}
 use lib.ListN.{length}
-use Rattle.meaning.specs.Laws.Array.{length_of_map}
+use Rattle.meaning.proofs.Laws.Array.{length_of_map}
 use Rattle.absint.specs.LoopLaws.{statuses_count}
 use Rattle.absint.specs.Models.{statuses_of}
 use Rattle.absint.proofs.run_state.RunState.stop.Goals as goal
