@@ -6,9 +6,10 @@ ghost use Rattle.std.specs.Prelude.{◌≡◌, ◌+◌, ◌≤◌, length};
 ghost use Rattle.meaning.specs.Limits.{area_words};
 ghost use Rattle.loader_line.specs.Models.{Within};
 
-use libc::{STDIN_FILENO, STDOUT_FILENO};
+use case_input::read_full;
 use loader_line::{Line, answer_line};
 use meaning::AREA_WORDS;
+use std::io;
 
 // Room for all cases.
 fn room() -> [u8; 16384]
@@ -37,41 +38,40 @@ fn stated(s: &[u8], at: usize) -> usize
     wide(s[at]) + 256 * wide(s[at + 1]) + 65536 * wide(s[at + 2])
 }
 
-fn print(l: Line) -> bool
+fn print(rt: &impl Print, l: Line) -> io::Result<()>
     requires { Within l }
 {
     let bytes = l.bytes;
     let n = l.len;
-    io::write_all(STDOUT_FILENO, &bytes[..n])
+    rt.write_all(&bytes[..n])
 }
 
-fn answer(s: &[u8]) -> bool {
+fn answer(rt: &impl Print, s: &[u8]) -> io::Result<()> {
     let mut area = work_area();
-    print(answer_line(s, &mut area))
+    print(rt, answer_line(s, &mut area))
 }
 
-fn run_all(s: &[u8]) {
+fn run_all(rt: &impl Print, s: &[u8]) -> io::Result<()> {
     let mut at: usize = 0;
     while at < s.len() {
         let left = s.len() - at;
         if left < 3 {
-            return;
+            return Ok(());
         }
         let n = stated(s, at);
         if left - 3 < n {
-            return;
+            return Ok(());
         }
         let start = at + 3;
         let end = start + n;
-        if !answer(&s[start..end]) {
-            return;
-        }
+        answer(rt, &s[start..end])?;
         at = end;
     }
+    Ok(())
 }
 
-fn main() {
+fn main(rt: HostRuntime) -> io::Result<()> {
     let mut buffer = room();
-    let n = io::read_full(STDIN_FILENO, &mut buffer);
-    run_all(&buffer[..n]);
+    let n = read_full(&mut rt.reader(), &mut buffer);
+    run_all(&rt, &buffer[..n])
 }

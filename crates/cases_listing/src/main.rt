@@ -4,9 +4,10 @@
 
 ghost use Rattle.std.specs.Prelude.{◌≡◌, ◌+◌, ◌≤◌, length};
 
-use libc::{STDIN_FILENO, STDOUT_FILENO};
+use case_input::read_full;
 use listing::{Reading, read_listing};
 use meaning::MAX_INSTRUCTIONS;
+use std::io;
 
 // Room for all cases.
 fn room() -> [u8; 300000]
@@ -33,7 +34,7 @@ fn digit(n: usize) -> u8 {
     (n % 10) as u8 + b'0'
 }
 
-fn write_line(number: u8, place: usize) -> bool {
+fn write_line(rt: &impl Print, number: u8, place: usize) -> io::Result<()> {
     let line = [
         digit(number as usize / 10),
         digit(number as usize),
@@ -45,42 +46,41 @@ fn write_line(number: u8, place: usize) -> bool {
         digit(place),
         b'\n',
     ];
-    io::write_all(STDOUT_FILENO, &line)
+    rt.write_all(&line)
 }
 
-fn answer(s: &[u8]) -> bool {
+fn answer(rt: &impl Print, s: &[u8]) -> io::Result<()> {
     let mut code = [0u16; MAX_INSTRUCTIONS];
     let r = read_listing(s, &mut code);
     let reading = r.reading;
     match reading {
-        Reading::Read => write_line(0, r.routine.code_count),
-        Reading::Nothing => io::write_all(STDOUT_FILENO, b"EMPTY\n"),
-        Reading::Refused(number, place) => write_line(number, place),
+        Reading::Read => write_line(rt, 0, r.routine.code_count),
+        Reading::Nothing => rt.write_all(b"EMPTY\n"),
+        Reading::Refused(number, place) => write_line(rt, number, place),
     }
 }
 
-fn run_all(s: &[u8]) {
+fn run_all(rt: &impl Print, s: &[u8]) -> io::Result<()> {
     let mut at: usize = 0;
     while at < s.len() {
         let left = s.len() - at;
         if left < 3 {
-            return;
+            return Ok(());
         }
         let n = stated(s, at);
         if left - 3 < n {
-            return;
+            return Ok(());
         }
         let start = at + 3;
         let end = start + n;
-        if !answer(&s[start..end]) {
-            return;
-        }
+        answer(rt, &s[start..end])?;
         at = end;
     }
+    Ok(())
 }
 
-fn main() {
+fn main(rt: HostRuntime) -> io::Result<()> {
     let mut buffer = room();
-    let n = io::read_full(STDIN_FILENO, &mut buffer);
-    run_all(&buffer[..n]);
+    let n = read_full(&mut rt.reader(), &mut buffer);
+    run_all(&rt, &buffer[..n])
 }

@@ -6,9 +6,18 @@
 ghost use Rattle.std.specs.Prelude.{◌≡◌, ◌+◌, ◌≤◌, length};
 ghost use Rattle.meaning.specs.Limits.{area_words};
 
-use libc::{STDIN_FILENO, STDOUT_FILENO};
+use case_input::read_full;
 use meaning::{AREA_WORDS, MAX_BYTES};
 use reference_safety_lib::reference_safety_verify;
+use std::io;
+use std::io::Read;
+
+// Room for the longest listing.
+fn room() -> [u8; MAX_BYTES]
+    ensures { 65536 ≡ length result }
+{
+    [0; MAX_BYTES]
+}
 
 fn work_area() -> [u32; AREA_WORDS]
     ensures { area_words ≡ length result }
@@ -50,53 +59,49 @@ fn agrees(listing: &[u8], tail: &[u8; 32]) -> bool {
 }
 
 // Prints the number of an entry that differs.
-fn differs(entry: u64) {
-    io::write_all(STDOUT_FILENO, b"differs: ");
-    io::print_decimal(STDOUT_FILENO, entry);
-    io::write_all(STDOUT_FILENO, b"\n");
+fn differs(rt: &impl Print, entry: u64) -> io::Result<()> {
+    println!(rt; "differs: {entry}")
 }
 
-fn read_word(fd: i32) -> usize
+fn read_word<R: Read>(input: &mut R) -> usize
     ensures { result ≤ 4294967295 }
 {
     let mut bytes = [0u8; 4];
-    io::read_full(fd, &mut bytes);
+    read_full(input, &mut bytes);
     word(&bytes, 0)
 }
 
 // Reads the next entry: its listing after its length, then whose answer it is and the answer's seven words.
-fn next_agrees(fd: i32) -> bool {
-    let n = read_word(fd);
-    let mut listing = io::large_buffer();
+fn next_agrees<R: Read>(input: &mut R) -> bool {
+    let n = read_word(input);
+    let mut listing = room();
     if n > MAX_BYTES {
         return false;
     }
-    io::read_full(fd, &mut listing[..n]);
+    read_full(input, &mut listing[..n]);
     let mut tail = [0u8; 32];
-    io::read_full(fd, &mut tail);
+    read_full(input, &mut tail);
     agrees(&listing[..n], &tail)
 }
 
-fn replay(fd: i32, stored: u64) -> u64 {
+fn replay<R: Read>(rt: &impl Print, input: &mut R, stored: u64) -> io::Result<u64> {
     let mut agree: u64 = 0;
     let mut entry: u64 = 0;
     while entry < stored {
-        if next_agrees(fd) {
+        if next_agrees(input) {
             agree += 1;
             entry += 1;
         } else {
-            differs(entry);
+            differs(rt, entry)?;
             entry += 1;
         }
     }
-    agree
+    Ok(agree)
 }
 
-fn main() {
-    let stored = read_word(STDIN_FILENO) as u64;
-    let agree = replay(STDIN_FILENO, stored);
-    io::print_decimal(STDOUT_FILENO, stored);
-    io::write_all(STDOUT_FILENO, b" stored, ");
-    io::print_decimal(STDOUT_FILENO, agree);
-    io::write_all(STDOUT_FILENO, b" agree\n");
+fn main(rt: HostRuntime) -> io::Result<()> {
+    let mut input = rt.reader();
+    let stored = read_word(&mut input) as u64;
+    let agree = replay(&rt, &mut input, stored)?;
+    println!(rt; "{stored} stored, {agree} agree")
 }

@@ -6,10 +6,11 @@ ghost use Rattle.std.specs.Prelude.{◌≡◌, ◌+◌, ◌≤◌, length};
 
 use abstract_state::state::LOCALS;
 use abstract_state_join::first::new;
-use libc::{STDIN_FILENO, STDOUT_FILENO};
+use case_input::read_full;
 use listing::{Block, Reading, Routine, read_listing};
 use meaning::{EDGE_WORDS, MAX_EDGES, MAX_INSTRUCTIONS, MAX_NAMES};
 use reference_safety::block::{Ran, run_block};
+use std::io;
 
 // Room for all cases.
 fn room() -> [u8; 8192]
@@ -36,7 +37,7 @@ fn digit(n: usize) -> u8 {
     (n % 10) as u8 + b'0'
 }
 
-fn write_line(number: usize, place: usize) -> bool {
+fn write_line(rt: &impl Print, number: usize, place: usize) -> io::Result<()> {
     let line = [
         digit(number / 100),
         digit(number / 10),
@@ -49,19 +50,19 @@ fn write_line(number: usize, place: usize) -> bool {
         digit(place),
         b'\n',
     ];
-    io::write_all(STDOUT_FILENO, &line)
+    rt.write_all(&line)
 }
 
-fn write_ran(r: Ran) -> bool {
+fn write_ran(rt: &impl Print, r: Ran) -> io::Result<()> {
     let place = r.place.0 as usize;
     let s = r.state;
     if s.violation != 0 {
-        return write_line(s.violation as usize, place);
+        return write_line(rt, s.violation as usize, place);
     }
     if s.refusal != 0 {
-        return write_line(s.refusal as usize, place);
+        return write_line(rt, s.refusal as usize, place);
     }
-    write_line(0, 0)
+    write_line(rt, 0, 0)
 }
 
 fn first_block(q: Routine) -> Block {
@@ -69,7 +70,12 @@ fn first_block(q: Routine) -> Block {
     blocks[0]
 }
 
-fn run_first(s: &[u8], q: Routine, code: &[u16; MAX_INSTRUCTIONS]) -> bool {
+fn run_first(
+    rt: &impl Print,
+    s: &[u8],
+    q: Routine,
+    code: &[u16; MAX_INSTRUCTIONS],
+) -> io::Result<()> {
     let params = q.params;
     let mut locals = [0u32; LOCALS];
     let mut names = [0u32; MAX_NAMES];
@@ -77,42 +83,41 @@ fn run_first(s: &[u8], q: Routine, code: &[u16; MAX_INSTRUCTIONS]) -> bool {
     let first = new(&mut locals, &mut names, q.locals, params, q.param_count);
     let b = first_block(q);
     let r = run_block(s, q, code, b, &mut locals, &mut names, &mut edges, first);
-    write_ran(r)
+    write_ran(rt, r)
 }
 
-fn answer(s: &[u8]) -> bool {
+fn answer(rt: &impl Print, s: &[u8]) -> io::Result<()> {
     let mut code = [0u16; MAX_INSTRUCTIONS];
     let l = read_listing(s, &mut code);
     let reading = l.reading;
     match reading {
-        Reading::Read => run_first(s, l.routine, &code),
-        Reading::Nothing => io::write_all(STDOUT_FILENO, b"EMPTY\n"),
-        Reading::Refused(number, place) => write_line(number as usize, place),
+        Reading::Read => run_first(rt, s, l.routine, &code),
+        Reading::Nothing => rt.write_all(b"EMPTY\n"),
+        Reading::Refused(number, place) => write_line(rt, number as usize, place),
     }
 }
 
-fn run_all(s: &[u8]) {
+fn run_all(rt: &impl Print, s: &[u8]) -> io::Result<()> {
     let mut at: usize = 0;
     while at < s.len() {
         let left = s.len() - at;
         if left < 3 {
-            return;
+            return Ok(());
         }
         let n = stated(s, at);
         if left - 3 < n {
-            return;
+            return Ok(());
         }
         let start = at + 3;
         let end = start + n;
-        if !answer(&s[start..end]) {
-            return;
-        }
+        answer(rt, &s[start..end])?;
         at = end;
     }
+    Ok(())
 }
 
-fn main() {
+fn main(rt: HostRuntime) -> io::Result<()> {
     let mut buffer = room();
-    let n = io::read_full(STDIN_FILENO, &mut buffer);
-    run_all(&buffer[..n]);
+    let n = read_full(&mut rt.reader(), &mut buffer);
+    run_all(&rt, &buffer[..n])
 }

@@ -6,9 +6,10 @@ ghost use Rattle.meaning.specs.Limits.{area_words};
 ghost use Rattle.io.specs.Counts.{IsPrefixLen};
 ghost use Rattle.loader_line.specs.Models.{Within};
 
-use libc::{STDIN_FILENO, STDOUT_FILENO};
 use loader_line::{Line, answer_line};
 use meaning::{AREA_WORDS, MAX_BYTES};
+use std::io;
+use std::io::Read;
 
 // The bytes at the start of a buffer that were read.
 #[derive(Clone, Copy)]
@@ -33,20 +34,28 @@ fn work_area() -> [u32; AREA_WORDS]
 }
 
 // Reads until the buffer is full, the input ends or a read fails.
-fn read_some(fd: i32, buf: &mut [u8]) -> Input
+fn read_some<R: Read>(input: &mut R, buf: &mut [u8]) -> Input
     ensures { IsPrefixLen result.count buf.new }
 {
     let mut done: usize = 0;
     while done < buf.len() {
-        let got = libc::read(fd, &mut buf[done..]);
-        let n = io::count(got, &buf[done..]);
-        if n == 0 {
-            return Input {
-                count: done,
-                failed: got < 0,
-            };
+        match input.read(&mut buf[done..]) {
+            Ok(n) => {
+                if n == 0 {
+                    return Input {
+                        count: done,
+                        failed: false,
+                    };
+                }
+                done += n;
+            }
+            Err(_) => {
+                return Input {
+                    count: done,
+                    failed: true,
+                };
+            }
         }
-        done += n;
     }
     Input {
         count: done,
@@ -55,35 +64,40 @@ fn read_some(fd: i32, buf: &mut [u8]) -> Input
 }
 
 // Reads once, and answers whether there may be more.
-fn pass_over(fd: i32) -> bool {
-    let mut buf = io::large_buffer();
-    libc::read(fd, &mut buf) > 0
-}
-
-// Reads what no listing has room for. A loop must end, so it counts down from a number of turns that no input takes.
-fn read_rest(fd: i32) {
-    let mut turns = u64::MAX;
-    while turns > 0 && pass_over(fd) {
-        turns -= 1;
+fn pass_over<R: Read>(input: &mut R) -> bool {
+    let mut buf = [0u8; 65536];
+    match input.read(&mut buf) {
+        Ok(n) => n > 0,
+        Err(_) => false,
     }
 }
 
-fn print(l: Line) -> bool
+// Reads what no listing has room for. A loop must end, so it has a number of turns that no input takes.
+fn read_rest<R: Read>(input: &mut R) {
+    for _ in 0..u64::MAX {
+        if !pass_over(input) {
+            break;
+        }
+    }
+}
+
+fn print(rt: &impl Print, l: Line) -> io::Result<()>
     requires { Within l }
 {
     let bytes = l.bytes;
     let n = l.len;
-    io::write_all(STDOUT_FILENO, &bytes[..n])
+    rt.write_all(&bytes[..n])
 }
 
-fn main() {
+fn main(rt: HostRuntime) -> io::Result<()> {
     let mut buffer = room();
     let mut area = work_area();
-    let input = read_some(STDIN_FILENO, &mut buffer);
+    let mut stdin = rt.reader();
+    let input = read_some(&mut stdin, &mut buffer);
     if input.failed {
-        return;
+        return Ok(());
     }
-    read_rest(STDIN_FILENO);
+    read_rest(&mut stdin);
     let n = input.count;
-    print(answer_line(&buffer[..n], &mut area));
+    print(&rt, answer_line(&buffer[..n], &mut area))
 }

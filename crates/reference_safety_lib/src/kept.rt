@@ -7,12 +7,7 @@ use crate::{ANSWER_WORDS, put_words, verdict_words};
 use absint::analyze;
 
 // The same answer, but the area is not zeroed: it holds the kept states as the block loop left them.
-#[unsafe(no_mangle)]
-pub extern "C" fn reference_safety_analyze(
-    listing: &[u8],
-    area: &mut [u32],
-    answer: &mut [u32],
-) -> bool
+pub fn reference_safety_analyze(listing: &[u8], area: &mut [u32], answer: &mut [u32]) -> bool
     ensures { (result ≡ fits answer.old) × (answer.new ≡ written (Whole.verify (length area.old) listing.now) answer.old) × Kept answer.old listing.now area.old area.new }
 {
     if answer.len() < ANSWER_WORDS {

@@ -31,12 +31,7 @@ struct Words {
 // The answer's first seven words: 0 accepted, 1 violation, 2 refused, 3 an empty cell; the code or number; the offset or place; the visits; the number
 // of sets blurred, its low word and its high word; and, after a violation, where what it fails on was borrowed, else 0. False, and nothing is done,
 // where the answer has fewer.
-#[unsafe(no_mangle)]
-pub extern "C" fn reference_safety_verify(
-    listing: &[u8],
-    area: &mut [u32],
-    answer: &mut [u32],
-) -> bool
+pub fn reference_safety_verify(listing: &[u8], area: &mut [u32], answer: &mut [u32]) -> bool
     ensures { (result ≡ fits answer.old) × (answer.new ≡ written (Whole.verify (length area.old) listing.now) answer.old) × (area.new ≡ area_after answer.old area.old) }
 {
     if answer.len() < ANSWER_WORDS {
