@@ -1,7 +1,6 @@
 # To be sourced, in the repository's folder.
 
-# Two builds at once would write the same files of target/, so each takes this lock first. It goes with file descriptor 9. It is taken on
-# crates.txt, since rt ci removes all of target/.
+# Two builds at once would do the same work twice, so each takes this lock first. It goes with file descriptor 9.
 take_lock() {
     if ! command -v flock > /dev/null; then
         echo "flock is not found: see that no other build runs in this folder" >&2
