@@ -1,6 +1,6 @@
 /*
- * The reference-safety check for controllers: link libreference_safety_lib.a (`rt staticlib reference_safety_lib` writes it to
- * target/staticlib). It is for x86-64 alone, with the C calling convention of Linux, and takes memcpy, memmove and memset from the C library.
+ * The reference-safety check for controllers: link libreference_safety_lib.a (`tools/built staticlib reference_safety_lib` builds it and
+ * prints where it is). It is for x86-64 alone, with the C calling convention of Linux, and takes memcpy, memmove and memset from the C library.
  */
 #ifndef BUSLATIM_H
 #define BUSLATIM_H

@@ -1,7 +1,7 @@
 #!/usr/bin/env python3
-"""The tables of docs/SIZES.md: `rt prove | tools/sizes.py`.
+"""The table of docs/SIZES.md, but for the seconds: `tools/sizes.py`.
 
-Lines of each crate, and the seconds that its proof took in that run. What has to be believed is computed: every declaration of specs/ that
+Lines of each crate. What has to be believed is computed: every declaration of specs/ that
 the contracts of public functions and the theorems of meaning's Theorems and Marked reach, through the definitions that they name.
 The rest of specs/ are laws, which add nothing to believe. `tools/sizes.py --believed` lists the declarations, file by file.
 """
@@ -11,13 +11,13 @@ from pathlib import Path
 
 ROOT = Path(__file__).resolve().parent.parent
 TOKEN = re.compile(r'[^\s(){}.;,@"«»]+')
-USE = re.compile(r"^(?:ghost )?(?:pub )?use Rattle·(\w+?)(?:·specs)?\.specs\.([\w.]+?)(?:\.\{([^}]*)\})?(?: as (\S+?))?;?$")
+USE = re.compile(r"^(?:ghost )?(?:pub )?use Rattle\.(\w+?)\.specs\.([\w.]+?)(?:\.\{([^}]*)\})?(?: as (\S+?))?;?$")
 DECLARATION = re.compile(r"^\s*(?:unfoldable |abbrev |pub )*(?:(?:data|record) )?(\S+)(?: \{[^}]*\})?(?: [({].*)? :(?: |$)")
 THEOREMS = [("meaning", "Theorems"), ("meaning", "Marked")]
 
 
 def crates():
-    return [line.split(":")[0] for line in (ROOT / "crates.txt").read_text().splitlines() if re.match(r"\w+:", line)]
+    return [line.split(":")[0].split()[0] for line in (ROOT / "crates.txt").read_text().splitlines() if re.match(r"\w+( staticlib)?:", line)]
 
 
 class Source:
@@ -87,7 +87,7 @@ def contracts(text):
             for clause in lines[i + 1 :]:
                 if clause.strip() == "{":
                     break
-                within = within or "⌜" in clause
+                within = within or re.match(r"\s*(?:requires|ensures)\b", clause)
                 if within:
                     yield clause
 
@@ -134,11 +134,8 @@ def main():
             print(f"{crate}/{module}: {sum(len(l) for l in names.values())} lines: {' '.join(sorted(names))}")
         print(f"{sum(len(n) for n in reached.values())} declarations, {sum(counts.values())} lines")
         return
-    if sys.argv[1:] or sys.stdin.isatty():
+    if sys.argv[1:]:
         sys.exit(__doc__)
-    seconds = dict(re.findall(r"^rt: (\w+) proved \((\d+) s\)", sys.stdin.read(), re.M))
-    if not seconds:
-        sys.exit("tools/sizes.py: standard input has no line 'rt: NAME proved (N s)'")
     rows = {}
     for crate in crates():
         home = ROOT / "crates" / crate
@@ -150,11 +147,11 @@ def main():
             lines((home / "proofs").rglob("*.antt")),
             len(list((home / "must-fail").glob("*.edit"))),
         ]
-    print("| crate | code | believed | laws | proofs | edits | seconds |")
-    print("|---|---|---|---|---|---|---|")
+    print("| crate | code | believed | laws | proofs | edits |")
+    print("|---|---|---|---|---|---|")
     for crate, row in rows.items():
-        print(f"| `{crate}` |", " | ".join(f"{n:,}" for n in row), "|", seconds.get(crate, "–"), "|")
-    print("| all |", " | ".join(f"{sum(column):,}" for column in zip(*rows.values())), "|", sum(map(int, seconds.values())), "|")
+        print(f"| `{crate}` |", " | ".join(f"{n:,}" for n in row), "|")
+    print("| all |", " | ".join(f"{sum(column):,}" for column in zip(*rows.values())), "|")
 
 
 main()
