@@ -5,7 +5,7 @@ ghost use Rattle.std.specs.Prelude.{◌≡◌, [], ◌++◌, ◌+◌, ◌≤◌,
 ghost use Rattle.meaning.specs.Area.{cleared};
 ghost use Rattle.meaning.specs.Verify as Whole;
 ghost use Rattle.absint.specs.Models.{verdict_of};
-ghost use Rattle.loader_line.specs.Text.{accepted, violated, newline, blurred_is, borrowed_at, decimal_of, numbers_of, line_of};
+ghost use Rattle.loader_line.specs.Text.{accepted, violated, newline, blurred_is, borrowed_at as borrowed_at_is, decimal_of, numbers_of, line_of};
 ghost use Rattle.loader_line.specs.Models.{text_of, Within};
 
 use absint::{Ruling, Verdict, verify};
@@ -48,7 +48,7 @@ fn accept_lines(blurred: u64) -> Line
 
 // So has a violation.
 fn violation_lines(code: u8, offset: usize, borrowed_at: u64) -> Line
-    ensures { (text_of result ≡ violated ++ numbers_of code offset ++ borrowed_at ++ decimal_of borrowed_at ++ newline) × Within result }
+    ensures { (text_of result ≡ violated ++ numbers_of code offset ++ borrowed_at_is ++ decimal_of borrowed_at ++ newline) × Within result }
 {
     let l = put_numbers(put(no_text(), b"VIOLATION "), code, offset);
     let m = put(l, b"BORROWED AT ");
