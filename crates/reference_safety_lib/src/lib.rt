@@ -1,4 +1,4 @@
-// The check for controllers, to be linked from C or Rust (include/buslatim.h).
+// The check for controllers (include/buslatim.h). reference_safety_lib_c exports it to C and Rust.
 #![tactic(auto)]
 
 pub mod kept;

@@ -1,4 +1,4 @@
-// The check for controllers as a static library, to be linked from C or Rust (include/buslatim.h).
+// The check for controllers as a static library, to be linked from C or Rust (include/buslatim.h): reference_safety_lib's two functions.
 #![tactic(auto)]
 
 ghost use Rattle.std.specs.Prelude.{◌≡◌, length};
