@@ -22,7 +22,7 @@ ghost use Rattle.references.specs.Models.{filter_of};
 ghost use Rattle.borrow_graph.specs.Models.{graph_in, told_of, low_in, low_of};
 ghost use Rattle.abstract_state.specs.Models.{words, Fits};
 
-use crate::core::frame_root;
+use crate::basic_calls::frame_root;
 use crate::state::AbstractState;
 use borrow_graph::graph::{Lowest, NO_OFFSET, YesOrNo};
 use file_format::LocalIndex;

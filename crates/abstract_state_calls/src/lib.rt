@@ -25,10 +25,10 @@ ghost use Rattle.abstract_state.specs.Models.{operand_of, operands_of, words, Fi
 ghost use Rattle.abstract_state_calls.specs.Models.{ids_of, answers_of, Calls, acquiring, handing, framed, is_borrowed, lowest_borrowed};
 
 use crate::ids::{Ids, local_ids, operand_ids};
+use abstract_state::basic_calls::{frame_root, fresh, give, new_ref, pass_refusal, violate_if};
 use abstract_state::codes::{
     CALL_BORROWED_MUTABLE_REFERENCE, GLOBAL_REFERENCE, RET_BORROWED_MUTABLE_REFERENCE, UNSAFE_RET,
 };
-use abstract_state::core::{frame_root, fresh, give, new_ref, pass_refusal, violate_if};
 use abstract_state::predicates::{
     has_consistent_borrows, is_frame_borrowed, is_global_borrowed, is_mutable, only_if,
 };

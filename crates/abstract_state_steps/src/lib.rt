@@ -27,15 +27,15 @@ ghost use Rattle.references.specs.Models.{filter_of};
 ghost use Rattle.file_format.specs.Models.{token_of};
 ghost use Rattle.abstract_state.specs.Models.{operand_of, words, Does, Gives};
 
+use abstract_state::basic_calls::{
+    add_borrow, add_copy, add_field_borrow, add_local_borrow, add_resource_borrow, fresh, give,
+    local, new_ref, pass_refusal, refuse, release, require_yes, set_local, violate_if,
+};
 use abstract_state::codes::{
     BORROWFIELD_EXISTS_MUTABLE_BORROW, BORROWLOC_EXISTS_BORROW, COPYLOC_EXISTS_BORROW,
     FREEZEREF_EXISTS_MUTABLE_BORROW, GLOBAL_REFERENCE, MOVELOC_EXISTS_BORROW,
     READREF_EXISTS_MUTABLE_BORROW, STLOC_UNSAFE_TO_DESTROY, VEC_BORROW_ELEMENT, VEC_UPDATE,
     WRITEREF_EXISTS_BORROW,
-};
-use abstract_state::core::{
-    add_borrow, add_copy, add_field_borrow, add_local_borrow, add_resource_borrow, fresh, give,
-    local, new_ref, pass_refusal, refuse, release, require_yes, set_local, violate_if,
 };
 use abstract_state::predicates::{
     bars_reading, has_consistent_borrows, has_consistent_mutable_borrows, has_full_borrows,

@@ -19,7 +19,7 @@ use crate::steps::{
     borrow_element, borrow_field, borrow_global, borrow_loc, call, compare, copy_loc, freeze_ref,
     move_from, move_loc, move_to, pop_top, read_ref, ret, st_loc, values, vector_op, write_ref,
 };
-use abstract_state::core::refuse;
+use abstract_state::basic_calls::refuse;
 use abstract_state::state::{AbstractState, LOCALS};
 use abstract_state_join::canonical::construct_canonical_state;
 use file_format::CodeOffset;

@@ -13,7 +13,7 @@ ghost use Rattle.abstract_state.specs.Models.{operands_of, words};
 ghost use Rattle.operand_stack.specs.Models.{stack_in};
 ghost use Rattle.reference_safety.specs.Models.{board, Steps, Runs, Pushed};
 
-use abstract_state::core::refuse;
+use abstract_state::basic_calls::refuse;
 use abstract_state::state::{AbstractState, Operands};
 use abstract_state_steps::value_for;
 use file_format::SignatureToken;

@@ -30,7 +30,7 @@ ghost use Rattle.operand_stack.specs.Models.{stack_in};
 ghost use Rattle.reference_safety.specs.Models.{board, Runs};
 
 use crate::machine::{Machine, push_new, push_results, pushed};
-use abstract_state::core::refuse;
+use abstract_state::basic_calls::refuse;
 use abstract_state::state::LOCALS;
 use file_format::{LocalIndex, SignatureToken};
 use listing::decode::Decoded;
