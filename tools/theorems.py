@@ -31,7 +31,7 @@ def statement(file, name):
 def files(cell):
     """The files that a table's last cell or a name's brackets mean."""
     for word in re.split(r"[,\s]+", cell):
-        for file in (ROOT / word, ROOT / f"crates/meaning/specs/{word}.antt"):
+        for file in (ROOT / word, ROOT / f"crates/meaning/specs/{word}.antt", ROOT / f"crates/meaning/proofs/{word}.antt"):
             if word and file.is_file():
                 yield file
             elif word and file.is_dir():
