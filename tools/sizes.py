@@ -1,7 +1,7 @@
 #!/usr/bin/env python3
 """The table of docs/SIZES.md, but for the seconds: `tools/sizes.py`.
 
-Lines of each crate. What has to be believed is computed: every declaration of specs/ that
+Lines of each crate. What has to be believed is computed: every declaration of specs/, or of a lemma file of proofs/, that
 the contracts of public functions and the theorems of meaning's Theorems and Marked reach, through the definitions that they name.
 The rest of specs/ are laws, which add nothing to believe. `tools/sizes.py --believed` lists the declarations, file by file.
 """
@@ -11,9 +11,9 @@ from pathlib import Path
 
 ROOT = Path(__file__).resolve().parent.parent
 TOKEN = re.compile(r'[^\s(){}.;,@"«»]+')
-USE = re.compile(r"^(?:ghost )?(?:pub )?use Rattle\.(\w+?)\.specs\.([\w.]+?)(?:\.\{([^}]*)\})?(?: as (\S+?))?;?$")
+USE = re.compile(r"^(?:ghost )?(?:pub )?use Rattle\.(\w+?)\.((?:specs|proofs)\.[\w.]+?)(?:\.\{([^}]*)\})?(?: as (\S+?))?;?$")
 DECLARATION = re.compile(r"^\s*(?:unfoldable |abbrev |pub )*(?:(?:data|record) )?(\S+)(?: \{[^}]*\})?(?: [({].*)? :(?: |$)")
-THEOREMS = [("meaning", "Theorems"), ("meaning", "Marked")]
+THEOREMS = [("meaning", "proofs.Theorems"), ("meaning", "proofs.Marked")]
 
 
 def crates():
@@ -69,8 +69,9 @@ class Source:
 def specs():
     found = {}
     for crate in crates():
-        home = ROOT / "crates" / crate / "specs"
-        for file in sorted(home.rglob("*.antt")):
+        home = ROOT / "crates" / crate
+        lemmas = [f for f in (home / "proofs").rglob("*.antt") if f.stem not in ("Answers", "Invariants", "Proof")]
+        for file in sorted([*(home / "specs").rglob("*.antt"), *lemmas]):
             module = ".".join(file.relative_to(home).with_suffix("").parts)
             text = file.read_text()
             found[crate, module] = Source(crate, module, text)
@@ -128,7 +129,10 @@ def lines(files):
 def main():
     sources = specs()
     reached = believed(sources)
-    counts = {crate: sum(len(l) for (c, _), names in reached.items() if c == crate for l in names.values()) for crate in crates()}
+    counts = {}
+    for (crate, module), names in reached.items():
+        place = crate, module.split(".")[0]
+        counts[place] = counts.get(place, 0) + sum(map(len, names.values()))
     if "--believed" in sys.argv:
         for (crate, module), names in sorted(reached.items()):
             print(f"{crate}/{module}: {sum(len(l) for l in names.values())} lines: {' '.join(sorted(names))}")
@@ -139,12 +143,12 @@ def main():
     rows = {}
     for crate in crates():
         home = ROOT / "crates" / crate
-        spec = lines((home / "specs").rglob("*.antt"))
+        spec, proof = counts.get((crate, "specs"), 0), counts.get((crate, "proofs"), 0)
         rows[crate] = [
             lines((home / "src").rglob("*.rt")),
-            counts[crate],
-            spec - counts[crate],
-            lines((home / "proofs").rglob("*.antt")),
+            spec + proof,
+            lines((home / "specs").rglob("*.antt")) - spec,
+            lines((home / "proofs").rglob("*.antt")) - proof,
             len(list((home / "must-fail").glob("*.edit"))),
         ]
     print("| crate | code | believed | laws | proofs | edits |")
