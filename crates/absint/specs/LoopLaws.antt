@@ -6,7 +6,7 @@ use Rattle.std.proofs.lemmas.List.{length-map}
 use Rattle.meaning.proofs.Laws.Array.{front_map_step, map_step}
 use Rattle.meaning.specs.Loop as M
 use Rattle.meaning.specs.Loop.{Status, fine, position, Failure, lower, Verdict, accept, violation, refusal, verdict_for}
-use Rattle.meaning.proofs.Laws.Fit.{lowest_by}
+use Rattle.meaning.specs.Laws.Fit.{lowest_by}
 use Rattle.listing.specs.Models.{block_of, blocks_in}
 use Rattle.listing.specs.declared.Block.{Block}
 use Rattle.absint.specs.Models.{status_of, statuses_of, failure_of, verdict_in}

@@ -5,13 +5,13 @@ use Rattle.meaning.specs.Limits.{max_blocks, area_words, u32_most}
 use Rattle.meaning.specs.Area.{kept_of, forgotten}
 use Rattle.meaning.specs.AbstractState.{State, join, join_blurs, changed}
 use Rattle.meaning.specs.Blocks.{Routine, exec}
-use Rattle.meaning.proofs.Laws.Forms.{Strong}
-use Rattle.meaning.proofs.Laws.Promised.{promised}
+use Rattle.meaning.specs.Laws.Forms.{Strong}
+use Rattle.meaning.specs.Laws.Promised.{promised}
 use Rattle.meaning.specs.Loop as M
 use Rattle.meaning.specs.Loop.{Result, Status, fine, failed, Next, at, stopped, Run, turn, Failure, Verdict, accept, violation, refusal, empty_cell, verdict_for, to_successor, successor_blurs}
 use Rattle.meaning.specs.Listing.{read_listing, read, nothing, refused}
 use Rattle.meaning.specs.Verify.{Answered, run_of, kept_by}
-use Rattle.meaning.proofs.Laws.Fit.{Does, Passes, Reached, propagate_on, propagate_blurs_on, lowest_by}
+use Rattle.meaning.specs.Laws.Fit.{Does, Passes, Reached, propagate_on, propagate_blurs_on, lowest_by}
 use Rattle.listing.specs.Models.{routine_of}
 use Rattle.listing.specs.declared.Routine as D
 use Rattle.abstract_state.specs.Models.{Words, words, Fits, state_of}

@@ -7,11 +7,11 @@ use Rattle.meaning.specs.Answers.{ok, refuse}
 use Rattle.meaning.specs.Area.{kept_of, Stored, has_block}
 use Rattle.meaning.specs.AbstractState.{State, join, join_blurs, changed}
 use Rattle.meaning.proofs.Laws.Base.{decide, eqb_eq, eqb_ne}
-use Rattle.meaning.proofs.Laws.Forms.{Strong}
+use Rattle.meaning.specs.Laws.Forms.{Strong}
 use Rattle.meaning.specs.Loop as M
 use Rattle.meaning.specs.Loop.{Result, Status, fine, Next, at, stopped, position, to_successor, successor_blurs}
 use Rattle.meaning.proofs.Laws.Fit as F
-use Rattle.meaning.proofs.Laws.Fit.{Does, Passes, propagate_on, propagate_blurs_on}
+use Rattle.meaning.specs.Laws.Fit.{Does, Passes, propagate_on, propagate_blurs_on}
 use Rattle.absint.specs.Models.{statuses_of, next_of, SameCounts, Counted, Passed, Sound, PropagatedTo, Propagated}
 use Rattle.absint.specs.declared.run_state.RunState.{RunState}
 

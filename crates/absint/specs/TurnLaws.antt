@@ -18,13 +18,13 @@ use Rattle.meaning.specs.EntryPoints.{Running}
 use Rattle.meaning.proofs.Laws.Base.{and_l, leb_le}
 use Rattle.meaning.specs.Lists.{all}
 use Rattle.meaning.specs.Blocks.{Routine, exec, run_block, instrs_of}
-use Rattle.meaning.proofs.Laws.Forms.{Strong}
-use Rattle.meaning.proofs.Laws.Promised.{promised, within_frame, rets_placed as placed-rets}
+use Rattle.meaning.specs.Laws.Forms.{Strong}
+use Rattle.meaning.specs.Laws.Promised.{promised, within_frame, rets_placed as placed-rets}
 use Rattle.meaning.proofs.Laws.Block.{exec_keeps}
 use Rattle.meaning.specs.Loop as M
 use Rattle.meaning.specs.Loop.{most_changes, most_visits, Result, Status, fine, failed, Next, at, stopped, Run, no_block, turn, turns, run, has_ended}
 use Rattle.meaning.proofs.Laws.Fit as F
-use Rattle.meaning.proofs.Laws.Fit.{Reached}
+use Rattle.meaning.specs.Laws.Fit.{Does, Passes, Reached, propagate_on, propagate_blurs_on}
 use Rattle.meaning.proofs.Laws.Run as RunLaws
 use Rattle.meaning.specs.Verify.{run_with, run_of}
 use Rattle.listing.specs.Models.{block_of, blocks_in, routine_of}
@@ -179,12 +179,12 @@ module _ (s cs : List ℕ) (d : D.Routine) (ws : List ℕ) (t : RunState) (p : R
         record {
           step = λ x y. moved (turn State join join_blurs changed (exec q) q.blocks x) ws' r (statuses_of r) (next_of r) (suc t.visits) (t.blurred + j + h.passed.more) refl refl (h.passed.visits ∙ v) (h.passed.blurred ∙ ap (λ (k : ℕ). k + h.passed.more) y')
               (F.step_ended State join join_blurs changed (exec q) q.blocks x (kept_of d.locals ws) (statuses_of t) i t.visits t.blurred (at_next x y) inside k old j e (kept_of d.locals ws') (statuses_of r) (next_of r) h.passed.more room ran
-              (subst (λ (f : M.Block). F.Does State join join_blurs changed (exec q) q.blocks (F.propagate_on State join join_blurs changed (exec q) q.blocks f e f.successors) (kept_of d.locals ws) (set (statuses_of t) i fine) (at (suc i)) (kept_of d.locals ws') (statuses_of r) (next_of r)) same
-              (subst (λ (n : Next). F.Does State join join_blurs changed (exec q) q.blocks (F.propagate_on State join join_blurs changed (exec q) q.blocks b e b.successors) (kept_of d.locals ws) (set (statuses_of t) i fine) n (kept_of d.locals ws') (statuses_of r) (next_of r)) c
-              (subst (λ (xs : List Status). F.Does State join join_blurs changed (exec q) q.blocks (F.propagate_on State join join_blurs changed (exec q) q.blocks b e b.successors) (kept_of d.locals ws) xs (next_of u) (kept_of d.locals ws') (statuses_of r) (next_of r)) a (h.does (exec q)))))
-              (subst (λ (f : M.Block). F.Passes State join join_blurs changed (exec q) q.blocks (F.propagate_blurs_on State join join_blurs changed (exec q) q.blocks f e f.successors) (kept_of d.locals ws) (set (statuses_of t) i fine) (at (suc i)) h.passed.more) same
-              (subst (λ (n : Next). F.Passes State join join_blurs changed (exec q) q.blocks (F.propagate_blurs_on State join join_blurs changed (exec q) q.blocks b e b.successors) (kept_of d.locals ws) (set (statuses_of t) i fine) n h.passed.more) c
-              (subst (λ (xs : List Status). F.Passes State join join_blurs changed (exec q) q.blocks (F.propagate_blurs_on State join join_blurs changed (exec q) q.blocks b e b.successors) (kept_of d.locals ws) xs (next_of u) h.passed.more) a (h.passed.passes (exec q))))));
+              (subst (λ (f : M.Block). Does State join join_blurs changed (exec q) q.blocks (propagate_on State join join_blurs changed (exec q) q.blocks f e f.successors) (kept_of d.locals ws) (set (statuses_of t) i fine) (at (suc i)) (kept_of d.locals ws') (statuses_of r) (next_of r)) same
+              (subst (λ (n : Next). Does State join join_blurs changed (exec q) q.blocks (propagate_on State join join_blurs changed (exec q) q.blocks b e b.successors) (kept_of d.locals ws) (set (statuses_of t) i fine) n (kept_of d.locals ws') (statuses_of r) (next_of r)) c
+              (subst (λ (xs : List Status). Does State join join_blurs changed (exec q) q.blocks (propagate_on State join join_blurs changed (exec q) q.blocks b e b.successors) (kept_of d.locals ws) xs (next_of u) (kept_of d.locals ws') (statuses_of r) (next_of r)) a (h.does (exec q)))))
+              (subst (λ (f : M.Block). Passes State join join_blurs changed (exec q) q.blocks (propagate_blurs_on State join join_blurs changed (exec q) q.blocks f e f.successors) (kept_of d.locals ws) (set (statuses_of t) i fine) (at (suc i)) h.passed.more) same
+              (subst (λ (n : Next). Passes State join join_blurs changed (exec q) q.blocks (propagate_blurs_on State join join_blurs changed (exec q) q.blocks b e b.successors) (kept_of d.locals ws) (set (statuses_of t) i fine) n h.passed.more) c
+              (subst (λ (xs : List Status). Passes State join join_blurs changed (exec q) q.blocks (propagate_blurs_on State join join_blurs changed (exec q) q.blocks b e b.successors) (kept_of d.locals ws) xs (next_of u) h.passed.more) a (h.passed.passes (exec q))))));
           turns = n;
           fewer = let z : t.visits ≤ t.turns = p.fewer in let y : r.visits ≡ suc t.visits = h.passed.visits ∙ v in omega (arith, y, n, z);
           small = few_more r (j + h.passed.more) (omega (arith, f, z)) n (omega (arith, x, y));

@@ -8,7 +8,8 @@ use Rattle.meaning.specs.Area.{kept_of, forgotten, cleared, zeros}
 use Rattle.meaning.proofs.Laws.Area.{forgotten_law, forgotten_short, cleared_long}
 use Rattle.meaning.specs.Blocks.{Routine}
 use Rattle.meaning.specs.Loop.{at, stopped, visits, Verdict, refusal, verdict_for, verdict, verdict_at}
-use Rattle.meaning.proofs.Laws.Fit.{lowest_by, lowest_by_lem}
+use Rattle.meaning.specs.Laws.Fit.{lowest_by}
+use Rattle.meaning.proofs.Laws.Fit.{lowest_by_lem}
 use Rattle.meaning.proofs.Laws.Verify.{verify_long}
 use Rattle.meaning.specs.Listing.{Listed, read, nothing, refused, read_listing}
 use Rattle.meaning.specs.Verify as Whole

@@ -21,7 +21,6 @@ pub mod Exchange
 pub mod First
 pub mod Few
 pub mod Fit
-pub mod Forms
 pub mod Graph
 pub mod InTurn
 pub mod InTurnEdges
@@ -39,7 +38,6 @@ pub mod Pair
 pub mod PairCall
 pub mod Pass
 pub mod Place
-pub mod Promised
 pub mod Put
 pub mod Redate
 pub mod RedateRun

@@ -19,14 +19,14 @@ use Rattle.meaning.proofs.Laws.Empty as Empty
 use Rattle.meaning.proofs.Laws.Exchange.{Carried, Exchanged, Stepwise}
 use Rattle.meaning.proofs.Laws.Exchange as Exchange
 use Rattle.meaning.proofs.Laws.Few.{exec_few}
-use Rattle.meaning.proofs.Laws.Forms.{Settled}
+use Rattle.meaning.specs.Laws.Forms.{Settled}
 use Rattle.meaning.proofs.Laws.InTurnRun.{run_in_turn_lem}
 use Rattle.meaning.proofs.Laws.Listing.{accepted_promised}
 use Rattle.meaning.proofs.Laws.Offsets as Offsets
 use Rattle.meaning.proofs.Laws.Order.{record_at, Late, read_before}
 use Rattle.meaning.proofs.Laws.Order as Order
 use Rattle.meaning.proofs.Laws.Own.{times}
-use Rattle.meaning.proofs.Laws.Promised.{promised}
+use Rattle.meaning.specs.Laws.Promised.{promised}
 use Rattle.meaning.proofs.Laws.RedateRun.{redate_answered, forget, undated, verify_by}
 use Rattle.meaning.proofs.Laws.RedateRun as Redates
 use Rattle.meaning.proofs.Laws.State.{Forms}

@@ -2,9 +2,12 @@ pub mod Add
 pub mod Answer
 pub mod Area
 pub mod Cover
+pub mod Fit
+pub mod Forms
 pub mod Graph
 pub mod Pair
 pub mod Place
+pub mod Promised
 pub mod Put
 pub mod RenameStep
 pub mod Report

@@ -20,7 +20,7 @@ use Rattle.meaning.specs.Verify.{run_of, verify, answer_to}
 use Rattle.meaning.proofs.Laws.Base.{decide, and_l, and_r, and_i, eqb_eq}
 use Rattle.meaning.proofs.Laws.Listing.{Ruled, accepted_promised, ruled_block, first_none_below, Accepted, accepted, no_bytes, some_bytes, fine, ok_code, passed_first, by_records}
 use Rattle.meaning.proofs.Laws.Order.{Starts, foremost, next, Late}
-use Rattle.meaning.proofs.Laws.Promised.{promised}
+use Rattle.meaning.specs.Laws.Promised.{promised}
 use Rattle.meaning.proofs.Laws.Verify.{verify_either}
 use Rattle.meaning.specs.Loop as L
 use Rattle.meaning.specs.Listing as S

@@ -17,9 +17,9 @@ use Rattle.meaning.specs.Steps.{Machine, Instr, step, is_ret}
 use Rattle.meaning.specs.Blocks.{start_machine, machine_at, settle, end_of, finish, run_from, instrs_of, Routine, run_block, exec}
 use Rattle.meaning.specs.Loop.{Result, Block, no_block}
 use Rattle.meaning.proofs.Laws.Base.{decide, eqb_eq, leb_le, leb_gt, eqb_self, both, eqb_no, and_l, and_r, and_i}
-use Rattle.meaning.proofs.Laws.Forms.{Strong, Open, Settled}
+use Rattle.meaning.specs.Laws.Forms.{Strong, Open, Settled}
 use Rattle.meaning.proofs.Laws.Own.{times, count_no, count_le, count_yes, Owns, owns_held, owns_root, owns_once}
-use Rattle.meaning.proofs.Laws.Promised.{within_frame, rets_placed, promised}
+use Rattle.meaning.specs.Laws.Promised.{within_frame, rets_placed, promised}
 use Rattle.meaning.proofs.Laws.Rename.{canonical_form, canonical_holds}
 use Rattle.meaning.proofs.Laws.Running.{Meets, met, broke, barred}
 use Rattle.meaning.proofs.Laws.State.{absent≢ref, value≢ref, ref_inj, name_le}

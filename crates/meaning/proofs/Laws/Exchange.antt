@@ -12,7 +12,7 @@ use Rattle.meaning.specs.BorrowGraph.{Name, Graph, holds, held, set_at, well_for
 use Rattle.meaning.specs.AbstractState.{Local, absent, ref, count1, State, new_name_of, canonical}
 use Rattle.meaning.proofs.Laws.Base.{decide, both, eqb_self, eqb_no, or_l, or_r}
 use Rattle.meaning.proofs.Laws.Borrow.{any_place}
-use Rattle.meaning.proofs.Laws.Forms.{Open, Settled}
+use Rattle.meaning.specs.Laws.Forms.{Open, Settled}
 use Rattle.meaning.proofs.Laws.Graph.{wf→inv}
 use Rattle.meaning.proofs.Laws.Own.{times, in_front, count_yes, count_no}
 use Rattle.meaning.proofs.Laws.Remap.{changed_apart, remap_ok, formed, sound, made}

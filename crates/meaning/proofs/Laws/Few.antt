@@ -22,9 +22,9 @@ use Rattle.meaning.proofs.Laws.Add.{keep_few}
 use Rattle.meaning.proofs.Laws.Base.{guard_ok, and_then_ok, leb_le, decide, and_l, and_r}
 use Rattle.meaning.proofs.Laws.Block.{Enters, enters, at_good}
 use Rattle.meaning.proofs.Laws.Blurs.{newly_few}
-use Rattle.meaning.proofs.Laws.Forms.{Strong}
+use Rattle.meaning.specs.Laws.Forms.{Strong}
 use Rattle.meaning.proofs.Laws.Graph.{limit_ok}
-use Rattle.meaning.proofs.Laws.Promised.{promised, within_frame, rets_placed}
+use Rattle.meaning.specs.Laws.Promised.{promised, within_frame, rets_placed}
 use Rattle.meaning.proofs.Laws.Running.{Meets, met}
 use Rattle.meaning.proofs.Laws.Step.{names_le, locals_le, Fine, good_less, step_fine, any_ret}
 

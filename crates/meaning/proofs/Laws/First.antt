@@ -6,7 +6,7 @@ use Rattle.meaning.specs.Lists.{all}
 use Rattle.meaning.specs.BorrowGraph.{ascending, holds, well_formed, in_order}
 use Rattle.meaning.specs.AbstractState.{Token, of_value, of_ref, first_locals, absent, ref, first_names, first_state}
 use Rattle.meaning.proofs.Laws.Base.{and_i, le_leb, or_cases, eqb_eq, or_l, or_r, eqb_self}
-use Rattle.meaning.proofs.Laws.Forms.{Strong}
+use Rattle.meaning.specs.Laws.Forms.{Strong}
 use Rattle.meaning.proofs.Laws.State.{absent≢ref, value≢ref, ref_inj}
 
 first_count : (i n : ℕ) (ts : List Token) → length (first_locals i n ts) ≡ n

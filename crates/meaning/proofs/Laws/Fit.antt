@@ -13,11 +13,7 @@ use Rattle.std.proofs.Math.Seq.{set_out}
 use Rattle.meaning.specs.Answers.{Ans, ok, refuse}
 use Rattle.meaning.specs.Loop.{Status, fine, Slot, blank, Result, ended, returned, violated, refused, Block, failed, Next, at, stopped, Run, Propagation, position, no_block, after_change, after_join, to_kept, to_successor, propagate, kept_blurs, successor_blurs, propagate_blurs, mark, after_block, visit_block, turn_at, turn, turns, start_slots, Failure, lower, lowest}
 use Rattle.meaning.proofs.Laws.Base.{decide, eqb_eq, eqb_ne, T→eq}
-
--- past the last slot no state is kept
-pub record Fits {St : Type 0} (ks : ℕ → Option St) (xs : List Status) (ss : List (Slot St)) : Type 0 where
-  pub kept : (j : ℕ) → ks j ≡ (get_or ss j blank).kept
-  pub status : (j : ℕ) → j < length ss → get_or xs j fine ≡ (get_or ss j blank).status
+use Rattle.meaning.specs.Laws.Fit.{Fits, Does as DoesOn, Passes as PassesOn, propagate_on as sent_on, propagate_blurs_on as blurs_on, Reached as ReachedOn, lowest_by}
 
 module _ {St : Type 0} where
   -- a slot gets a state, or (its state as it was) a status
@@ -42,33 +38,41 @@ module _ {St : Type 0} where
           get_or-set_other xs j i x fine (eqb_ne e) ∙ f.status i l ∙ sym (ap (λ (t : Slot St). t.status) (get_or-set_other ss j i s blank (eqb_ne e))))
 
 module _ (St : Type 0) (join : St → St → Ans St) (join_blurs : St → St → ℕ) (changed : St → St → Bool) (exec : ℕ → St → Result St) (blocks : List Block) where
-  -- a program that does on its states and statuses what f does on the slots
-  unfoldable pub Does : (List (Slot St) → Next → Propagation St) → (ℕ → Option St) → List Status → Next → (ℕ → Option St) → List Status → Next → Type 0
-  Does f ks xs n ks' xs' n' = (ss : List (Slot St)) → length ss ≡ length blocks → Fits ks xs ss → (length (f ss n).slots ≡ length blocks) × Fits ks' xs' (f ss n).slots × (n' ≡ (f ss n).next)
+  -- the words, of this loop
+  abbrev Does : (List (Slot St) → Next → Propagation St) → (ℕ → Option St) → List Status → Next → (ℕ → Option St) → List Status → Next → Type 0
+  Does = DoesOn St join join_blurs changed exec blocks
+
+  abbrev Passes : (List (Slot St) → Next → ℕ) → (ℕ → Option St) → List Status → Next → ℕ → Type 0
+  Passes = PassesOn St join join_blurs changed exec blocks
+
+  abbrev propagate_on : Block → St → List ℕ → List (Slot St) → Next → Propagation St
+  propagate_on = sent_on St join join_blurs changed exec blocks
+
+  abbrev propagate_blurs_on : Block → St → List ℕ → List (Slot St) → Next → ℕ
+  propagate_blurs_on = blurs_on St join join_blurs changed exec blocks
+
+  abbrev Reached : Run St → (ℕ → Option St) → List Status → Next → ℕ → ℕ → Type 0
+  Reached = ReachedOn St join join_blurs changed exec blocks
 
   pub does_both : (f g : List (Slot St) → Next → Propagation St) (ks ks' ks'' : ℕ → Option St) (xs xs' xs'' : List Status) (n n' n'' : Next)
       → Does f ks xs n ks' xs' n' → Does g ks' xs' n' ks'' xs'' n'' → Does (λ ss m. g (f ss m).slots (f ss m).next) ks xs n ks'' xs'' n''
-  unfolding Does
+  unfolding DoesOn
   does_both f g ks ks' ks'' xs xs' xs'' n n' n'' a b ss l h =
       let p = a ss l h in
       let q = b (f ss n).slots p.0 p.1 in
       subst (λ (m : Next). (length (g (f ss n).slots m).slots ≡ length blocks) × Fits ks'' xs'' (g (f ss n).slots m).slots × (n'' ≡ (g (f ss n).slots m).next)) p.2 q
-
-  -- m is the number that f passes up
-  unfoldable pub Passes : (List (Slot St) → Next → ℕ) → (ℕ → Option St) → List Status → Next → ℕ → Type 0
-  Passes f ks xs n m = (ss : List (Slot St)) → length ss ≡ length blocks → Fits ks xs ss → m ≡ f ss n
 
   module _ (b : Block) (t : St) (e : ℕ) (ks : ℕ → Option St) (xs : List Status) where
     abbrev j : ℕ
     j = position blocks e
 
     pub successor_stopped : (r p : ℕ) → Does (to_successor St join join_blurs changed exec blocks b t e) ks xs (stopped r p) ks xs (stopped r p)
-    unfolding Does
+    unfolding DoesOn
     successor_stopped r p ss l h = (l, h, refl)
 
     -- no block has the entry
     pub successor_nowhere : (n : ℕ) → length blocks ≤ j → Does (to_successor St join join_blurs changed exec blocks b t e) ks xs (at n) ks xs (at n)
-    unfolding Does
+    unfolding DoesOn
     successor_nowhere n o ss l h = go (get_or ss j blank).kept refl
       where
         out : (s : Slot St) → set ss j s ≡ ss
@@ -85,7 +89,7 @@ module _ (St : Type 0) (join : St → St → Ans St) (join_blurs : St → St →
     -- the block has no kept state: it takes the end state over
     pub successor_fresh : (n : ℕ) (ks' : ℕ → Option St) → j < length blocks → length blocks ≤ length xs → ks j ≡ none → ks' j ≡ some t → ((i : ℕ) → i ≢ j → ks' i ≡ ks i)
         → Does (to_successor St join join_blurs changed exec blocks b t e) ks xs (at n) ks' (set xs j fine) (at n)
-    unfolding Does
+    unfolding DoesOn
     successor_fresh n ks' m w q new others ss l h = go (get_or ss j blank).kept (sym (h.kept j) ∙ q)
       where
         go : (k : Option St) → k ≡ none
@@ -99,13 +103,13 @@ module _ (St : Type 0) (join : St → St → Ans St) (join_blurs : St → St →
       joined f ss h k = ap (λ (o : Option St). to_kept St join join_blurs changed exec blocks b t e j ss n o) (sym (h.kept j) ∙ q) ∙ sym (k (join s t))
 
       pub successor_refused : (r : ℕ) → join s t ≡ refuse r → Does (to_successor St join join_blurs changed exec blocks b t e) ks xs (at n) ks xs (stopped r b.exit)
-      unfolding Does
+      unfolding DoesOn
       successor_refused r d ss l h =
           let z : to_successor St join join_blurs changed exec blocks b t e ss (at n) ≡ record { slots = ss; next = stopped r b.exit } = joined (after_join St join join_blurs changed exec blocks b e j ss n s) ss h (λ a. refl) ∙ ap (after_join St join join_blurs changed exec blocks b e j ss n s) d in
           subst (λ (a : Propagation St). (length a.slots ≡ length blocks) × Fits ks xs a.slots × (stopped r b.exit ≡ a.next)) (sym z) (l, h, refl)
 
       pub successor_same : (k : St) → join s t ≡ ok k → changed s k ≡ false → Does (to_successor St join join_blurs changed exec blocks b t e) ks xs (at n) ks xs (at n)
-      unfolding Does
+      unfolding DoesOn
       successor_same k d c ss l h =
           let z : to_successor St join join_blurs changed exec blocks b t e ss (at n) ≡ record { slots = ss; next = at n } = joined (after_join St join join_blurs changed exec blocks b e j ss n s) ss h (λ a. refl)
           ∙ ap (after_join St join join_blurs changed exec blocks b e j ss n s) d ∙ ap (after_change St join join_blurs changed exec blocks b e j ss n k) c in
@@ -113,7 +117,7 @@ module _ (St : Type 0) (join : St → St → Ans St) (join_blurs : St → St →
 
       pub successor_changed : (k : St) (ks' : ℕ → Option St) → length blocks ≤ length xs → join s t ≡ ok k → changed s k ≡ true → ks' j ≡ some k → ((i : ℕ) → i ≢ j → ks' i ≡ ks i)
           → Does (to_successor St join join_blurs changed exec blocks b t e) ks xs (at n) ks' (set xs j fine) (at (cond (leb e b.entry) j n))
-      unfolding Does
+      unfolding DoesOn
       successor_changed k ks' w d c new others ss l h =
           let u : Slot St = record { kept = some k; status = fine; changes = suc (get_or ss j blank).changes } in
           let z : to_successor St join join_blurs changed exec blocks b t e ss (at n) ≡ record { slots = set ss j u; next = at (cond (leb e b.entry) j n) } = joined
@@ -125,54 +129,48 @@ module _ (St : Type 0) (join : St → St → Ans St) (join_blurs : St → St →
   -- the sets that its join blurs
   module _ (t : St) (e : ℕ) (ks : ℕ → Option St) (xs : List Status) where
     pub blurs_stopped : (r p : ℕ) → Passes (successor_blurs St join join_blurs changed exec blocks t e) ks xs (stopped r p) 0
-    unfolding Passes
+    unfolding PassesOn
     blurs_stopped r p ss l h = refl
 
     pub blurs_nowhere : (n : ℕ) → length blocks ≤ position blocks e → Passes (successor_blurs St join join_blurs changed exec blocks t e) ks xs (at n) 0
-    unfolding Passes
+    unfolding PassesOn
     blurs_nowhere n o ss l h = ap (λ (s : Slot St). kept_blurs St join join_blurs changed exec blocks t s.kept) (sym (get_or-eq_default ss blank (omega (arith, l, o))))
 
     pub blurs_fresh : (n : ℕ) → ks (position blocks e) ≡ none → Passes (successor_blurs St join join_blurs changed exec blocks t e) ks xs (at n) 0
-    unfolding Passes
+    unfolding PassesOn
     blurs_fresh n q ss l h = ap (kept_blurs St join join_blurs changed exec blocks t) (sym q ∙ h.kept (position blocks e))
 
     pub blurs_kept : (n : ℕ) (s : St) → ks (position blocks e) ≡ some s → Passes (successor_blurs St join join_blurs changed exec blocks t e) ks xs (at n) (join_blurs s t)
-    unfolding Passes
+    unfolding PassesOn
     blurs_kept n s q ss l h = ap (kept_blurs St join join_blurs changed exec blocks t) (sym q ∙ h.kept (position blocks e))
 
   -- ---- to the successors as listed
 
-  abbrev pub propagate_on : Block → St → List ℕ → List (Slot St) → Next → Propagation St
-  propagate_on b t es ss n = propagate St join join_blurs changed exec blocks b t es (record { slots = ss; next = n })
-
-  abbrev pub propagate_blurs_on : Block → St → List ℕ → List (Slot St) → Next → ℕ
-  propagate_blurs_on b t es ss n = propagate_blurs St join join_blurs changed exec blocks b t es (record { slots = ss; next = n })
-
   module _ (b : Block) (t : St) where
     pub propagate_none : (ks : ℕ → Option St) (xs : List Status) (n : Next) → Does (propagate_on b t []) ks xs n ks xs n
-    unfolding Does propagate
+    unfolding DoesOn propagate
     propagate_none ks xs n ss l h = (l, h, refl)
 
     pub propagate_one : (e : ℕ) (ks ks' : ℕ → Option St) (xs xs' : List Status) (n n' : Next) → Does (to_successor St join join_blurs changed exec blocks b t e) ks xs n ks' xs' n' → Does (propagate_on b t (e ∷ [])) ks xs n ks' xs' n'
-    unfolding Does propagate
+    unfolding DoesOn propagate
     propagate_one e ks ks' xs xs' n n' d = d
 
     pub propagate_two : (e d : ℕ) (ks ks' ks'' : ℕ → Option St) (xs xs' xs'' : List Status) (n n' n'' : Next) → Does (to_successor St join join_blurs changed exec blocks b t e) ks xs n ks' xs' n' → Does (to_successor St join join_blurs changed exec blocks b t d) ks' xs' n' ks'' xs'' n''
         → Does (propagate_on b t (e ∷ d ∷ [])) ks xs n ks'' xs'' n''
-    unfolding Does propagate
+    unfolding DoesOn propagate
     propagate_two e d ks ks' ks'' xs xs' xs'' n n' n'' p q = does_both (to_successor St join join_blurs changed exec blocks b t e) (to_successor St join join_blurs changed exec blocks b t d) ks ks' ks'' xs xs' xs'' n n' n'' p q
 
     pub propagate_blurs_none : (ks : ℕ → Option St) (xs : List Status) (n : Next) → Passes (propagate_blurs_on b t []) ks xs n 0
-    unfolding Passes propagate_blurs
+    unfolding PassesOn propagate_blurs
     propagate_blurs_none ks xs n ss l h = refl
 
     pub propagate_blurs_one : (e : ℕ) (ks : ℕ → Option St) (xs : List Status) (n : Next) (m : ℕ) → Passes (successor_blurs St join join_blurs changed exec blocks t e) ks xs n m → Passes (propagate_blurs_on b t (e ∷ [])) ks xs n m
-    unfolding Passes propagate_blurs
+    unfolding PassesOn propagate_blurs
     propagate_blurs_one e ks xs n m d ss l h = let k : m ≡ successor_blurs St join join_blurs changed exec blocks t e ss n = d ss l h in omega (arith, k)
 
     pub propagate_blurs_two : (e d : ℕ) (ks ks' : ℕ → Option St) (xs xs' : List Status) (n n' : Next) (m₁ m₂ : ℕ) → Does (to_successor St join join_blurs changed exec blocks b t e) ks xs n ks' xs' n'
         → Passes (successor_blurs St join join_blurs changed exec blocks t e) ks xs n m₁ → Passes (successor_blurs St join join_blurs changed exec blocks t d) ks' xs' n' m₂ → Passes (propagate_blurs_on b t (e ∷ d ∷ [])) ks xs n (m₁ + m₂)
-    unfolding Does Passes propagate_blurs
+    unfolding DoesOn PassesOn propagate_blurs
     propagate_blurs_two e d ks ks' xs xs' n n' m₁ m₂ f p q ss l h =
         let a : Propagation St = to_successor St join join_blurs changed exec blocks b t e ss n in
         let g = f ss l h in
@@ -181,13 +179,6 @@ module _ (St : Type 0) (join : St → St → Ans St) (join_blurs : St → St →
         omega (arith, first, second)
 
   -- ---- one step of the loop; v counts the visits, b sums the sets blurred
-
-  pub record Reached (r : Run St) (ks : ℕ → Option St) (xs : List Status) (n : Next) (v b : ℕ) : Type 0 where
-    pub same_length : length r.slots ≡ length blocks
-    pub fits : Fits ks xs r.slots
-    pub next : n ≡ r.next
-    pub visited : v ≡ length r.trail
-    pub blurred : b ≡ r.blurs
 
   module _ (r : Run St) (ks : ℕ → Option St) (xs : List Status) (i v b : ℕ) (a : Reached r ks xs (at i) v b) (m : i < length blocks) where
     abbrev kept : Option St
@@ -243,7 +234,7 @@ module _ (St : Type 0) (join : St → St → Ans St) (join_blurs : St → St →
       pub step_ended : (k : ℕ) (t : St) (ks' : ℕ → Option St) (xs' : List Status) (n' : Next) (m : ℕ) → length blocks ≤ length xs → exec i s ≡ ended k t
           → Does (propagate_on (get_or blocks i no_block) t (get_or blocks i no_block).successors) ks (set xs i fine) (at (suc i)) ks' xs' n'
           → Passes (propagate_blurs_on (get_or blocks i no_block) t (get_or blocks i no_block).successors) ks (set xs i fine) (at (suc i)) m → Reached (turn St join join_blurs changed exec blocks r) ks' xs' n' (suc v) (b + k + m)
-      unfolding Does Passes
+      unfolding DoesOn PassesOn
       step_ended k t ks' xs' n' m w d f p =
           let ss : List (Slot St) = mark St join join_blurs changed exec blocks r.slots i fine in
           let g = f ss (marked_length fine) (marked fine w) in
@@ -296,11 +287,6 @@ module _ (St : Type 0) (join : St → St → Ans St) (join_blurs : St → St →
     }
 
 -- ---- the verdict, by the statuses
-
-unfoldable pub lowest_by : List Block → List Status → Option Failure → Option Failure
-lowest_by [] xs f = f
-lowest_by (x ∷ bs) [] f = f
-lowest_by (x ∷ bs) (y ∷ xs) f = lowest_by bs xs (lower x.entry y f)
 
 pub lowest_by_lem : {St : Type 0} (bs : List Block) (xs : List Status) (ss : List (Slot St)) (f : Option Failure) → length ss ≤ length xs → ((j : ℕ) → j < length ss → get_or xs j fine ≡ (get_or ss j blank).status) → length ss ≡ length bs → lowest_by bs xs f ≡ lowest bs ss f
 unfolding lowest_by lowest

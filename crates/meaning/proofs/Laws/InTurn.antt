@@ -16,7 +16,7 @@ use Rattle.meaning.proofs.Laws.Base.{both, or_cases, decide, and_l, and_r, eqb_n
 use Rattle.meaning.proofs.Laws.Block.{local_found, owns_open}
 use Rattle.meaning.proofs.Laws.Borrow.{ascending_place}
 use Rattle.meaning.proofs.Laws.Call.{ascending_keep}
-use Rattle.meaning.proofs.Laws.Forms.{Open}
+use Rattle.meaning.specs.Laws.Forms.{Open}
 use Rattle.meaning.proofs.Laws.Canon.{Lone, edges_ext, set_ok_lone}
 use Rattle.meaning.proofs.Laws.Graph.{at_or_empty, Inv, wf→inv}
 use Rattle.meaning.proofs.Laws.InTurnEdges.{parents_step, children_turn}

@@ -16,9 +16,9 @@ use Rattle.meaning.specs.Loop.{Result, Block, no_block, blank, Next, at, stopped
 use Rattle.meaning.specs.Verify.{run_with}
 use Rattle.meaning.proofs.Laws.Base.{decide}
 use Rattle.meaning.proofs.Laws.Block.{Enters, enters, run_relates, run_to_lem}
-use Rattle.meaning.proofs.Laws.Forms.{Strong}
+use Rattle.meaning.specs.Laws.Forms.{Strong}
 use Rattle.meaning.proofs.Laws.InTurn.{remapped_canonical}
-use Rattle.meaning.proofs.Laws.Promised.{promised}
+use Rattle.meaning.specs.Laws.Promised.{promised}
 use Rattle.meaning.proofs.Laws.Run.{KeptOk, RunOk, step_ok, first_ok}
 use Rattle.meaning.proofs.Laws.Step.{Good}
 use Rattle.meaning.specs.Refinement.InTurn.{crosses, remapped, run_to, end_in_turn, finish_in_turn, exec_in_turn, run_in_turn}

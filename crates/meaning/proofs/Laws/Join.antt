@@ -9,7 +9,7 @@ use Rattle.meaning.specs.AbstractState.{Local, absent, value, ref, join_local, j
 use Rattle.meaning.specs.EntryPoints.{local_names}
 use Rattle.meaning.proofs.Laws.Base.{eqb_eq}
 use Rattle.meaning.proofs.Laws.Block.{strong_owns}
-use Rattle.meaning.proofs.Laws.Forms.{Strong}
+use Rattle.meaning.specs.Laws.Forms.{Strong}
 use Rattle.meaning.proofs.Laws.Own.{fair, times, times_append, Owns, owns_as, release_fair, release_own, join_graphs_fair}
 use Rattle.meaning.proofs.Laws.State.{absent≢ref, Joined, join_law, join_form, join_local_lem, join_rest}
 

@@ -21,7 +21,7 @@ use Rattle.meaning.specs.Blocks.{instrs_of, Routine}
 use Rattle.meaning.specs.Loop.{Block, no_block}
 use Rattle.meaning.specs.Listing.{kind_at, body_at, next_at, locals_of, Listed, read, fault_at, Places, full_for, put_at, if_fine, if_not, places_from, unless, whole_at, kind_in_use, fields_of, fits_body, within_limits, Field, field_width, field_right, field_within, byte, word, words, tokens, frame, fields_in, is_token, nothing, refused, no_places, some_code, Row, instructions, call_of, local_index, token_as, instr_in, instr_of, instr_at, first_of, overlap, repeats, faulty_successor, faulty_block, ends_block, stray_ret, routine_at, read_places, after_records, read_listing}
 use Rattle.meaning.proofs.Laws.Base.{and_l, and_r, leb_le, and_i, all_append, leb_gt, eqb_eq, decide, eqb_ne, not_true}
-use Rattle.meaning.proofs.Laws.Promised.{within_frame, rets_placed, promised}
+use Rattle.meaning.specs.Laws.Promised.{within_frame, rets_placed, promised}
 
 -- ---- the records in turn
 

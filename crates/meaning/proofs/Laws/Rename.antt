@@ -20,7 +20,7 @@ use Rattle.meaning.proofs.Laws.Borrow.{holds_place, length_place, ascending_plac
 use Rattle.meaning.proofs.Laws.Call.{holds_all, ends_not}
 use Rattle.meaning.proofs.Laws.Canon.{same_pair, set_at_hit, set_at_miss}
 use Rattle.meaning.proofs.Laws.Change.{eq_local_eq}
-use Rattle.meaning.proofs.Laws.Forms.{Open, Settled}
+use Rattle.meaning.specs.Laws.Forms.{Open, Settled}
 use Rattle.meaning.proofs.Laws.Graph.{lt_pair_trans, eq_pair_self, not_before_self, eq_pair_l, eq_pair_r, at_or_empty, empty_ok, Inv, wf→inv, inv→wf, room}
 use Rattle.meaning.proofs.Laws.State.{absent≢ref, value≢ref, ref_inj}
 

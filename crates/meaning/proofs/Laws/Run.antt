@@ -20,10 +20,10 @@ use Rattle.meaning.specs.Verify.{run_with, run_of, verify}
 use Rattle.meaning.proofs.Laws.Base.{decide, and_l, and_r, eqb_eq, eqb_ne, leb_le, leb_gt}
 use Rattle.meaning.proofs.Laws.Block.{Ends, ends, leaves, breaks, bars, exec_ends, exec_keeps}
 use Rattle.meaning.proofs.Laws.First.{first_strong}
-use Rattle.meaning.proofs.Laws.Forms.{Strong}
+use Rattle.meaning.specs.Laws.Forms.{Strong}
 use Rattle.meaning.proofs.Laws.Join.{Sure, sure, unsure, join_sure, join_strong}
 use Rattle.meaning.proofs.Laws.Listing.{accepted_promised}
-use Rattle.meaning.proofs.Laws.Promised.{promised, within_frame, rets_placed}
+use Rattle.meaning.specs.Laws.Promised.{promised, within_frame, rets_placed}
 use Rattle.meaning.proofs.Laws.State.{rank, rank_le, join_law, change_lt}
 use Rattle.meaning.proofs.Laws.Loop.{Bounds}
 use Rattle.meaning.proofs.Laws.Loop as Laws

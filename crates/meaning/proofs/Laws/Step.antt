@@ -16,7 +16,7 @@ use Rattle.meaning.specs.EntryPoints.{local_names, operand_names, local_of, Runn
 use Rattle.meaning.specs.Steps.{Machine, Instr, Pop, CopyLoc, MoveLoc, StLoc, FreezeRef, Compare, ReadRef, WriteRef, BorrowLoc, BorrowField, BorrowGlobal, MoveFrom, Call, Ret, Values, MoveTo, VectorOp, BorrowElement, pop, pop_ref, pop_value, pop_values, pop_many, push, pushed, push_all, push_new, unchanged, step_on, step, is_ret}
 use Rattle.meaning.proofs.Laws.Base.{decide, leb_le, leb_gt, eqb_self}
 use Rattle.meaning.proofs.Laws.Own.{times, count_yes, owns_room, times_append}
-use Rattle.meaning.proofs.Laws.Promised.{within_frame}
+use Rattle.meaning.specs.Laws.Promised.{within_frame}
 use Rattle.meaning.proofs.Laws.Running.{Keeps, Meets, met, broke, barred, meets_done, meets_refused, meets_then, meets_fails, meets_needs, keeps_less, keeps_as, Uses, known_keeps, known_root, borrow_keeps, strong_keeps, release_keeps, Made, value_for_keeps, release_value_keeps, freeze_ref_keeps, comparison_keeps, read_ref_keeps, write_ref_keeps, borrow_loc_keeps, borrow_field_keeps, borrow_global_keeps, move_from_keeps, vector_op_keeps, element_keeps, call_keeps, ret_meets}
 use Rattle.meaning.proofs.Laws.State.{absent≢ref}
 

@@ -4,7 +4,7 @@ use Prim.Native.Nat.{◌+◌, ◌<◌}
 use lib.ListN.{length, drop, get_or}
 use Rattle.meaning.proofs.Laws.Array.{length_of_map}
 use Rattle.meaning.specs.Loop.{Block, Status}
-use Rattle.meaning.proofs.Laws.Fit.{lowest_by}
+use Rattle.meaning.specs.Laws.Fit.{lowest_by}
 use Rattle.listing.specs.Models.{block_of, blocks_in}
 use Rattle.absint.specs.Models.{statuses_of, status_of, failure_of}
 use Rattle.absint.specs.LoopLaws.{past_block, past_status, blocks_step, blocks_end, statuses_step, statuses_count, lowest_step, lowest_all, verdict_found, verdict_none}

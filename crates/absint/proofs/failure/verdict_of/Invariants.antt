@@ -2,7 +2,7 @@ use mathlib.Core.Path.{◌≡◌}
 use mathlib.Core.Option.{none}
 use Prim.Native.Nat.{◌-◌}
 use lib.ListN.{drop}
-use Rattle.meaning.proofs.Laws.Fit.{lowest_by}
+use Rattle.meaning.specs.Laws.Fit.{lowest_by}
 use Rattle.listing.specs.Models.{blocks_in}
 use Rattle.absint.specs.Models.{statuses_of, failure_of}
 use Rattle.absint.proofs.failure.verdict_of.Given as goal

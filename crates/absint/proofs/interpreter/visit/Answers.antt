@@ -5,7 +5,7 @@ use mathlib.Core.List.{List, [], ◌∷◌}
 use lib.ListN.{length, take, set}
 use Rattle.meaning.specs.AbstractState.{State}
 use Rattle.meaning.specs.Blocks.{Routine, exec}
-use Rattle.meaning.proofs.Laws.Forms.{Strong}
+use Rattle.meaning.specs.Laws.Forms.{Strong}
 use Rattle.meaning.specs.Loop.{Status, fine, failed, at, Result, Block}
 use Rattle.listing.specs.Models.{block_of, blocks_in, routine_of}
 use Rattle.borrow_graph.specs.Models.{Tells, graph_in}

@@ -4,7 +4,7 @@ use Rattle.meaning.specs.AbstractState.{join, join_blurs, changed}
 use Rattle.meaning.specs.Area.{kept_of}
 use Rattle.meaning.specs.Answers.{ok}
 use Rattle.meaning.specs.EntryPoints.{Running}
-use Rattle.meaning.proofs.Laws.Forms.{Strong}
+use Rattle.meaning.specs.Laws.Forms.{Strong}
 use Rattle.meaning.proofs.Laws.Join.{join_strong}
 use Rattle.references.specs.ModelLaws.{told_yes, told_no}
 use Rattle.listing.specs.Models.{block_of}
