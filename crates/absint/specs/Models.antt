@@ -1,5 +1,6 @@
 -- What the values of the code stand for in the definitions, and what the functions of the loop promise.
-use Rattle.std.specs.Prelude.{ℕ, ◌+◌, ◌*◌, ◌≤◌, ◌<◌, ◌≡◌, true, false, cond, List, map, length, drop, get_or}
+use Rattle.std.specs.Prelude.{ℕ, ◌+◌, ◌*◌, ◌≤◌, ◌<◌, ◌≡◌, true, false, cond, List, map, length, drop, get_or, Some, None}
+use Rattle.std.specs.Prelude as P
 use Rattle.std.proofs.Math.Option.{Option, none, some}
 use Rattle.meaning.specs.Limits.{max_blocks, area_words, u32_most}
 use Rattle.meaning.specs.Area.{kept_of, forgotten}
@@ -8,29 +9,36 @@ use Rattle.meaning.specs.Blocks.{Routine, exec}
 use Rattle.meaning.specs.Laws.Forms.{Strong}
 use Rattle.meaning.specs.Laws.Promised.{promised}
 use Rattle.meaning.specs.Loop as M
-use Rattle.meaning.specs.Loop.{Result, Status, fine, failed, Next, at, stopped, Run, turn, Failure, Verdict, accept, violation, refusal, empty_cell, verdict_for, to_successor, successor_blurs}
+use Rattle.meaning.specs.Loop.{Result, Status, fine, failed, Next, at, stopped, Run, turn, Verdict, accept, violation, refusal, empty_cell, verdict_for, to_successor, successor_blurs}
 use Rattle.meaning.specs.Listing.{read_listing, read, nothing, refused}
 use Rattle.meaning.specs.Verify.{Answered, run_of, kept_by}
 use Rattle.meaning.specs.Laws.Fit.{Does, Passes, Reached, propagate_on, propagate_blurs_on, lowest_by}
 use Rattle.listing.specs.Models.{routine_of}
 use Rattle.listing.specs.declared.Routine as D
 use Rattle.abstract_state.specs.Models.{Words, words, Fits, state_of}
-use Rattle.absint.specs.declared.kept.Start.{Start}
-use Rattle.absint.specs.declared.run_state.BlockPostcondition.{BlockPostcondition}
+use Rattle.abstract_state.specs.declared.state.AbstractState.{AbstractState}
+use Rattle.absint.specs.declared.run_state.Failure.{Failure}
+use Rattle.absint.specs.declared.run_state.Stop.{Stop}
 use Rattle.absint.specs.declared.run_state.RunState.{RunState}
-use Rattle.absint.specs.declared.failure.LowestFailure.{LowestFailure}
+use Rattle.absint.specs.declared.failure.FailedBlock.{FailedBlock}
 use Rattle.absint.specs.declared.Ruling.{Ruling}
 use Rattle.absint.specs.declared.Ruling.TheVariants.{Accept, Violation, Refused, Empty}
 use Rattle.absint.specs.declared.Verdict as W
 
-abbrev pub status_of : BlockPostcondition → Status
-status_of x = cond x.failed (failed x.code x.offset.0 x.borrowed_at.0) fine
+abbrev pub status_of : P.Option Failure → Status
+status_of (Some x) = failed x.code x.offset.0 x.borrowed_at.0
+status_of None = fine
 
 unfoldable pub statuses_of : RunState → List Status
 statuses_of t = map status_of t.statuses
 
+-- who is next: i, unless the run was stopped
+abbrev pub next_by : ℕ → P.Option Stop → Next
+next_by i (Some r) = stopped r.number r.place.0
+next_by i None = at i
+
 abbrev pub next_of : RunState → Next
-next_of t = cond t.stopped (stopped t.number t.place.0) (at t.next)
+next_of t = next_by t.next t.stopped
 
 -- ---- the verdict
 
@@ -43,11 +51,17 @@ ruling_of Empty = empty_cell
 abbrev pub verdict_of : W.Verdict → Answered
 verdict_of v = record { verdict = ruling_of v.ruling; visits = v.visits; blurred = v.blurred }
 
-abbrev pub failure_of : LowestFailure → Option Failure
-failure_of l = cond l.found (some (record { entry = l.entry.0; code = l.code; offset = l.offset.0; borrowed_at = l.borrowed_at.0 })) none
+abbrev pub failure_of : P.Option FailedBlock → Option M.Failure
+failure_of (Some b) = some (record { entry = b.entry.0; code = b.failure.code; offset = b.failure.offset.0; borrowed_at = b.failure.borrowed_at.0 })
+failure_of None = none
+
+-- the refusal that stopped the run, else v
+abbrev pub verdict_by : Verdict → P.Option Stop → Verdict
+verdict_by v (Some r) = refusal r.number r.place.0
+verdict_by v None = v
 
 abbrev pub verdict_in : List M.Block → RunState → Verdict
-verdict_in bs t = cond t.stopped (refusal t.number t.place.0) (verdict_for (lowest_by bs (statuses_of t) none))
+verdict_in bs t = verdict_by (verdict_for (lowest_by bs (statuses_of t) none)) t.stopped
 
 -- ---- what the functions promise: `ws` the area before, `ws'` after
 
@@ -77,9 +91,9 @@ pub record From (k : Option State) (l : ℕ) (x : Words) : Type 0 where
   pub locals : x.state.num_locals ≡ l
 
 -- the same, or word that there is none
-pub record StartsFrom (k : Option State) (l : ℕ) (ls ns : List ℕ) (es : List (List ℕ)) (r : Start) : Type 0 where
-  pub there : r.present ≡ true → From k l (words ls ns es r.state)
-  pub absent : r.present ≡ false → k ≡ none
+abbrev pub StartsFrom : Option State → ℕ → List ℕ → List ℕ → List (List ℕ) → P.Option AbstractState → Type 0
+StartsFrom k l ls ns es (Some s) = From k l (words ls ns es s)
+StartsFrom k l ls ns es None = k ≡ none
 
 -- more than the turns of a run within the limits (TurnLaws, `most_few`), so that its counts fit their 32 bits
 abbrev pub turns_end : ℕ
@@ -145,7 +159,7 @@ module _ (s cs : List ℕ) (d : D.Routine) where
     pub blocks : d.block_count ≤ max_blocks
     pub count : length the_routine.blocks ≡ d.block_count
     pub area : area_words ≤ length ws
-    pub going : t.stopped ≡ false
+    pub going : t.stopped ≡ None
     pub within : t.next < d.block_count
     pub sound : Sound d.locals ws
     pub few : t.turns < turns_end

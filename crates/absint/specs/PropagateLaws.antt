@@ -1,5 +1,7 @@
 -- An end state propagated: what each way through the code leaves, as the definitions have it.
-use Rattle.std.specs.Prelude.{ℕ, zero, suc, ◌+◌, ◌-◌, ◌≤◌, ◌<◌, ◌≡◌, refl, ◌≢◌, Bool, true, false, ◌&&◌, cond, List, [], ◌∷◌, leb, eqb, length, take, set}
+use Rattle.std.specs.Prelude.{ℕ, zero, suc, ◌+◌, ◌-◌, ◌≤◌, ◌<◌, ◌≡◌, refl, ◌≢◌, Bool, true, false, ◌&&◌, cond, List, [], ◌∷◌, leb, eqb, length, take, set, Some, None}
+use Rattle.std.specs.Prelude as P
+use Rattle.std.specs.Option.{is_some}
 use Rattle.std.proofs.Common.{zero-le, arith, sym, ap, ◌∙◌, subst, le-leb, lt-ltb}
 use Rattle.std.proofs.Math.Option.{Option, none, some, none-ne-some, some-injective}
 use Rattle.meaning.specs.Limits.{area_words, u32_most}
@@ -12,14 +14,24 @@ use Rattle.meaning.specs.Loop as M
 use Rattle.meaning.specs.Loop.{Result, Status, fine, Next, at, stopped, position, to_successor, successor_blurs}
 use Rattle.meaning.proofs.Laws.Fit as F
 use Rattle.meaning.specs.Laws.Fit.{Does, Passes, propagate_on, propagate_blurs_on}
-use Rattle.absint.specs.Models.{statuses_of, next_of, SameCounts, Counted, Passed, Sound, PropagatedTo, Propagated}
+use Rattle.absint.specs.Models.{statuses_of, next_by, next_of, SameCounts, Counted, Passed, Sound, PropagatedTo, Propagated}
+use Rattle.absint.specs.declared.run_state.Stop.{Stop}
 use Rattle.absint.specs.declared.run_state.RunState.{RunState}
+
+-- whether a run was stopped
+pub some_stop : (o : P.Option Stop) → is_some o ≡ true → (v : Stop) × (o ≡ Some v)
+some_stop (Some v) h = (v, refl)
+some_stop None h = absurd (cc)
+
+pub no_stop : (o : P.Option Stop) → is_some o ≡ false → o ≡ None
+no_stop (Some v) h = absurd (cc)
+no_stop None h = refl
 
 pub same : (t : RunState) → SameCounts t t
 same t = record { visits = refl; turns = refl; blurred = refl }
 
-pub going : (t : RunState) → t.stopped ≡ false → next_of t ≡ at t.next
-going t e = ap (λ (b : Bool). cond b (stopped t.number t.place.0) (at t.next)) e
+pub going : (t : RunState) → t.stopped ≡ None → next_of t ≡ at t.next
+going t e = ap (next_by t.next) e
 
 -- a state stored where the area has the block
 pub stored_here : (l b : ℕ) (s : State) (ws ws' : List ℕ) → area_words ≤ length ws → b < 16 → Stored l s b ws ws' → kept_of l ws' b ≡ some s
@@ -46,17 +58,20 @@ module _ (bs : List M.Block) (l : ℕ) (b : M.Block) (s : State) (e : ℕ) (ws :
   some_passed : (r : RunState) (m : ℕ) → Blurs (next_of t) m → Counted m t r → Passed bs (λ ex. successor_blurs State join join_blurs changed ex bs s e) l ws u32_most t r
   some_passed r m p k = record { more = m; passes = p; few = k.few; visits = k.visits; turns = k.turns; blurred = k.blurred }
 
-  pub propagated_stopped : t.stopped ≡ true → PropagatedTo bs l b s e ws ws t t
-  propagated_stopped q =
-      let n : next_of t ≡ stopped t.number t.place.0 = ap (λ (x : Bool). cond x (stopped t.number t.place.0) (at t.next)) q in
+  pub propagated_stopped : is_some t.stopped ≡ true → PropagatedTo bs l b s e ws ws t t
+  propagated_stopped h =
+      let z = some_stop t.stopped h in
+      let v = z.0 in
+      let q = z.1 in
+      let n : next_of t ≡ stopped v.number v.place.0 = ap (next_by t.next) q in
       record {
         does = λ ex. subst (λ (m : Next). Does State join join_blurs changed ex bs (to_successor State join join_blurs changed ex bs b s e) (kept_of l ws) (statuses_of t) m (kept_of l ws) (statuses_of t) m) (sym n)
-            (F.successor_stopped State join join_blurs changed ex bs b s e (kept_of l ws) (statuses_of t) t.number t.place.0);
+            (F.successor_stopped State join join_blurs changed ex bs b s e (kept_of l ws) (statuses_of t) v.number v.place.0);
         beyond = refl;
-        passed = none_passed t (subst (λ (m : Next). Blurs m 0) (sym n) (λ ex. F.blurs_stopped State join join_blurs changed ex bs s e (kept_of l ws) (statuses_of t) t.number t.place.0)) (same t);
+        passed = none_passed t (subst (λ (m : Next). Blurs m 0) (sym n) (λ ex. F.blurs_stopped State join join_blurs changed ex bs s e (kept_of l ws) (statuses_of t) v.number v.place.0)) (same t);
       }
 
-  module _ (q : t.stopped ≡ false) where
+  module _ (q : t.stopped ≡ None) where
     n : next_of t ≡ at t.next
     n = going t q
 
@@ -184,13 +199,9 @@ take_some zero a b h = absurd (omega arith)
 take_some (suc n) a b h = let z : n ≡ suc n - 1 = omega arith in ap (λ (k : ℕ). a ∷ take k (b ∷ [])) z
 
 -- where a block is next, nothing has stopped the run
-pub not_stopped : (r : RunState) (n : ℕ) → next_of r ≡ at n → r.stopped ≡ false
+pub not_stopped : (r : RunState) (n : ℕ) → next_of r ≡ at n → r.stopped ≡ None
 not_stopped r n e = go r.stopped e
   where
-    gone : Next → Bool
-    gone (at m) = false
-    gone (stopped m p) = true
-
-    go : (b : Bool) → cond b (stopped r.number r.place.0) (at r.next) ≡ at n → b ≡ false
-    go true e = ap gone e
-    go false e = refl
+    go : (o : P.Option Stop) → next_by r.next o ≡ at n → o ≡ None
+    go (Some v) e = absurd (cc)
+    go None e = refl

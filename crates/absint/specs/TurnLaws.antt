@@ -1,5 +1,7 @@
 -- One turn of the loop, its start and its end, as the definitions have them.
-use Rattle.std.specs.Prelude.{ℕ, zero, suc, ◌+◌, ◌*◌, ◌≤◌, ◌<◌, min, ◌≡◌, ◌⊎◌, Bool, ◌&&◌, cond, List, [], ◌∷◌, map, eqb, leb, ltb, length, take, drop, get_or, set}
+use Rattle.std.specs.Prelude.{ℕ, zero, suc, ◌+◌, ◌*◌, ◌≤◌, ◌<◌, min, ◌≡◌, ◌⊎◌, Bool, ◌&&◌, cond, List, [], ◌∷◌, map, eqb, leb, ltb, length, take, drop, get_or, set, Some, None}
+use Rattle.std.specs.Prelude as P
+use Rattle.std.specs.Option.{is_some}
 use Rattle.std.proofs.Common.{zero-le, not-suc-le-zero, le_of_suc-le-suc, mul-le-mul, add-one, arith, sym, ◌∙◌, inl, inr, true≢false, ne_eqb, eq-eqb, lt-ltb, le-ltb, ltb-false}
 use Rattle.std.proofs.Math.Path.{refl, ap, subst}
 use Rattle.std.proofs.Math.Bool.{true, false, not}
@@ -33,9 +35,10 @@ use Rattle.listing.specs.declared.Routine as D
 use Rattle.abstract_state.specs.Models.{Words, halted, locals_in, running_of, answer_of, operand_of, state_of}
 use Rattle.abstract_state_join.specs.Models.{first_running}
 use Rattle.reference_safety.specs.Models.{placed, end_for}
-use Rattle.absint.specs.Models.{statuses_of, next_of, turns_end, turn_most, Propagated, At, Readable, Ready, Turned, Started, Analyzed}
+use Rattle.absint.specs.Models.{statuses_of, next_by, next_of, turns_end, turn_most, Propagated, At, Readable, Ready, Turned, Started, Analyzed}
 use Rattle.absint.specs.LoopLaws.{past_block}
-use Rattle.absint.specs.PropagateLaws.{going, stored_here}
+use Rattle.absint.specs.PropagateLaws.{going, no_stop, some_stop, stored_here}
+use Rattle.absint.specs.declared.run_state.Stop.{Stop}
 use Rattle.absint.specs.declared.run_state.RunState.{RunState}
 
 -- ---- states and their outcomes
@@ -253,7 +256,7 @@ module _ (s cs : List ℕ) (d : D.Routine) (promise : promised (routine_of s cs 
 
   module _ (ws₀ ws : List ℕ) (t : RunState) (g : Going ws₀ ws t) where
     -- a block is next: the run has not ended
-    module _ (on : t.stopped ≡ false) (m : t.next < d.block_count) where
+    module _ (on : t.stopped ≡ None) (m : t.next < d.block_count) where
       unended : has_ended State join join_blurs changed (exec r) r.blocks (whole t.turns) ≡ false
       unended =
           ap (M.ended_at State join join_blurs changed (exec r) r.blocks) (sym g.here.next ∙ going t on)
@@ -289,7 +292,7 @@ module _ (s cs : List ℕ) (d : D.Routine) (promise : promised (routine_of s cs 
           }
 
     -- no block is next, or the run was stopped: it is the whole run
-    pub ends : (t.stopped ≡ true) ⊎ (d.block_count ≤ t.next) → Analyzed s cs d ws₀ ws t
+    pub ends : ((v : Stop) × (t.stopped ≡ Some v)) ⊎ (d.block_count ≤ t.next) → Analyzed s cs d ws₀ ws t
     unfolding run_of
     ends o =
         record {
@@ -297,12 +300,12 @@ module _ (s cs : List ℕ) (d : D.Routine) (promise : promised (routine_of s cs 
           beyond = g.beyond;
         }
       where
-        past : (b : Bool) → d.block_count ≤ t.next → M.ended_at State join join_blurs changed (exec r) r.blocks (cond b (stopped t.number t.place.0) (at t.next)) ≡ true
-        past true h = refl
-        past false h = ap not (le-ltb t.next (length r.blocks) (omega (arith, count, h)))
+        past : (o : P.Option Stop) → d.block_count ≤ t.next → M.ended_at State join join_blurs changed (exec r) r.blocks (next_by t.next o) ≡ true
+        past (Some v) h = refl
+        past None h = ap not (le-ltb t.next (length r.blocks) (omega (arith, count, h)))
 
-        over : (t.stopped ≡ true) ⊎ (d.block_count ≤ t.next) → M.ended_at State join join_blurs changed (exec r) r.blocks (next_of t) ≡ true
-        over (inl h) = ap (λ (b : Bool). M.ended_at State join join_blurs changed (exec r) r.blocks (cond b (stopped t.number t.place.0) (at t.next))) h
+        over : ((v : Stop) × (t.stopped ≡ Some v)) ⊎ (d.block_count ≤ t.next) → M.ended_at State join join_blurs changed (exec r) r.blocks (next_of t) ≡ true
+        over (inl h) = ap (λ (o : P.Option Stop). M.ended_at State join join_blurs changed (exec r) r.blocks (next_by t.next o)) h.1
         over (inr h) = past t.stopped h
 
 -- ---- the loop's invariant
@@ -317,13 +320,13 @@ unfolding promised
 promised_small q e = leb_le (and_l (leb q.locals 16) (leb (length q.code) 512) (and_l (leb q.locals 16 && leb (length q.code) 512) (all (within_frame q.locals) q.code && all (λ b. placed-rets b.successors (instrs_of b q.code)) q.blocks) e))
 
 -- the loop's test
-pub test_on : (a b : Bool) → (not a && b) ≡ true → (a ≡ false) × (b ≡ true)
-test_on true b e = absurd (true≢false (sym e))
-test_on false b e = (refl, e)
+pub test_on : (o : P.Option Stop) (a b : Bool) → is_some o ≡ not a → a && b ≡ true → (o ≡ None) × (b ≡ true)
+test_on o true b h e = (no_stop o h, e)
+test_on o false b h e = absurd (true≢false (sym e))
 
-pub test_off : (a : Bool) (i n : ℕ) → (not a && ltb i n) ≡ false → (a ≡ true) ⊎ (n ≤ i)
-test_off true i n e = inl refl
-test_off false i n e = inr (ltb-false i n e)
+pub test_off : (o : P.Option Stop) (a : Bool) (i n : ℕ) → is_some o ≡ not a → a && ltb i n ≡ false → ((v : Stop) × (o ≡ Some v)) ⊎ (n ≤ i)
+test_off o true i n h e = inr (ltb-false i n e)
+test_off o false i n h e = inl (some_stop o h)
 
 -- the first state, as the code makes it
 pub first_made : (a : Words) (l : ℕ) (ts : List S.Token) → l ≤ 16 → answer_of a ≡ R.answer (first_running (min l 16) ts) S.Operand.non_ref → (a.state.num_locals ≡ l) × (state_of a ≡ first_state l ts)

@@ -1,5 +1,6 @@
 -- From the bytes to the verdict.
-use Rattle.std.specs.Prelude.{ℕ, ◌≤◌, ◌<◌, ◌≡◌, refl, Bool, true, false, cond, List, ◌++◌, leb, length, drop}
+use Rattle.std.specs.Prelude.{ℕ, ◌≤◌, ◌<◌, ◌≡◌, refl, Bool, true, false, cond, List, ◌++◌, leb, length, drop, Some, None}
+use Rattle.std.specs.Prelude as P
 use Rattle.std.proofs.Common.{arith, sym, ap, ◌∙◌, subst}
 use Rattle.std.proofs.Math.Option.{none}
 use Rattle.meaning.proofs.Laws.Base.{decide, leb_le, leb_gt}
@@ -7,7 +8,7 @@ use Rattle.meaning.specs.Limits.{area_words}
 use Rattle.meaning.specs.Area.{kept_of, forgotten, cleared, zeros}
 use Rattle.meaning.proofs.Laws.Area.{forgotten_law, forgotten_short, cleared_long}
 use Rattle.meaning.specs.Blocks.{Routine}
-use Rattle.meaning.specs.Loop.{at, stopped, visits, Verdict, refusal, verdict_for, verdict, verdict_at}
+use Rattle.meaning.specs.Loop.{visits, Verdict, verdict_for, verdict, verdict_at}
 use Rattle.meaning.specs.Laws.Fit.{lowest_by}
 use Rattle.meaning.proofs.Laws.Fit.{lowest_by_lem}
 use Rattle.meaning.proofs.Laws.Verify.{verify_long}
@@ -16,7 +17,8 @@ use Rattle.meaning.specs.Verify as Whole
 use Rattle.meaning.specs.Verify.{run_of, kept_by}
 use Rattle.listing.specs.Models.{routine_of}
 use Rattle.listing.specs.declared.Routine as Made
-use Rattle.absint.specs.Models.{statuses_of, verdict_in, Analyzed, Left}
+use Rattle.absint.specs.Models.{statuses_of, next_by, verdict_by, verdict_in, Analyzed, Left}
+use Rattle.absint.specs.declared.run_state.Stop.{Stop}
 use Rattle.absint.specs.declared.run_state.RunState.{RunState}
 
 -- ---- the routine that was read
@@ -42,10 +44,10 @@ pub ruled : (s cs : List ℕ) (d : Made.Routine) (ws₀ ws : List ℕ) (t : RunS
 unfolding verdict
 ruled s cs d ws₀ ws t w few count a = go t.stopped ∙ ap (verdict_at (routine_of s cs d).blocks (run_of (routine_of s cs d)).slots) a.end.next
   where
-    go : (b : Bool) → cond b (refusal t.number t.place.0) (verdict_for (lowest_by (routine_of s cs d).blocks (statuses_of t) none))
-        ≡ verdict_at (routine_of s cs d).blocks (run_of (routine_of s cs d)).slots (cond b (stopped t.number t.place.0) (at t.next))
-    go true = refl
-    go false = ap verdict_for (lowest_by_lem (routine_of s cs d).blocks (statuses_of t) (run_of (routine_of s cs d)).slots none (let z = a.end.same_length in omega (arith, z, w, few, count)) a.end.fits.status a.end.same_length)
+    go : (o : P.Option Stop) → verdict_by (verdict_for (lowest_by (routine_of s cs d).blocks (statuses_of t) none)) o
+        ≡ verdict_at (routine_of s cs d).blocks (run_of (routine_of s cs d)).slots (next_by t.next o)
+    go (Some v) = refl
+    go None = ap verdict_for (lowest_by_lem (routine_of s cs d).blocks (statuses_of t) (run_of (routine_of s cs d)).slots none (let z = a.end.same_length in omega (arith, z, w, few, count)) a.end.fits.status a.end.same_length)
 
 -- ---- what is left in the area
 

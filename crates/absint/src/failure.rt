@@ -6,73 +6,49 @@ ghost use Rattle.listing.specs.Models.{blocks_in};
 ghost use Rattle.absint.specs.Models.{status_of, statuses_of, ruling_of, failure_of, verdict_in};
 
 use crate::Ruling;
-use crate::run_state::{BlockPostcondition, RunState};
+use crate::run_state::{Failure, RunState};
 use file_format::CodeOffset;
 use listing::Block;
 use meaning::MAX_BLOCKS;
 
-// The failed block of the lowest entry so far. Where none is found the other fields are free.
+// A failed block: its entry and what it ended with.
 #[derive(Clone, Copy)]
-pub(crate) struct LowestFailure {
-    pub found: bool,
+pub(crate) struct FailedBlock {
     pub entry: CodeOffset,
-    pub code: u8,
-    pub offset: CodeOffset,
-    pub borrowed_at: CodeOffset,
+    pub failure: Failure,
 }
 
-impl LowestFailure {
-    fn lower(self, e: CodeOffset, x: BlockPostcondition) -> Self
-        ensures { failure_of result ≡ lower e.0 (status_of x) (failure_of self) }
-    {
-        if x.failed {
-            let offset = x.offset;
-            let borrowed_at = x.borrowed_at;
-            let new = Self {
-                found: true,
-                entry: e,
-                code: x.code,
-                offset,
-                borrowed_at,
-            };
-            if self.found {
-                if self.entry.0 <= e.0 {
-                    return self;
-                }
-                return new;
-            }
-            return new;
-        }
-        self
-    }
+// The failed block of the lower entry: of the lowest so far, and of a block with this entry and status.
+fn lower(
+    lowest: Option<FailedBlock>,
+    entry: CodeOffset,
+    status: Option<Failure>,
+) -> Option<FailedBlock>
+    ensures { failure_of result ≡ lower entry.0 (status_of status) (failure_of lowest) }
+{
+    let Some(failure) = status else {
+        return lowest;
+    };
+    let new = Some(FailedBlock { entry, failure });
+    let Some(old) = lowest else {
+        return new;
+    };
+    if old.entry <= entry { lowest } else { new }
 }
 
 pub(crate) fn verdict_of(blocks: [Block; MAX_BLOCKS], n: usize, t: RunState) -> Ruling
     requires { n ≤ max_blocks }
     ensures { (ruling_of result ≡ verdict_in (blocks_in blocks n) t) × (length (statuses_of t) ≡ max_blocks) }
 {
-    if t.stopped {
-        return Ruling::Refused(t.number, t.place.0 as usize);
+    if let Some(r) = t.stopped {
+        return Ruling::Refused(r.number, r.place.0 as usize);
     }
-    let mut l = LowestFailure {
-        found: false,
-        entry: CodeOffset(0),
-        code: 0,
-        offset: CodeOffset(0),
-        borrowed_at: CodeOffset(0),
-    };
-    let mut i: usize = 0;
-    while i < n {
-        let b = blocks[i];
-        let x = t.statuses[i];
-        let e = b.entry;
-        l = l.lower(e, x);
-        i += 1;
+    let mut lowest = None;
+    for i in 0..n {
+        lowest = lower(lowest, blocks[i].entry, t.statuses[i]);
     }
-    if l.found {
-        let offset = l.offset;
-        let borrowed_at = l.borrowed_at;
-        return Ruling::Violation(l.code, offset, borrowed_at);
+    match lowest {
+        Some(f) => Ruling::Violation(f.failure.code, f.failure.offset, f.failure.borrowed_at),
+        None => Ruling::Accept,
     }
-    Ruling::Accept
 }

@@ -21,7 +21,7 @@ use absint_area::{forget, store};
 use abstract_state::state::{AbstractState, LOCALS};
 use abstract_state_join::first::new;
 use listing::{Block, Routine};
-use meaning::{EDGE_WORDS, MAX_BLOCKS, MAX_EDGES, MAX_INSTRUCTIONS, MAX_NAMES};
+use meaning::{EDGE_WORDS, MAX_BLOCKS, MAX_EDGES, MAX_INSTRUCTIONS, MAX_NAMES, ROOM, lesser};
 use reference_safety::block::run_block;
 
 // The block at a position.
@@ -79,7 +79,7 @@ fn visit(
         return v;
     }
     let e = with_locals(s, routine.locals);
-    propagate(area, blocks, n, b, locals, names, edges, e, v)
+    propagate(area, &blocks[..n], b, locals, names, edges, e, v)
 }
 
 // The next block: passed over where it has no kept state, else run from a copy of it.
@@ -96,25 +96,12 @@ fn turn(
     let mut ls = [0u32; LOCALS];
     let mut ns = [0u32; MAX_NAMES];
     let mut es = [[0u32; EDGE_WORDS]; MAX_EDGES];
-    let k = start_from(area, t.next, routine.locals, &mut ls, &mut ns, &mut es);
-    if k.present {
-        let mut locals = ls;
-        let mut names = ns;
-        let mut edges = es;
-        let start = k.state;
-        return visit(
-            listing,
-            routine,
-            code,
-            area,
-            &mut locals,
-            &mut names,
-            &mut edges,
-            start,
-            t,
-        );
+    match start_from(area, t.next, routine.locals, &mut ls, &mut ns, &mut es) {
+        Some(start) => visit(
+            listing, routine, code, area, &mut ls, &mut ns, &mut es, start, t,
+        ),
+        None => t.onward(),
     }
-    t.onward()
 }
 
 // The loop has no budget: `turns` only counts, and its bound is that of the visits (document 01, demand 3).
@@ -127,7 +114,6 @@ pub(crate) fn analyze_function(
     requires { Readable listing.now code.now routine × (area_words ≤ length area.old) }
     ensures { Analyzed listing.now code.now routine area.old area.new result }
 {
-    let params = routine.params;
     let mut locals = [0u32; LOCALS];
     let mut names = [0u32; MAX_NAMES];
     let edges = [[0u32; EDGE_WORDS]; MAX_EDGES];
@@ -135,13 +121,12 @@ pub(crate) fn analyze_function(
         &mut locals,
         &mut names,
         routine.locals,
-        params,
-        routine.param_count,
+        &routine.params[..lesser(routine.param_count, ROOM)],
     );
     forget(area);
     store(area, 0, &locals, &names, &edges, s);
     let mut t = RunState::start();
-    while !t.stopped & (t.next < routine.block_count) {
+    while t.stopped.is_none() & (t.next < routine.block_count) {
         t = turn(listing, routine, code, area, t);
     }
     t

@@ -13,14 +13,8 @@ use borrow_graph::graph::BorrowGraph;
 use file_format::CodeOffset;
 use meaning::{EDGE_WORDS, MAX_EDGES, MAX_NAMES};
 
-// `present` false: there is none yet, and what the arrays and the state hold is free.
-#[derive(Clone, Copy)]
-pub(crate) struct Start {
-    pub present: bool,
-    pub state: AbstractState,
-}
-
-// The words go into the arrays. Kept graphs are well formed, so none is tested. Fresh names start at L + 1.
+// The words go into the arrays. `None`: there is no kept state yet, and what they hold is free. Kept graphs are well formed, so none is tested.
+// Fresh names start at L + 1.
 pub(crate) fn start_from(
     area: &[u32],
     b: usize,
@@ -28,27 +22,24 @@ pub(crate) fn start_from(
     locals: &mut [u32; LOCALS],
     names: &mut [u32; MAX_NAMES],
     edges: &mut [[u32; EDGE_WORDS]; MAX_EDGES],
-) -> Start
+) -> Option<AbstractState>
     requires { (k : State) → kept_of num_locals area.now b ≡ some k → well_formed k.graph ≡ true }
     ensures { length locals.old ≡ max_locals → length names.old ≡ max_names → length edges.old ≡ max_edges → StartsFrom (kept_of num_locals area.now b) num_locals locals.new names.new edges.new result }
 {
-    let k = load(area, b, num_locals, locals, names, edges);
-    Start {
-        present: k.present,
-        state: AbstractState {
-            violation: 0,
-            borrowed_at: CodeOffset(0),
-            refusal: 0,
-            offset: CodeOffset(0),
-            value: AbstractValue::NonReference,
-            num_locals,
-            next_id: num_locals as u32 + 1,
-            blurred: 0,
-            borrow_graph: BorrowGraph {
-                refs: k.refs,
-                edges: k.edges,
-                formed: true,
-            },
+    let k = load(area, b, num_locals, locals, names, edges)?;
+    Some(AbstractState {
+        violation: 0,
+        borrowed_at: CodeOffset(0),
+        refusal: 0,
+        offset: CodeOffset(0),
+        value: AbstractValue::NonReference,
+        num_locals,
+        next_id: num_locals as u32 + 1,
+        blurred: 0,
+        borrow_graph: BorrowGraph {
+            refs: k.refs,
+            edges: k.edges,
+            formed: true,
         },
-    }
+    })
 }

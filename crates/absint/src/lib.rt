@@ -21,7 +21,7 @@ use crate::failure::verdict_of;
 use crate::interpreter::analyze_function;
 use absint_area::{clear, forget};
 use file_format::CodeOffset;
-use listing::{Reading, read_listing};
+use listing::read_listing;
 use meaning::{AREA_WORDS, MAX_INSTRUCTIONS};
 
 #[derive(Clone, Copy)]
@@ -51,11 +51,8 @@ pub fn analyze(listing: &[u8], area: &mut [u32]) -> Verdict
         return refused(7, 0);
     }
     let mut code = [0u16; MAX_INSTRUCTIONS];
-    let l = read_listing(listing, &mut code);
-    let reading = l.reading;
-    match reading {
-        Reading::Read => {
-            let q = l.routine;
+    match read_listing(listing, &mut code) {
+        Ok(Some(q)) => {
             let t = analyze_function(listing, q, &code, area);
             let blocks = q.blocks;
             Verdict {
@@ -64,8 +61,8 @@ pub fn analyze(listing: &[u8], area: &mut [u32]) -> Verdict
                 blurred: t.blurred,
             }
         }
-        Reading::Nothing => empty_cell(area),
-        Reading::Refused(number, place) => refused(number, place),
+        Ok(None) => empty_cell(area),
+        Err(r) => refused(u8::from(r.refusal), r.place),
     }
 }
 

@@ -1,10 +1,10 @@
 // What a run has by value. The Rust's `inv_map` is in two parts: each block's `pre` stands in the area, its `post` here. Where each stands in
 // the Rust (absint.rs):
 //
-//   here                 the Rust
-//   BlockPostcondition   24 `BlockPostcondition`
-//   RunState             80 to 82, the locals of `analyze_function`
-ghost use Rattle.std.specs.Prelude.{◌≡◌, false, cond, ◌+◌, ◌≤◌, ◌<◌, length, set};
+//   here       the Rust
+//   Failure    24 `BlockPostcondition`: its `Error`; `None` stands for the others
+//   RunState   80 to 82, the locals of `analyze_function`
+ghost use Rattle.std.specs.Prelude.{◌≡◌, None, cond, ◌+◌, ◌≤◌, ◌<◌, length, set};
 ghost use Rattle.meaning.specs.Limits.{max_blocks, u32_most};
 ghost use Rattle.meaning.specs.Loop.{fine, failed, at, stopped};
 ghost use Rattle.absint.specs.Models.{status_of, statuses_of, next_of, turns_end, blurred_end, Started, SameCounts};
@@ -12,27 +12,31 @@ ghost use Rattle.absint.specs.Models.{status_of, statuses_of, next_of, turns_end
 use file_format::CodeOffset;
 use meaning::MAX_BLOCKS;
 
-// The rest is free where the block has not failed.
+// What a block ended with, where it failed: the violation's code, its instruction's offset, and that of the lowest borrow behind it.
 #[derive(Clone, Copy)]
-pub(crate) struct BlockPostcondition {
-    pub failed: bool,
+pub(crate) struct Failure {
     pub code: u8,
     pub offset: CodeOffset,
     pub borrowed_at: CodeOffset,
 }
 
-// `next` counts until the run is stopped, `number` and `place` from then on; the others are free. `turns` counts visits and blocks passed
-// over, `blurred` the sets blurred in visits and joins.
+// The refusal that stopped a run: its number of document 01, and its place.
+#[derive(Clone, Copy)]
+pub(crate) struct Stop {
+    pub number: u8,
+    pub place: CodeOffset,
+}
+
+// `next` counts until the run is stopped, and is free from then on. `turns` counts visits and blocks passed over, `blurred` the sets blurred in
+// visits and joins.
 #[derive(Clone, Copy)]
 pub(crate) struct RunState {
     pub next: usize,
-    pub stopped: bool,
-    pub number: u8,
-    pub place: CodeOffset,
+    pub stopped: Option<Stop>,
     pub visits: u32,
     pub turns: u32,
     pub blurred: u64,
-    pub statuses: [BlockPostcondition; MAX_BLOCKS],
+    pub statuses: [Option<Failure>; MAX_BLOCKS],
 }
 
 // A count of blurred sets goes on.
@@ -47,28 +51,20 @@ impl RunState {
     pub(crate) fn start() -> Self
         ensures { Started result }
     {
-        let x = BlockPostcondition {
-            failed: false,
-            code: 0,
-            offset: CodeOffset(0),
-            borrowed_at: CodeOffset(0),
-        };
         Self {
             next: 0,
-            stopped: false,
-            number: 0,
-            place: CodeOffset(0),
+            stopped: None,
             visits: 0,
             turns: 0,
             blurred: 0,
-            statuses: [x; MAX_BLOCKS],
+            statuses: [None; MAX_BLOCKS],
         }
     }
 
     // To the block listed after this one.
     pub(crate) fn onward(self) -> Self
         requires { (self.next < max_blocks) × (self.turns < turns_end) }
-        ensures { (self.stopped ≡ false → next_of result ≡ at (self.next + 1)) × (statuses_of result ≡ statuses_of self) × (result.visits ≡ self.visits) × (result.turns ≡ self.turns + 1) × (result.blurred ≡ self.blurred) }
+        ensures { (self.stopped ≡ None → next_of result ≡ at (self.next + 1)) × (statuses_of result ≡ statuses_of self) × (result.visits ≡ self.visits) × (result.turns ≡ self.turns + 1) × (result.blurred ≡ self.blurred) }
     {
         let mut t = self;
         t.next = self.next + 1;
@@ -80,13 +76,11 @@ impl RunState {
         ensures { (next_of result ≡ stopped number place.0) × (statuses_of result ≡ statuses_of self) × SameCounts self result × (length (statuses_of self) ≡ max_blocks) }
     {
         let mut t = self;
-        t.stopped = true;
-        t.number = number;
-        t.place = place;
+        t.stopped = Some(Stop { number, place });
         t
     }
 
-    pub(crate) fn mark(self, j: usize, x: BlockPostcondition) -> Self
+    pub(crate) fn mark(self, j: usize, x: Option<Failure>) -> Self
         requires { j < max_blocks }
         ensures { (next_of result ≡ next_of self) × (statuses_of result ≡ set (statuses_of self) j (status_of x)) × SameCounts self result × (length (statuses_of self) ≡ max_blocks) }
     {
@@ -105,13 +99,14 @@ impl RunState {
         requires { j < max_blocks }
         ensures { (next_of result ≡ next_of self) × (statuses_of result ≡ set (statuses_of self) j (failed code offset.0 borrowed_at.0)) × SameCounts self result × (length (statuses_of self) ≡ max_blocks) }
     {
-        let x = BlockPostcondition {
-            failed: true,
-            code,
-            offset,
-            borrowed_at,
-        };
-        self.mark(j, x)
+        self.mark(
+            j,
+            Some(Failure {
+                code,
+                offset,
+                borrowed_at,
+            }),
+        )
     }
 
     // An error vanishes.
@@ -119,18 +114,12 @@ impl RunState {
         requires { j < max_blocks }
         ensures { (next_of result ≡ next_of self) × (statuses_of result ≡ set (statuses_of self) j fine) × SameCounts self result × (length (statuses_of self) ≡ max_blocks) }
     {
-        let x = BlockPostcondition {
-            failed: false,
-            code: 0,
-            offset: CodeOffset(0),
-            borrowed_at: CodeOffset(0),
-        };
-        self.mark(j, x)
+        self.mark(j, None)
     }
 
     // A block whose kept state has changed: its error vanishes, and where it lies back it is next.
     pub(crate) fn revisit(self, j: usize, back: bool) -> Self
-        requires { (j < max_blocks) × (self.stopped ≡ false) }
+        requires { (j < max_blocks) × (self.stopped ≡ None) }
         ensures { (next_of result ≡ at (cond back j self.next)) × (statuses_of result ≡ set (statuses_of self) j fine) × SameCounts self result × (length (statuses_of self) ≡ max_blocks) }
     {
         let mut t = self.clear(j);

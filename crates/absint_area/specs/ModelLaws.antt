@@ -1,11 +1,15 @@
 -- The models, element by element.
-use Rattle.std.specs.Prelude.{ℕ, ◌+◌, ◌*◌, ◌/◌, ◌%◌, ◌≤◌, ◌<◌, min, ◌≡◌, refl, Bool, cond, List, [], eqb, length, get_or}
-use Rattle.std.proofs.Common.{ap, ◌∙◌, arith}
+use Rattle.std.specs.Prelude.{ℕ, ◌+◌, ◌-◌, ◌*◌, ◌/◌, ◌%◌, ◌≤◌, ◌<◌, min, ◌≡◌, refl, Bool, not, cond, List, [], eqb, ◌++◌, length, get_or, take, drop}
+use Rattle.std.proofs.Common.{ap, sym, ◌∙◌, arith, rules, length-append, length-drop}
+use Rattle.std.proofs.Math.ListN.{get_or-append}
+use Rattle.std.proofs.lemmas.List.{places}
+use borrow.Rule.Slice.PartMut.{put_mid}
 use Rattle.std.proofs.Math.Option.{Option, none, some}
 use Rattle.meaning.specs.Lists.{up_to}
-use Rattle.meaning.specs.Area.{local_in, name_in, label_in, edge_in, unkept}
-use Rattle.meaning.specs.Laws.Area.{Filled, IsLocal, above_local}
-use Rattle.meaning.proofs.Laws.Area.{up_to_same, up_to_front, filled_front, local_word}
+use Rattle.std.proofs.lemmas.Bool.{ne_eqb}
+use Rattle.meaning.specs.Area.{word_at, words_from, local_in, name_in, label_in, edge_in, state_in, decode, unkept}
+use Rattle.meaning.specs.Laws.Area.{Filled, Written, IsLocal, above_local}
+use Rattle.meaning.proofs.Laws.Area.{up_to_same, up_to_front, filled_front, local_word, kept_read}
 use Rattle.meaning.specs.BorrowGraph.{Name, GEdge}
 use Rattle.meaning.specs.AbstractState as S
 use Rattle.references.specs.Models.{row_of, names_in, edges_in}
@@ -62,16 +66,54 @@ state_made ls ns es s n m hl hn hm en em =
 pub filled_all : {A B : Type 0} (g : B → A) (d : B) (f : ℕ → A) (n i m : ℕ) (xs : List B) → m ≤ i → Filled g d f n i xs → Filled g d f n m xs
 filled_all g d f n i m xs h p = record { size = p.size; within = λ j k. p.within j (omega arith) }
 
-pub state_filled : (p : Bool) (f : ℕ → S.Local) (g : ℕ → Name) (h : ℕ → GEdge) (ls ns : List ℕ) (es : List (List ℕ)) (l k n m : ℕ) → k ≡ min l 16 → n ≤ 48 → m ≤ 96
-    → Filled local_in 0 f 16 k ls → Filled name_in 0 g 48 n ns → Filled row_of [] h 96 m es
-    → ◌≡◌ {A = Option S.State} (cond p (some (record { locals = locals_in ls l; graph = record { names = names_in ns n; edges = edges_in es m } })) none)
-    (cond p (some (record { locals = up_to (min l 16) f; graph = record { names = up_to n g; edges = up_to m h } })) none)
+-- words that are read as what they stand for
+read_by : {A : Type 0} (g : ℕ → A) (f : ℕ → ℕ) (n i : ℕ) (xs : List ℕ) → Filled (λ (w : ℕ). w) 0 f n i xs → Filled g 0 (λ j. g (f j)) n i xs
+read_by g f n i xs p = record { size = p.size; within = λ j k. ap g (p.within j k) }
+
+-- the state in the arrays is the one that a block's words say
+pub loaded : (l at k n m : ℕ) (ws ls ns : List ℕ) (es : List (List ℕ)) → (get_or ws at 0 / 262144 ≡ 0 → ⊥) → k ≡ min l 16 → n ≡ min (get_or ws (at + 1) 0 / 262144) 48 → m ≡ min (get_or ws (at + 2) 0 / 262144) 96
+    → Filled (λ (w : ℕ). w) 0 (words_from ws at) 16 k ls → Filled (λ (w : ℕ). w) 0 (words_from ws (at + 16)) 48 n ns → Filled row_of [] (λ i. edge_in (word_at ws) (at + 64 + 10 * i)) 96 m es
+    → ◌≡◌ {A = Option S.State} (some (record { locals = locals_in ls l; graph = record { names = names_in ns n; edges = edges_in es m } })) (decode l (words_from ws at))
 unfolding locals_in names_in edges_in
-state_filled p f g h ls ns es l k n m e hn hm a b c =
-    let q = filled_front local_in 0 f 16 k l (min l 16) ls refl (omega arith) a in
-    let r = filled_front name_in 0 g 48 n n n ns (omega arith) (omega arith) b in
+loaded l at k n m ws ls ns es there ek en em a b c =
+    let f : ℕ → S.Local = λ i. local_in (words_from ws at i) in
+    let g : ℕ → Name = λ i. name_in (words_from ws (at + 16) i) in
+    let h : ℕ → GEdge = λ i. edge_in (word_at ws) (at + 64 + 10 * i) in
+    let q = filled_front local_in 0 f 16 k l (min l 16) ls refl (omega arith) (read_by local_in _ _ _ _ a) in
+    let r = filled_front name_in 0 g 48 n n n ns (omega arith) (omega arith) (read_by name_in _ _ _ _ b) in
     let s = filled_front row_of [] h 96 m m m es (omega arith) (omega arith) c in
-    λ i. cond p (some (record { locals = q i; graph = record { names = r i; edges = s i } })) none
+    (λ i. some (record { locals = q i; graph = record { names = r i; edges = s i } }))
+    ∙ ap (λ (t : Bool). cond (not t) (some (record { locals = up_to (min l 16) f; graph = record { names = up_to n g; edges = up_to m h } })) none) (sym (ne_eqb _ 0 there))
+    ∙ kept_read l at n m ws en em
+
+-- a block without a kept state
+pub absent_in : (l at : ℕ) (ws : List ℕ) → get_or ws at 0 / 262144 ≡ 0 → none ≡ decode l (words_from ws at)
+unfolding decode
+absent_in l at ws e =
+    let z : at ≡ at + 0 = omega arith in
+    ap (λ (w : ℕ). cond (eqb w 0) none (some (state_in l (words_from ws at)))) (sym e ∙ ap (λ (k : ℕ). get_or ws k 0 / 262144) z)
+
+-- ---- words copied
+
+-- n words from a place on, as the first n of an array
+pub copied_from : (k n at : ℕ) (ws out ys : List ℕ) → n ≤ k → at + n ≤ length ws → length out ≡ k → ys ≡ take (at + n - at) (drop at ws) → Filled (λ (w : ℕ). w) 0 (words_from ws at) k n (ys ++ drop n out)
+copied_from k n at ws out ys h l e q =
+    let z : length ys ≡ n = ap length q ∙ grind (arith, places) in
+    record {
+      size = simp (length-append, length-drop) (omega (arith, z, e, h));
+      within = λ j m. get_or-append ys (drop n out) 0 j (omega (arith, z, m)) ∙ ap (λ (zs : List ℕ). get_or zs j 0) q ∙ search (rules, places);
+    }
+
+-- the first n words of an array, from a place on: n of most words there are written
+pub copied_to : (most n at : ℕ) (ws ys : List ℕ) → n ≤ most → at + n ≤ length ws → length ys ≡ n → Written (λ j w. w ≡ get_or ys j 0) at most n ws (put_mid at (at + n - at) ws ys)
+copied_to most n at ws ys h l e = record {
+  frame = record {
+    size = search (rules, places);
+    below = λ k m. search (rules, places);
+    above = λ k m. search (rules, places);
+  };
+  within = λ j m. search (rules, places);
+}
 
 -- the words of all blocks are written
 pub unkept_all : (b : ℕ) (ws us : List ℕ) → b ≡ 16 → us ≡ unkept b ws → us ≡ unkept 16 ws

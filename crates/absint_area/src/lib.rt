@@ -2,7 +2,7 @@
 // the area's words, so that a state is loaded and stored word by word. Where each stands in the Rust (absint.rs):
 //
 //   here      the Rust
-//   Kept      36 `BlockInvariant`: its `pre`, or word that there is none
+//   Kept      36 `BlockInvariant`: its `pre`
 //   load      92 `inv_map.get_mut(&block_id)`
 //   store     83 and 146 `inv_map.insert`
 //   forget    80 `InvariantMap::new`
@@ -11,7 +11,7 @@
 mod read;
 mod write;
 
-ghost use Rattle.std.specs.Prelude.{◌≡◌, ◌≤◌, length};
+ghost use Rattle.std.specs.Prelude.{◌≡◌, ◌≤◌, length, IfSome};
 ghost use Rattle.meaning.specs.Limits.{max_locals, max_names, max_edges};
 ghost use Rattle.meaning.specs.Area.{has_block, kept_of, Stored, forgotten, cleared};
 ghost use Rattle.abstract_state.specs.Models.{words, state_of};
@@ -28,10 +28,9 @@ const REFS_AT: usize = LOCALS;
 
 const EDGES_AT: usize = 64;
 
-// Whether a block has a state to start from, and how many names and edges that one has.
+// How many names and edges the state has that a block starts from.
 #[derive(Clone, Copy)]
 pub struct Kept {
-    pub present: bool,
     pub refs: usize,
     pub edges: usize,
 }
@@ -47,7 +46,7 @@ pub fn clear(area: &mut [u32])
     ensures { area.new ≡ cleared area.old }
 {
     if AREA_WORDS <= area.len() {
-        write::put_zeros(area);
+        area[..AREA_WORDS].fill(0);
     }
 }
 
@@ -76,7 +75,7 @@ pub fn store(
     }
 }
 
-// The kept state's words go into the arrays: its locals', names' and edges'. What else they hold stays.
+// The kept state's words go into the arrays: its locals', names' and edges'. What else they hold stays. `None`: the block has no state.
 pub fn load(
     area: &[u32],
     b: usize,
@@ -84,15 +83,11 @@ pub fn load(
     locals: &mut [u32; LOCALS],
     names: &mut [u32; MAX_NAMES],
     edges: &mut [[u32; EDGE_WORDS]; MAX_EDGES],
-) -> Kept
-    ensures { (result.refs ≤ max_names) × (result.edges ≤ max_edges) × (length locals.old ≡ max_locals → length names.old ≡ max_names → length edges.old ≡ max_edges → (loaded_in locals.new names.new edges.new num_locals result ≡ kept_of num_locals area.now b) × (length locals.new ≡ max_locals) × (length names.new ≡ max_names) × (length edges.new ≡ max_edges)) }
+) -> Option<Kept>
+    ensures { IfSome result (λ k. (k.refs ≤ max_names) × (k.edges ≤ max_edges)) × (length locals.old ≡ max_locals → length names.old ≡ max_names → length edges.old ≡ max_edges → (loaded_in locals.new names.new edges.new num_locals result ≡ kept_of num_locals area.now b) × (length locals.new ≡ max_locals) × (length names.new ≡ max_names) × (length edges.new ≡ max_edges)) }
 {
     if has_block(area.len(), b) {
         return read::get_kept(area, BLOCK_WORDS * b, num_locals, locals, names, edges);
     }
-    Kept {
-        present: false,
-        refs: 0,
-        edges: 0,
-    }
+    None
 }

@@ -1,5 +1,5 @@
 // What a block's words say, read: only those of what is held.
-ghost use Rattle.std.specs.Prelude.{◌≡◌, [], ◌+◌, ◌*◌, ◌≤◌, length};
+ghost use Rattle.std.specs.Prelude.{◌≡◌, [], ◌+◌, ◌*◌, ◌≤◌, length, IfSome};
 ghost use Rattle.meaning.specs.Limits.{max_locals, max_names, max_edges, block_words};
 ghost use Rattle.meaning.specs.Area.{local_in, name_in, edge_in, decode, word_at, words_from, edge_words};
 ghost use Rattle.meaning.specs.Laws.Area.{Filled};
@@ -10,26 +10,11 @@ use crate::{EDGES_AT, Kept, LOCAL_END, REFS_AT};
 use abstract_state::state::LOCALS;
 use meaning::{EDGE_WORDS, MAX_EDGES, MAX_NAMES, lesser};
 
-fn get_locals(ws: &[u32], at: usize, n: usize, locals: &mut [u32; LOCALS])
-    requires { (at + max_locals ≤ length ws.now) × (n ≤ max_locals) }
-    ensures { length locals.old ≡ max_locals → Filled local_in 0 (λ i. local_in (words_from ws.now at i)) max_locals n locals.new }
+fn get_words<const N: usize>(ws: &[u32], at: usize, n: usize, out: &mut [u32; N])
+    requires { (at + n ≤ length ws.now) × (n ≤ N) }
+    ensures { length out.old ≡ N → Filled (λ w. w) 0 (words_from ws.now at) N n out.new }
 {
-    let mut i: usize = 0;
-    while i < n {
-        locals[i] = ws[at + i];
-        i += 1;
-    }
-}
-
-fn get_refs(ws: &[u32], at: usize, n: usize, names: &mut [u32; MAX_NAMES])
-    requires { (at + max_names ≤ length ws.now) × (n ≤ max_names) }
-    ensures { length names.old ≡ max_names → Filled name_in 0 (λ i. name_in (words_from ws.now at i)) max_names n names.new }
-{
-    let mut i: usize = 0;
-    while i < n {
-        names[i] = ws[at + i];
-        i += 1;
-    }
+    out[..n].copy_from_slice(&ws[at..at + n]);
 }
 
 fn get_row(ws: &[u32], at: usize) -> [u32; EDGE_WORDS]
@@ -37,11 +22,7 @@ fn get_row(ws: &[u32], at: usize) -> [u32; EDGE_WORDS]
     ensures { row_of result ≡ edge_in (word_at ws.now) at }
 {
     let mut out = [0u32; EDGE_WORDS];
-    let mut i: usize = 0;
-    while i < EDGE_WORDS {
-        out[i] = ws[at + i];
-        i += 1;
-    }
+    out.copy_from_slice(&ws[at..at + EDGE_WORDS]);
     out
 }
 
@@ -49,11 +30,8 @@ fn get_edges(ws: &[u32], at: usize, n: usize, edges: &mut [[u32; EDGE_WORDS]; MA
     requires { (at + edge_words * max_edges ≤ length ws.now) × (n ≤ max_edges) }
     ensures { length edges.old ≡ max_edges → Filled row_of [] (λ i. edge_in (word_at ws.now) (at + edge_words * i)) max_edges n edges.new }
 {
-    let mut i: usize = 0;
-    while i < n {
-        let x = get_row(ws, at + EDGE_WORDS * i);
-        edges[i] = x;
-        i += 1;
+    for i in 0..n {
+        edges[i] = get_row(ws, at + EDGE_WORDS * i);
     }
 }
 
@@ -64,20 +42,19 @@ pub(crate) fn get_kept(
     locals: &mut [u32; LOCALS],
     names: &mut [u32; MAX_NAMES],
     edges: &mut [[u32; EDGE_WORDS]; MAX_EDGES],
-) -> Kept
+) -> Option<Kept>
     requires { at + block_words ≤ length ws.now }
-    ensures { (result.refs ≤ max_names) × (result.edges ≤ max_edges) × (length locals.old ≡ max_locals → length names.old ≡ max_names → length edges.old ≡ max_edges → (loaded_in locals.new names.new edges.new num_locals result ≡ decode num_locals (words_from ws.now at)) × (length locals.new ≡ max_locals) × (length names.new ≡ max_names) × (length edges.new ≡ max_edges)) }
+    ensures { IfSome result (λ k. (k.refs ≤ max_names) × (k.edges ≤ max_edges)) × (length locals.old ≡ max_locals → length names.old ≡ max_names → length edges.old ≡ max_edges → (loaded_in locals.new names.new edges.new num_locals result ≡ decode num_locals (words_from ws.now at)) × (length locals.new ≡ max_locals) × (length names.new ≡ max_names) × (length edges.new ≡ max_edges)) }
 {
-    let w = ws[at];
+    let kept = ws[at] / LOCAL_END;
+    if kept == 0 {
+        return None;
+    }
     let l = lesser(num_locals as usize, LOCALS);
     let n = lesser((ws[at + 1] / LOCAL_END) as usize, MAX_NAMES);
     let m = lesser((ws[at + 2] / LOCAL_END) as usize, MAX_EDGES);
-    get_locals(ws, at, l, locals);
-    get_refs(ws, at + REFS_AT, n, names);
+    get_words(ws, at, l, locals);
+    get_words(ws, at + REFS_AT, n, names);
     get_edges(ws, at + EDGES_AT, m, edges);
-    Kept {
-        present: w / LOCAL_END != 0,
-        refs: n,
-        edges: m,
-    }
+    Some(Kept { refs: n, edges: m })
 }

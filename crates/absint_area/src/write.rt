@@ -3,34 +3,21 @@ ghost use Rattle.std.specs.Prelude.{◌≡◌, ◌+◌, ◌*◌, ◌≤◌, leng
 ghost use Rattle.std.proofs.Math.Option.{some};
 ghost use Rattle.meaning.specs.Limits.{max_locals, max_names, max_edges, max_blocks, area_words, block_words};
 ghost use Rattle.meaning.specs.Area.{edge_in, decode, word_at, words_from, unkept, edge_words};
-ghost use Rattle.meaning.specs.Laws.Area.{Frame, Written, WrittenEdges, IsLocal, IsName, IsZero, above_local};
+ghost use Rattle.meaning.specs.Laws.Area.{Frame, Written, WrittenEdges, IsLocal, IsName, above_local};
 ghost use Rattle.references.specs.Models.{row_of};
 ghost use Rattle.abstract_state.specs.Models.{words, state_of};
 ghost use Rattle.absint_area.specs.ModelLaws.{local_at, name_at, row_at};
 
 use crate::{EDGES_AT, LOCAL_END, REFS_AT};
 use abstract_state::state::{AbstractState, LOCALS};
-use meaning::{AREA_WORDS, BLOCK_WORDS, EDGE_WORDS, MAX_BLOCKS, MAX_EDGES, MAX_NAMES, lesser};
-
-pub(crate) fn put_zeros(ws: &mut [u32])
-    requires { area_words ≤ length ws.old }
-    ensures { Written IsZero 0 area_words area_words ws.old ws.new }
-{
-    let mut i: usize = 0;
-    while i < AREA_WORDS {
-        ws[i] = 0;
-        i += 1;
-    }
-}
+use meaning::{BLOCK_WORDS, EDGE_WORDS, MAX_BLOCKS, MAX_EDGES, MAX_NAMES, lesser};
 
 pub(crate) fn put_absent(ws: &mut [u32])
     requires { area_words ≤ length ws.old }
     ensures { ws.new ≡ unkept max_blocks ws.old }
 {
-    let mut b: usize = 0;
-    while b < MAX_BLOCKS {
+    for b in 0..MAX_BLOCKS {
         ws[BLOCK_WORDS * b] = 0;
-        b += 1;
     }
 }
 
@@ -38,16 +25,12 @@ fn above_local(i: usize, names: usize, edges: usize) -> u32
     requires { (names ≤ max_names) × (edges ≤ max_edges) }
     ensures { (result ≡ above_local names edges i) × (result ≤ max_edges) }
 {
-    if i == 0 {
-        return 1;
+    match i {
+        0 => 1,
+        1 => names as u32,
+        2 => edges as u32,
+        _ => 0,
     }
-    if i == 1 {
-        return names as u32;
-    }
-    if i == 2 {
-        return edges as u32;
-    }
-    0
 }
 
 // A loaded local's word still has a count above it.
@@ -55,12 +38,9 @@ fn put_locals(ws: &mut [u32], at: usize, locals: &[u32; LOCALS], names: usize, e
     requires { (at + max_locals ≤ length ws.old) × (names ≤ max_names) × (edges ≤ max_edges) }
     ensures { Written (IsLocal (local_at locals.now) names edges) at max_locals max_locals ws.old ws.new }
 {
-    let mut i: usize = 0;
-    while i < LOCALS {
+    for i in 0..LOCALS {
         let w = locals[i] % LOCAL_END;
-        let a = above_local(i, names, edges);
-        ws[at + i] = w + a * LOCAL_END;
-        i += 1;
+        ws[at + i] = w + above_local(i, names, edges) * LOCAL_END;
     }
 }
 
@@ -68,32 +48,22 @@ fn put_refs(ws: &mut [u32], at: usize, names: &[u32; MAX_NAMES], n: usize)
     requires { (at + max_names ≤ length ws.old) × (n ≤ max_names) }
     ensures { Written (IsName (name_at names.now)) at max_names n ws.old ws.new }
 {
-    let mut i: usize = 0;
-    while i < n {
-        ws[at + i] = names[i];
-        i += 1;
-    }
+    ws[at..at + n].copy_from_slice(&names[..n]);
 }
 
 fn put_row(ws: &mut [u32], at: usize, x: &[u32; EDGE_WORDS])
     requires { at + edge_words ≤ length ws.old }
     ensures { Frame at edge_words ws.old ws.new × (edge_in (word_at ws.new) at ≡ row_of x.now) }
 {
-    let mut i: usize = 0;
-    while i < EDGE_WORDS {
-        ws[at + i] = x[i];
-        i += 1;
-    }
+    ws[at..at + EDGE_WORDS].copy_from_slice(x);
 }
 
 fn put_edges(ws: &mut [u32], at: usize, edges: &[[u32; EDGE_WORDS]; MAX_EDGES], n: usize)
     requires { (at + edge_words * max_edges ≤ length ws.old) × (n ≤ max_edges) }
     ensures { WrittenEdges (row_at edges.now) at max_edges n ws.old ws.new }
 {
-    let mut i: usize = 0;
-    while i < n {
+    for i in 0..n {
         put_row(ws, at + EDGE_WORDS * i, &edges[i]);
-        i += 1;
     }
 }
 

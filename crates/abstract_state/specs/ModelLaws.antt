@@ -3,8 +3,7 @@ use Rattle.std.specs.Prelude.{◌≡◌, ℕ, zero, suc, ◌+◌, ◌<◌, ◌�
 use Rattle.std.specs.Prelude.{refl}
 use Rattle.std.proofs.Common.{sym, ap, ◌∙◌, true≢false, not-suc-le-zero, le_of_suc-le-suc, add-one, arith, ne_eqb, le-ltb}
 use Rattle.std.proofs.Math.Option.{Option, none, some}
-use Rattle.meaning.specs.Answers.{Ans, ok, refuse, guard, Outcome, done, violated, refused, then, lift, needs, fails_at}
-use Rattle.meaning.proofs.Laws.Base.{ok_inj, refuse≢ok}
+use Rattle.meaning.specs.Answers.{Ans, ok, refuse, guard, and_then, Outcome, done, violated, refused, then, lift, needs, fails_at}
 use Rattle.meaning.proofs.Laws.Lowest.{lowest_guard}
 use Rattle.meaning.specs.BorrowGraph.{Graph, GEdge, blurs_by, Borrows, well_formed, held, is_mutable, new_name, borrows_fully, borrows, borrows_mutably, lowest_of, borrowed_by}
 use Rattle.meaning.specs.BorrowGraph as L
@@ -13,9 +12,12 @@ use Rattle.meaning.specs.AbstractState.{Operand, non_ref, reference}
 use Rattle.meaning.specs.Area.{local_as, local_in}
 use Rattle.meaning.specs.EntryPoints as R
 use Rattle.meaning.specs.EntryPoints.{Running, Answer, count_on, on_graph, needs_name, new_ref}
-use Rattle.references.specs.Models.{told}
-use Rattle.borrow_graph.specs.Models.{low_in}
-use Rattle.abstract_state.specs.Models.{Words, words, Fits, Does, Gives, running_of, outcome_of, halted, heeding, failing, needing, locals_in}
+use Rattle.vm_status.specs.Models.{code_of, number_of}
+use Rattle.vm_status.specs.declared.StatusCode.{StatusCode}
+use Rattle.vm_status.specs.declared.Refusal.{Refusal}
+use Rattle.vm_status.specs.declared.Refusal.TheVariants.{Short, UnknownKind, BadBody, MisplacedFunction, BadBlocks, PastLimit, SmallArea, NameHeld, IllFormed, EmptyStack, WrongOperand, AbsentLocal, Immutable, OperandsLeft, UnlikeLocals, NamesClash, FullStack, ManyEdges, LongPath, ManyNames, LateBlock}
+use Rattle.vm_status.specs.declared.StatusCode.TheVariants.{CopyLocExistsBorrow, MoveLocExistsBorrow, StLocUnsafeToDestroy, FreezeRefExistsMutableBorrow, ReadRefExistsMutableBorrow, WriteRefExistsBorrow, BorrowLocExistsBorrow, BorrowFieldExistsMutableBorrow, GlobalReference, VecUpdateExistsMutableBorrow, VecBorrowElementExistsMutableBorrow, CallBorrowedMutableReference, UnsafeRet, RetBorrowedMutableReference}
+use Rattle.abstract_state.specs.Models.{Words, words, Fits, Does, Gives, running_of, outcome_of, halted, heeding, failing, locals_in}
 use Rattle.abstract_state.specs.declared.state.AbstractState.{AbstractState}
 
 -- ---- states that stop
@@ -111,155 +113,102 @@ pub does_here : (f : Running → Outcome Running) (ls ns : List ℕ) (es : List 
     → outcome_of (words ls ns es t) ≡ then (outcome_of (words ls ns es s)) f → Does f (words ls ns es s) (words ls ns es t)
 does_here f ls ns es s t g e = record { fits = λ h. record { locals = h.locals; tells = rw g h.tells }; does = λ h. e }
 
--- a state that goes on gets a number more
+-- a state that goes on is refused, or gets a violation
 module _ {A : Type 0} (k v o n : ℕ) (a : A) (e : (v == 0 && n == 0) ≡ true) where
-  pub new_violation : (c w : ℕ) → halted k c w n a ≡ halted k c w 0 a
-  new_violation c w = go (v == 0) (n == 0) e
-    where
-      go : (x y : Bool) → (x && y) ≡ true → cond (c == 0) (cond y (done a) (refused n)) (violated k c w) ≡ halted k c w 0 a
-      go true true e = refl
-      go true false e = absurd (true≢false (sym e))
-      go false y e = absurd (true≢false (sym e))
+  pub going : halted k v o n a ≡ done a
+  going = then_done (halted k v o n a) ∙ sym (goes k v o n a done e)
 
-  -- (it has no violation, so that the sets blurred and the borrow are not asked for)
-  pub new_refusal : (j m : ℕ) → halted k v o m a ≡ halted j 0 0 m a
-  new_refusal j m = go (v == 0) e
+  pub refused_by : (m : ℕ) → (m == 0) ≡ false → halted k v o m a ≡ then (halted k v o n a) (λ s. refused m)
+  refused_by m z = go (v == 0) (n == 0) (m == 0) e z ∙ goes k v o n a (λ s. refused m) e
     where
-      go : (x : Bool) → (x && n == 0) ≡ true → cond x (cond (m == 0) (done a) (refused m)) (violated k v o) ≡ halted j 0 0 m a
-      go true e = refl
-      go false e = absurd (true≢false (sym e))
+      go : (x y w : Bool) → (x && y) ≡ true → w ≡ false → cond x (cond w (done a) (refused m)) (violated k v o) ≡ refused m
+      go true y true e z = absurd (true≢false z)
+      go true y false e z = refl
+      go false y w e z = absurd (true≢false (sym e))
 
-  -- refused by a number of its own
-  pub stopped_by : (m : ℕ) → halted k v o m a ≡ then (halted k v o n a) (λ s. halted 0 0 0 m s)
-  stopped_by m = new_refusal 0 m ∙ goes k v o n a (λ s. halted 0 0 0 m s) e
+pub violated_by : (v o n : ℕ) (a : Running) (e : (v == 0 && n == 0) ≡ true) (c w : ℕ) → (c == 0) ≡ false → halted a.blurs c w n a ≡ then (halted a.blurs v o n a) (λ s. violated s.blurs c w)
+violated_by v o n a e c w z = rw z (goes a.blurs v o n a (λ s. violated s.blurs c w) e)
 
 -- ---- questions
 
-pub told_then : {A B : Type 0} (m : ℕ) (b : B) (f : B → Outcome A) → cond (m == 0) (f b) (refused m) ≡ then (lift (told m b)) f
-told_then {A} {B} m b f = go (m == 0)
+-- each code is a violation's
+pub code_known : (s : StatusCode) → (code_of s == 0) ≡ false
+code_known CopyLocExistsBorrow = refl
+code_known MoveLocExistsBorrow = refl
+code_known StLocUnsafeToDestroy = refl
+code_known FreezeRefExistsMutableBorrow = refl
+code_known ReadRefExistsMutableBorrow = refl
+code_known WriteRefExistsBorrow = refl
+code_known BorrowLocExistsBorrow = refl
+code_known BorrowFieldExistsMutableBorrow = refl
+code_known GlobalReference = refl
+code_known VecUpdateExistsMutableBorrow = refl
+code_known VecBorrowElementExistsMutableBorrow = refl
+code_known CallBorrowedMutableReference = refl
+code_known UnsafeRet = refl
+code_known RetBorrowedMutableReference = refl
+
+-- and each number is a refusal's
+pub number_known : (r : Refusal) → (number_of r == 0) ≡ false
+number_known Short = refl
+number_known UnknownKind = refl
+number_known BadBody = refl
+number_known MisplacedFunction = refl
+number_known BadBlocks = refl
+number_known PastLimit = refl
+number_known SmallArea = refl
+number_known NameHeld = refl
+number_known IllFormed = refl
+number_known EmptyStack = refl
+number_known WrongOperand = refl
+number_known AbsentLocal = refl
+number_known Immutable = refl
+number_known OperandsLeft = refl
+number_known UnlikeLocals = refl
+number_known NamesClash = refl
+number_known FullStack = refl
+number_known ManyEdges = refl
+number_known LongPath = refl
+number_known ManyNames = refl
+number_known LateBlock = refl
+
+-- an answer made of another one
+pub asked_map : {A B : Type 0} (g : Graph) (n : ℕ) (f : A → B) (t : Ans A) (a : A) → t ≡ L.of_name g n a → and_then t (λ x. ok (f x)) ≡ L.of_name g n (f a)
+asked_map {A} {B} g n f t a e = ap {B = Ans B} (λ (u : Ans A). and_then u (λ x. ok (f x))) e ∙ go (well_formed g && held g n)
   where
-    go : (x : Bool) → cond x (f b) (refused m) ≡ then (lift (cond x (ok b) (refuse m))) f
+    go : (b : Bool) → and_then (guard b 9 (ok a)) (λ x. ok (f x)) ≡ guard b 9 (ok (f a))
     go true = refl
     go false = refl
 
-module _ (v o n : ℕ) (a : Running) (m : ℕ) (e : (v == 0 && n == 0) ≡ true) where
-  abbrev now : Outcome Running
-  now = halted a.blurs v o n a
-
-  pub heeded : (b : Bool) → halted a.blurs v o m a ≡ then now (heeding (told m b))
-  heeded b = new_refusal a.blurs v o n a e 0 m ∙ told_then m b (λ y. done a) ∙ goes a.blurs v o n a (heeding (told m b)) e
-
-  -- the lowest offset w that was found, and the code c
-  module _ (w c : ℕ) where
-    abbrev failure : Option ℕ → Outcome Running
-    failure l = cond (c == 0) (done a) (fails_at a.blurs l c (done a))
-
-    pub failed : (m == 0 && nat_lt w 65536) ≡ true → halted a.blurs c w n a ≡ then now (failing (told m (low_in w)) c)
-    failed h =
-        new_violation a.blurs v o n a e c w ∙ go (m == 0) (nat_lt w 65536) h ∙ told_then m (low_in w) failure
-        ∙ goes a.blurs v o n a (failing (told m (low_in w)) c) e
-      where
-        go : (x y : Bool) → (x && y) ≡ true → halted a.blurs c w 0 a ≡ cond x (failure (cond y (some w) none)) (refused m)
-        go true true h = refl
-        go true false h = absurd (true≢false (sym h))
-        go false y h = absurd (true≢false (sym h))
-
-    pub not_failed : (m == 0 && nat_lt w 65536) ≡ false → halted a.blurs v o m a ≡ then now (failing (told m (low_in w)) c)
-    not_failed h =
-        new_refusal a.blurs v o n a e 0 m ∙ go (m == 0) (nat_lt w 65536) (c == 0) h ∙ told_then m (low_in w) failure
-        ∙ goes a.blurs v o n a (failing (told m (low_in w)) c) e
-      where
-        go : (x y z : Bool) → (x && y) ≡ false
-            → cond x (done a) (refused m) ≡ cond x (cond z (done a) (fails_at a.blurs (cond y (some w) none) c (done a))) (refused m)
-        go true true z h = absurd (true≢false h)
-        go true false true h = refl
-        go true false false h = refl
-        go false y z h = refl
-
-  pub needed : (b : Bool) (c : ℕ) → (m == 0 && not b) ≡ true → halted a.blurs v o c a ≡ then now (needing (told m b) c)
-  needed b c h =
-      new_refusal a.blurs v o n a e 0 c ∙ go (m == 0) b h ∙ told_then m b (λ y. halted 0 0 0 (cond y 0 c) a)
-      ∙ goes a.blurs v o n a (needing (told m b) c) e
-    where
-      go : (x y : Bool) → (x && not y) ≡ true → halted 0 0 0 c a ≡ cond x (halted 0 0 0 (cond y 0 c) a) (refused m)
-      go true true h = absurd (true≢false (sym h))
-      go true false h = refl
-      go false y h = absurd (true≢false (sym h))
-
-  pub not_needed : (b : Bool) (c : ℕ) → (m == 0 && not b) ≡ false → halted a.blurs v o m a ≡ then now (needing (told m b) c)
-  not_needed b c h =
-      new_refusal a.blurs v o n a e 0 m ∙ go (m == 0) b h ∙ told_then m b (λ y. halted 0 0 0 (cond y 0 c) a)
-      ∙ goes a.blurs v o n a (needing (told m b) c) e
-    where
-      go : (x y : Bool) → (x && not y) ≡ false → cond x (done a) (refused m) ≡ cond x (halted 0 0 0 (cond y 0 c) a) (refused m)
-      go true true h = refl
-      go true false h = absurd (true≢false h)
-      go false y h = refl
-
--- an answer made of another one's, or of two
-module _ {A B : Type 0} (g : Graph) (n : ℕ) where
-  pub told_map : (m : ℕ) (x a : A) (f : A → B) → told m x ≡ L.of_name g n a → told m (f x) ≡ L.of_name g n (f a)
-  told_map m x a f e = inner (m == 0) ∙ ap mapped e ∙ outer (well_formed g && held g n)
-    where
-      mapped : Ans A → Ans B
-      mapped (ok y) = ok (f y)
-      mapped (refuse k) = refuse k
-
-      inner : (b : Bool) → cond b (ok (f x)) (refuse m) ≡ mapped (cond b (ok x) (refuse m))
-      inner true = refl
-      inner false = refl
-
-      outer : (b : Bool) → mapped (guard b 9 (ok a)) ≡ guard b 9 (ok (f a))
-      outer true = refl
-      outer false = refl
-
-module _ {A B C : Type 0} (g : Graph) (n : ℕ) where
-  pub told_both : (m k : ℕ) (x a : A) (y b : B) (f : A → B → C) → told m x ≡ L.of_name g n a → told k y ≡ L.of_name g n b → told k (f x y) ≡ L.of_name g n (f a b)
-  told_both m k x a y b f e h = mapped ∙ go (well_formed g && held g n) (m == 0) e
-    where
-      mapped : told k (f x y) ≡ L.of_name g n (f x b)
-      mapped = told_map g n k y b (f x) h
-
-      go : (p q : Bool) → cond q (ok x) (refuse m) ≡ guard p 9 (ok a) → guard p 9 (ok (f x b)) ≡ guard p 9 (ok (f a b))
-      go true true e = ap (λ (z : A). ok (f z b)) (ok_inj e)
-      go true false e = absurd (refuse≢ok e)
-      go false q e = refl
-
--- only a mutable reference is barred: the code's answer, of two look-ups
-pub barred : (g : Graph) (n m k j : ℕ) (y : Bool) (w o : ℕ) (p : GEdge → Bool) → told m y ≡ L.of_name g n (is_mutable g n)
-    → told k (low_in w) ≡ L.of_name g n (lowest_of p g.edges) → (j ≡ k) × (low_in o ≡ cond y (low_in w) none)
-    → told j (low_in o) ≡ L.of_name g n (lowest_of (λ x. is_mutable g n && p x) g.edges)
-barred g n m k j y w o p a b e =
-    (λ i. told (e.0 i) (e.1 i))
-    ∙ told_both g n m k y (is_mutable g n) (low_in w) (lowest_of p g.edges) (λ z l. cond z l none) a b
+-- only a mutable reference is barred: the second look-up counts where the first says yes
+pub barred : (g : Graph) (n : ℕ) (p : GEdge → Bool) (t : Ans Bool) → t ≡ L.of_name g n (is_mutable g n)
+    → and_then t (λ m. cond m (L.of_name g n (lowest_of p g.edges)) (ok none)) ≡ L.of_name g n (lowest_of (λ x. is_mutable g n && p x) g.edges)
+barred g n p t e =
+    let l : Option ℕ = lowest_of p g.edges in
+    ap {B = Ans (Option ℕ)} (λ (u : Ans Bool). and_then u (λ m. cond m (L.of_name g n l) (ok none))) e
+    ∙ go (well_formed g && held g n) (is_mutable g n) l
     ∙ ap (L.of_name g n) (sym (lowest_guard (is_mutable g n) p g.edges))
+  where
+    go : (b m : Bool) (l : Option ℕ) → and_then (guard b 9 (ok m)) (λ y. cond y (guard b 9 (ok l)) (ok none)) ≡ guard b 9 (ok (cond m l none))
+    go true true l = refl
+    go true false l = refl
+    go false m l = refl
 
 -- one of the three answers of a look-up
-pub asked : (g : Graph) (n : ℕ) (at : Option ℕ) (m : ℕ) (b : Borrows) (f : Borrows → Option ℕ) → told m b ≡ borrowed_by g n at
-    → told m (f b) ≡ L.of_name g n (f (record { full = lowest_of (borrows_fully n) g.edges; consistent = lowest_of (borrows n at) g.edges; mutable = lowest_of (borrows_mutably g n at) g.edges }))
+pub asked : (g : Graph) (n : ℕ) (at : Option ℕ) (f : Borrows → Option ℕ) (t : Ans Borrows) → t ≡ borrowed_by g n at
+    → and_then t (λ b. ok (f b)) ≡ L.of_name g n (f (record { full = lowest_of (borrows_fully n) g.edges; consistent = lowest_of (borrows n at) g.edges; mutable = lowest_of (borrows_mutably g n at) g.edges }))
 unfolding borrowed_by
-asked g n at m b f e =
-    told_map {A = Borrows} g n m b
-    (record { full = lowest_of (borrows_fully n) g.edges; consistent = lowest_of (borrows n at) g.edges; mutable = lowest_of (borrows_mutably g n at) g.edges })
-    f e
+asked g n at f t e =
+    asked_map {A = Borrows} g n f t (record { full = lowest_of (borrows_fully n) g.edges; consistent = lowest_of (borrows n at) g.edges; mutable = lowest_of (borrows_mutably g n at) g.edges }) e
 
 -- ---- calls on the graph
-
-pub answered : {A G : Type 0} (j k v o n : ℕ) (a : A) (m : ℕ) (g : G) (f : A → G → A) → (v == 0 && n == 0) ≡ true
-    → halted j v o m (f a g) ≡ then (halted k v o n a) (λ s. then (lift (told m g)) (λ h. done (f s h)))
-answered {A} {G} j k v o n a m g f e =
-    new_refusal j v o n (f a g) e 0 m ∙ told_then m g (λ h. done (f a h)) ∙ goes k v o n a (λ s. then (lift (told m g)) (λ h. done (f s h))) e
 
 -- the state after a call that left the graph h and blurred b sets
 abbrev pub counted : ℕ → Running → Graph → Running
 counted b r h = record { locals = r.locals; graph = h; next = r.next; root = r.root; blurs = count_on r.blurs b; offset = r.offset }
 
-pub passed_up_lem : (r : Running) (m b : ℕ) (g : Graph) (x : Ans Graph) → told m g ≡ x → b ≡ blurs_by r.graph x → then (lift (told m g)) (λ h. done (counted b r h)) ≡ on_graph r x
-passed_up_lem r m b g x e q = go (m == 0) e
-  where
-    go : (y : Bool) → cond y (ok g) (refuse m) ≡ x → then (lift (cond y (ok g) (refuse m))) (λ h. done (counted b r h)) ≡ on_graph r x
-    go true e = ap {B = Outcome Running} (λ (k : ℕ). done (counted k r g)) (q ∙ ap (blurs_by r.graph) (sym e)) ∙ ap (on_graph r) e
-    go false e = ap (on_graph r) e
+pub passed_up : (r : Running) (b : ℕ) (g : Graph) (x : Ans Graph) → ok g ≡ x → b ≡ blurs_by r.graph x → done (counted b r g) ≡ on_graph r x
+passed_up r b g x e q = ap {B = Outcome Running} (λ (k : ℕ). done (counted k r g)) (q ∙ ap (blurs_by r.graph) (sym e)) ∙ ap (on_graph r) e
 
 -- the state with a fresh name
 abbrev pub named : Running → Graph → Running
@@ -346,13 +295,12 @@ heed_at g n b r k = go (well_formed g && held g n)
     go false = refl
 
 -- a test on edges, whose lowest is l
-pub fail_at : {A : Type 0} (g : Graph) (n : ℕ) (l : Option ℕ) (r : Running) (k : Running → Outcome A) (c : ℕ) → (c == 0) ≡ false
-    → then (failing (L.of_name g n l) c r) k ≡ needs_name g n (fails_at r.blurs l c (k r))
-fail_at {A} g n l r k c z = go (well_formed g && held g n) l
+pub fail_at : {A : Type 0} (g : Graph) (n : ℕ) (l : Option ℕ) (r : Running) (k : Running → Outcome A) (c : ℕ) → then (failing (L.of_name g n l) c r) k ≡ needs_name g n (fails_at r.blurs l c (k r))
+fail_at {A} g n l r k c = go (well_formed g && held g n) l
   where
     go : (x : Bool) (m : Option ℕ) → then (failing (guard x 9 (ok m)) c r) k ≡ needs x 9 (fails_at r.blurs m c (k r))
-    go true none = rw z refl
-    go true (some o) = rw z refl
+    go true none = refl
+    go true (some o) = refl
     go false m = refl
 
 pub known_then : {A B : Type 0} (g : Graph) (n : ℕ) (k : Outcome A) (f : A → Outcome B) → then (needs_name g n k) f ≡ needs_name g n (then k f)

@@ -1,9 +1,11 @@
 -- What the arrays and structs of the code stand for in the definitions.
 use Rattle.std.specs.Prelude.{◌≡◌, ℕ, ◌/◌, ◌%◌, Bool, cond, List, map, length, take, ◌==◌, nat_lt}
+use Rattle.std.specs.Prelude as P
+use Rattle.std.specs.Prelude.{Some, None}
 use Rattle.std.proofs.Math.Option.{Option}
 use Rattle.meaning.specs.Limits.{max_locals, u16_end}
 use Rattle.meaning.specs.Area.{local_in}
-use Rattle.meaning.specs.Answers.{Ans, Outcome, done, violated, refused, then, lift, fails_at}
+use Rattle.meaning.specs.Answers.{Ans, Outcome, done, violated, refused, then, lift, needs, fails_at}
 use Rattle.meaning.specs.AbstractState as S
 use Rattle.meaning.specs.AbstractState.{State, Operand, non_ref, reference}
 use Rattle.meaning.specs.EntryPoints as R
@@ -11,7 +13,6 @@ use Rattle.meaning.specs.EntryPoints.{Running, Answer}
 use Rattle.borrow_graph.specs.Models.{graph_in, Tells}
 use Rattle.abstract_state.specs.declared.state.AbstractValue.{AbstractValue}
 use Rattle.abstract_state.specs.declared.state.AbstractValue.TheVariants.{Reference, NonReference}
-use Rattle.abstract_state.specs.declared.state.Local.{Local}
 use Rattle.abstract_state.specs.declared.state.Operands.{Operands}
 use Rattle.abstract_state.specs.declared.state.AbstractState.{AbstractState}
 
@@ -29,8 +30,9 @@ operands_in ws n = map operand_in (take n ws)
 abbrev pub operands_of : Operands → List Operand
 operands_of s = operands_in s.list s.len
 
-abbrev pub local_of : Local → S.Local
-local_of x = cond x.present (R.local_of (operand_of x.value)) S.Local.absent
+abbrev pub local_of : P.Option AbstractValue → S.Local
+local_of (Some v) = R.local_of (operand_of v)
+local_of None = S.Local.absent
 
 -- the first n locals
 unfoldable pub locals_in : List ℕ → ℕ → List S.Local
@@ -83,12 +85,11 @@ answer_of a = stopped a.state (record { state = running_of a; operand = operand_
 abbrev pub heeding : Ans Bool → Running → Outcome Running
 heeding t s = then (lift t) (λ b. done s)
 
--- (a code 0 is no violation)
 abbrev pub failing : Ans (Option ℕ) → ℕ → Running → Outcome Running
-failing t c s = then (lift t) (λ o. cond (c == 0) (done s) (fails_at s.blurs o c (done s)))
+failing t c s = then (lift t) (λ o. fails_at s.blurs o c (done s))
 
 abbrev pub needing : Ans Bool → ℕ → Running → Outcome Running
-needing t n s = then (lift t) (λ b. halted 0 0 0 (cond b 0 n) s)
+needing t n s = then (lift t) (λ b. needs b n (done s))
 
 -- From a to b the state does f. Of words that fit no state nothing is said.
 pub record Does (f : Running → Outcome Running) (a b : Words) : Type 0 where

@@ -15,22 +15,23 @@
 //   give, refuse, pass_refusal, require_yes    what the Rust's answers and panics become
 ghost use Rattle.std.specs.Prelude.{◌≡◌, ℕ, List, if◌then◌else◌, nat_lt, slice_index_or};
 ghost use Rattle.meaning.specs.AbstractState as S;
-ghost use Rattle.meaning.specs.Answers.{Ans, done};
+ghost use Rattle.meaning.specs.Answers.{Ans, done, violated, refused};
 ghost use Rattle.meaning.specs.BorrowGraph as L;
 ghost use Rattle.meaning.specs.EntryPoints.{answer, with_local, count_on, on_graph, new_ref, add_copy, add_borrow, add_field_borrow, add_local_borrow, add_resource_borrow, release_name};
 ghost use Rattle.borrow_graph.specs.Models as G;
 ghost use Rattle.borrow_graph_edit.specs.Models.{Blurs};
+ghost use Rattle.vm_status.specs.Models.{code_of, number_of};
 ghost use Rattle.abstract_state.specs.Models.{operand_of, local_of, locals_in, words, Fits, Does, Gives, halted, heeding, failing, needing};
 
-use crate::state::{AbstractState, AbstractValue, LOCALS, Local};
+use crate::state::{AbstractState, AbstractValue, LOCALS};
 use crate::words::{local_of, local_word};
-use borrow_graph::graph::{Lowest, NO_OFFSET, YesOrNo};
-use borrow_graph_edit::blurs::Blurring;
+use borrow_graph::graph::BorrowGraph;
+use borrow_graph_edit::borrow::{add_strong_borrow, add_weak_borrow};
 use file_format::{CodeOffset, LocalIndex};
 use meaning::{EDGE_WORDS, MAX_EDGES, MAX_LOCALS, MAX_NAMES};
 use paths::Label;
 use references::RefID;
-use references::rows::LabelFilter;
+use vm_status::{Refusal, StatusCode};
 
 // A name is below this.
 const NAME_END: u32 = 65536;
@@ -54,77 +55,69 @@ pub fn fresh(state: AbstractState) -> RefID
 pub fn give(state: AbstractState, value: AbstractValue) -> AbstractState
     ensures { (ls ns : List ℕ) (es : List (List ℕ)) → Gives (λ s. answer s (operand_of value)) (words ls ns es state) (words ls ns es result) }
 {
-    let g = state.borrow_graph;
-    let borrowed_at = state.borrowed_at;
-    let offset = state.offset;
-    AbstractState {
-        violation: state.violation,
-        borrowed_at,
-        refusal: state.refusal,
-        offset,
-        value: value,
-        num_locals: state.num_locals,
-        next_id: state.next_id,
-        blurred: state.blurred,
-        borrow_graph: g,
-    }
+    AbstractState { value, ..state }
 }
 
-pub fn refuse(state: AbstractState, number: u8) -> AbstractState
-    ensures { (ls ns : List ℕ) (es : List (List ℕ)) → Does (λ s. halted 0 0 0 number s) (words ls ns es state) (words ls ns es result) }
+pub fn refuse(state: AbstractState, r: Refusal) -> AbstractState
+    ensures { (ls ns : List ℕ) (es : List (List ℕ)) → Does (λ s. refused (number_of r)) (words ls ns es state) (words ls ns es result) }
 {
     let mut s = state;
     if (state.violation == 0) & (state.refusal == 0) {
-        s.refusal = number;
+        s.refusal = u8::from(r);
+    }
+    s
+}
+
+// What stands in the way was borrowed at this offset.
+fn violate(state: AbstractState, code: StatusCode, at: CodeOffset) -> AbstractState
+    ensures { (ls ns : List ℕ) (es : List (List ℕ)) → Does (λ s. violated s.blurs (code_of code) at.0) (words ls ns es state) (words ls ns es result) }
+{
+    let mut s = state;
+    if (state.violation == 0) & (state.refusal == 0) {
+        s.violation = u8::from(code);
+        s.borrowed_at = at;
     }
     s
 }
 
 // Refused, where the question was.
-pub fn pass_refusal(state: AbstractState, t: YesOrNo) -> AbstractState
+pub fn pass_refusal(state: AbstractState, t: Result<bool, Refusal>) -> AbstractState
     ensures { (ls ns : List ℕ) (es : List (List ℕ)) → Does (heeding (G.told_of t)) (words ls ns es state) (words ls ns es result) }
 {
-    let mut s = state;
-    if (state.violation == 0) & (state.refusal == 0) {
-        s.refusal = t.refusal;
+    match t {
+        Ok(_) => state,
+        Err(e) => refuse(state, e),
     }
-    s
 }
 
 // Refused, where the question was or its answer is no.
-pub fn require_yes(state: AbstractState, t: YesOrNo, number: u8) -> AbstractState
-    ensures { (ls ns : List ℕ) (es : List (List ℕ)) → Does (needing (G.told_of t) number) (words ls ns es state) (words ls ns es result) }
+pub fn require_yes(state: AbstractState, t: Result<bool, Refusal>, r: Refusal) -> AbstractState
+    ensures { (ls ns : List ℕ) (es : List (List ℕ)) → Does (needing (G.told_of t) (number_of r)) (words ls ns es state) (words ls ns es result) }
 {
-    let mut s = state;
-    if (state.violation == 0) & (state.refusal == 0) {
-        if (t.refusal == 0) & !t.yes {
-            s.refusal = number;
-        } else {
-            s.refusal = t.refusal;
-        }
+    match t {
+        Ok(true) => state,
+        Ok(false) => refuse(state, r),
+        Err(e) => refuse(state, e),
     }
-    s
 }
 
 // Refused where the question was; violated where there is an edge of the kind that it asked for.
-pub fn violate_if(state: AbstractState, t: Lowest, code: u8) -> AbstractState
-    ensures { (ls ns : List ℕ) (es : List (List ℕ)) → Does (failing (G.low_of t) code) (words ls ns es state) (words ls ns es result) }
+pub fn violate_if(
+    state: AbstractState,
+    t: Result<Option<CodeOffset>, Refusal>,
+    code: StatusCode,
+) -> AbstractState
+    ensures { (ls ns : List ℕ) (es : List (List ℕ)) → Does (failing (G.low_of t) (code_of code)) (words ls ns es state) (words ls ns es result) }
 {
-    let mut s = state;
-    if (state.violation == 0) & (state.refusal == 0) {
-        if (t.refusal == 0) & (t.offset < NO_OFFSET) {
-            s.violation = code;
-            let borrowed_at = CodeOffset(t.offset as u16);
-            s.borrowed_at = borrowed_at;
-        } else {
-            s.refusal = t.refusal;
-        }
+    match t {
+        Ok(None) => state,
+        Ok(Some(at)) => violate(state, code, at),
+        Err(e) => refuse(state, e),
     }
-    s
 }
 
 // What a local holds; one that there is not is absent.
-pub fn local(locals: &[u32; LOCALS], state: AbstractState, i: LocalIndex) -> Local
+pub fn local(locals: &[u32; LOCALS], state: AbstractState, i: LocalIndex) -> Option<AbstractValue>
     ensures { (ns : List ℕ) (es : List (List ℕ)) → Fits (words locals.now ns es state) → local_of result ≡ slice_index_or (locals_in locals.now state.num_locals) i.0 S.Local.absent }
 {
     if i.0 < state.num_locals {
@@ -133,13 +126,10 @@ pub fn local(locals: &[u32; LOCALS], state: AbstractState, i: LocalIndex) -> Loc
             return local_of(w);
         }
     }
-    Local {
-        present: false,
-        value: AbstractValue::NonReference,
-    }
+    None
 }
 
-pub fn set_local(locals: &mut [u32; LOCALS], i: LocalIndex, x: Local)
+pub fn set_local(locals: &mut [u32; LOCALS], i: LocalIndex, x: Option<AbstractValue>)
     ensures { (ns : List ℕ) (es : List (List ℕ)) (s : AbstractState) → Does (λ q. done (with_local q i.0 (local_of x))) (words locals.old ns es s) (words locals.new ns es s) }
 {
     if i.0 < MAX_LOCALS {
@@ -152,18 +142,20 @@ pub fn new_ref(names: &mut [u32; MAX_NAMES], state: AbstractState, mutable: bool
     ensures { (ls : List ℕ) (es : List (List ℕ)) → Does (new_ref mutable) (words ls names.old es state) (words ls names.new es result) }
 {
     if state.next_id < NAME_END {
-        let g = state.borrow_graph;
-        let a = borrow_graph::graph::new_ref(names, g, RefID(state.next_id as u16), mutable);
-        let h = a.graph;
-        let mut s = state;
-        s.borrow_graph = h;
-        s.next_id = state.next_id + 1;
-        if (state.violation == 0) & (state.refusal == 0) {
-            s.refusal = a.refusal;
-        }
-        return s;
+        let mut g = state.borrow_graph;
+        let id = RefID(state.next_id as u16);
+        let a = borrow_graph::graph::new_ref(names, &mut g, id, mutable);
+        let s = AbstractState {
+            borrow_graph: g,
+            next_id: state.next_id + 1,
+            ..state
+        };
+        return match a {
+            Ok(()) => s,
+            Err(e) => refuse(s, e),
+        };
     }
-    refuse(state, 9)
+    refuse(state, Refusal::IllFormed)
 }
 
 // A count goes on, but not beyond the most that it can hold.
@@ -176,18 +168,22 @@ fn count_on(n: u32, k: u8) -> u32
     n + k as u32
 }
 
-// What a graph call answered. A stopped state takes its graph too, since the arrays hold that one now.
-fn on_graph(state: AbstractState, a: Blurring) -> AbstractState
-    ensures { (ls ns ns' : List ℕ) (es es' : List (List ℕ)) (f : L.Graph → Ans L.Graph) → (G.Tells ns es state.borrow_graph → Blurs (f (G.graph_in ns es state.borrow_graph)) ns es state.borrow_graph ns' es' a) → Does (λ s. on_graph s (f s.graph)) (words ls ns es state) (words ls ns' es' result) }
+// What a graph call answered, the number of sets that it blurred, and the graph that it left. A stopped state takes that graph too, since the
+// arrays hold it now.
+fn on_graph(state: AbstractState, g: BorrowGraph, a: Result<u8, Refusal>) -> AbstractState
+    ensures { (ls ns ns' : List ℕ) (es es' : List (List ℕ)) (f : L.Graph → Ans L.Graph) → (G.Tells ns es state.borrow_graph → Blurs (f (G.graph_in ns es state.borrow_graph)) ns es state.borrow_graph ns' es' g a) → Does (λ s. on_graph s (f s.graph)) (words ls ns es state) (words ls ns' es' result) }
 {
-    let g = a.graph;
     let mut s = state;
     s.borrow_graph = g;
-    if (state.violation == 0) & (state.refusal == 0) {
-        s.refusal = a.refusal;
-        s.blurred = count_on(state.blurred, a.blurred);
+    match a {
+        Ok(blurred) => {
+            if (state.violation == 0) & (state.refusal == 0) {
+                s.blurred = count_on(state.blurred, blurred);
+            }
+            s
+        }
+        Err(e) => refuse(s, e),
     }
-    s
 }
 
 pub fn add_copy(
@@ -199,18 +195,10 @@ pub fn add_copy(
 ) -> AbstractState
     ensures { (ls : List ℕ) → Does (add_copy parent.0 child.0) (words ls names.now edges.old state) (words ls names.now edges.new result) }
 {
-    let g = state.borrow_graph;
+    let mut g = state.borrow_graph;
     let loc = state.offset;
-    let a = borrow_graph_edit::borrow::add_strong_borrow(
-        names,
-        edges,
-        g,
-        loc,
-        parent,
-        LabelFilter::Any,
-        child,
-    );
-    on_graph(state, a)
+    let a = add_strong_borrow(names, edges, &mut g, loc, parent, None, child);
+    on_graph(state, g, a)
 }
 
 pub fn add_borrow(
@@ -222,18 +210,10 @@ pub fn add_borrow(
 ) -> AbstractState
     ensures { (ls : List ℕ) → Does (add_borrow parent.0 child.0) (words ls names.now edges.old state) (words ls names.now edges.new result) }
 {
-    let g = state.borrow_graph;
+    let mut g = state.borrow_graph;
     let loc = state.offset;
-    let a = borrow_graph_edit::borrow::add_weak_borrow(
-        names,
-        edges,
-        g,
-        loc,
-        parent,
-        LabelFilter::Any,
-        child,
-    );
-    on_graph(state, a)
+    let a = add_weak_borrow(names, edges, &mut g, loc, parent, None, child);
+    on_graph(state, g, a)
 }
 
 pub fn add_field_borrow(
@@ -246,11 +226,11 @@ pub fn add_field_borrow(
 ) -> AbstractState
     ensures { (ls : List ℕ) → Does (add_field_borrow parent.0 field child.0) (words ls names.now edges.old state) (words ls names.now edges.new result) }
 {
-    let g = state.borrow_graph;
+    let mut g = state.borrow_graph;
     let loc = state.offset;
-    let path = LabelFilter::At(Label::Field(field));
-    let a = borrow_graph_edit::borrow::add_strong_borrow(names, edges, g, loc, parent, path, child);
-    on_graph(state, a)
+    let path = Some(Label::Field(field));
+    let a = add_strong_borrow(names, edges, &mut g, loc, parent, path, child);
+    on_graph(state, g, a)
 }
 
 pub fn add_local_borrow(
@@ -262,12 +242,12 @@ pub fn add_local_borrow(
 ) -> AbstractState
     ensures { (ls : List ℕ) → Does (add_local_borrow local.0 child.0) (words ls names.now edges.old state) (words ls names.now edges.new result) }
 {
-    let g = state.borrow_graph;
+    let mut g = state.borrow_graph;
     let loc = state.offset;
     let root = RefID(state.num_locals as u16);
-    let path = LabelFilter::At(Label::Local(local.0 as u16));
-    let a = borrow_graph_edit::borrow::add_strong_borrow(names, edges, g, loc, root, path, child);
-    on_graph(state, a)
+    let path = Some(Label::Local(local.0 as u16));
+    let a = add_strong_borrow(names, edges, &mut g, loc, root, path, child);
+    on_graph(state, g, a)
 }
 
 pub fn add_resource_borrow(
@@ -279,12 +259,12 @@ pub fn add_resource_borrow(
 ) -> AbstractState
     ensures { (ls : List ℕ) → Does (add_resource_borrow resource child.0) (words ls names.now edges.old state) (words ls names.now edges.new result) }
 {
-    let g = state.borrow_graph;
+    let mut g = state.borrow_graph;
     let loc = state.offset;
     let root = RefID(state.num_locals as u16);
-    let path = LabelFilter::At(Label::Global(resource));
-    let a = borrow_graph_edit::borrow::add_weak_borrow(names, edges, g, loc, root, path, child);
-    on_graph(state, a)
+    let path = Some(Label::Global(resource));
+    let a = add_weak_borrow(names, edges, &mut g, loc, root, path, child);
+    on_graph(state, g, a)
 }
 
 pub fn release(
@@ -295,7 +275,7 @@ pub fn release(
 ) -> AbstractState
     ensures { (ls : List ℕ) → Does (release_name id.0) (words ls names.old edges.old state) (words ls names.new edges.new result) }
 {
-    let g = state.borrow_graph;
-    let a = borrow_graph_edit::release::release(names, edges, g, id);
-    on_graph(state, a)
+    let mut g = state.borrow_graph;
+    let a = borrow_graph_edit::release::release(names, edges, &mut g, id);
+    on_graph(state, g, a)
 }

@@ -2,7 +2,6 @@
 #![tactic(auto)]
 
 pub mod basic_calls;
-pub mod codes;
 pub mod predicates;
 pub mod state;
 pub mod words;

@@ -19,36 +19,38 @@ ghost use Rattle.meaning.specs.Labels.{local_label, global_label};
 ghost use Rattle.meaning.specs.BorrowGraph.{of_name, is_mutable, borrows_fully, borrows, borrows_mutably, lowest_of};
 ghost use Rattle.meaning.specs.EntryPoints.{bars_reading};
 ghost use Rattle.references.specs.Models.{filter_of};
-ghost use Rattle.borrow_graph.specs.Models.{graph_in, told_of, low_in, low_of};
+ghost use Rattle.meaning.specs.Answers.{ok, and_then};
+ghost use Rattle.borrow_graph.specs.Models.{graph_in, told_of, low_of};
 ghost use Rattle.abstract_state.specs.Models.{words, Fits};
 
 use crate::basic_calls::frame_root;
 use crate::state::AbstractState;
-use borrow_graph::graph::{Lowest, NO_OFFSET, YesOrNo};
-use file_format::LocalIndex;
+use borrow_graph::lookups::borrowed_by;
+use file_format::{CodeOffset, LocalIndex};
 use meaning::{EDGE_WORDS, MAX_EDGES, MAX_NAMES};
 use paths::Label;
 use references::RefID;
-use references::rows::LabelFilter;
+use vm_status::Refusal;
 
-pub fn is_mutable(names: &[u32; MAX_NAMES], state: AbstractState, id: RefID) -> YesOrNo
+pub fn is_mutable(
+    names: &[u32; MAX_NAMES],
+    state: AbstractState,
+    id: RefID,
+) -> Result<bool, Refusal>
     ensures { (ls : List ℕ) (es : List (List ℕ)) → Fits (words ls names.now es state) → told_of result ≡ of_name (graph_in names.now es state.borrow_graph) id.0 (is_mutable (graph_in names.now es state.borrow_graph) id.0) }
 {
-    let g = state.borrow_graph;
-    borrow_graph::graph::is_mutable(names, g, id)
+    borrow_graph::graph::is_mutable(names, state.borrow_graph, id)
 }
 
 // The answer where it counts; else that there is no such edge.
-pub fn only_if(counts: bool, t: Lowest) -> Lowest
-    ensures { (result.refusal ≡ t.refusal) × (low_in result.offset ≡ (if counts then low_in t.offset else none)) }
+pub fn only_if(
+    counts: bool,
+    t: Result<Option<CodeOffset>, Refusal>,
+) -> Result<Option<CodeOffset>, Refusal>
+    ensures { low_of result ≡ and_then (low_of t) (λ l. ok (if counts then l else none)) }
 {
-    if counts {
-        return t;
-    }
-    Lowest {
-        refusal: t.refusal,
-        offset: NO_OFFSET,
-    }
+    let o = t?;
+    Ok(if counts { o } else { None })
 }
 
 // An empty-path borrow.
@@ -57,15 +59,11 @@ pub fn has_full_borrows(
     edges: &[[u32; EDGE_WORDS]; MAX_EDGES],
     state: AbstractState,
     id: RefID,
-) -> Lowest
+) -> Result<Option<CodeOffset>, Refusal>
     ensures { (ls : List ℕ) → Fits (words ls names.now edges.now state) → low_of result ≡ of_name (graph_in names.now edges.now state.borrow_graph) id.0 (lowest_of (borrows_fully id.0) (graph_in names.now edges.now state.borrow_graph).edges) }
 {
-    let g = state.borrow_graph;
-    let b = borrow_graph::lookups::borrowed_by(names, edges, g, id, LabelFilter::Any);
-    Lowest {
-        refusal: b.refusal,
-        offset: b.full,
-    }
+    let b = borrowed_by(names, edges, state.borrow_graph, id, None)?;
+    Ok(b.full)
 }
 
 pub fn has_consistent_borrows(
@@ -73,16 +71,12 @@ pub fn has_consistent_borrows(
     edges: &[[u32; EDGE_WORDS]; MAX_EDGES],
     state: AbstractState,
     id: RefID,
-    at: LabelFilter,
-) -> Lowest
+    at: Option<Label>,
+) -> Result<Option<CodeOffset>, Refusal>
     ensures { (ls : List ℕ) → Fits (words ls names.now edges.now state) → low_of result ≡ of_name (graph_in names.now edges.now state.borrow_graph) id.0 (lowest_of (borrows id.0 (filter_of at)) (graph_in names.now edges.now state.borrow_graph).edges) }
 {
-    let g = state.borrow_graph;
-    let b = borrow_graph::lookups::borrowed_by(names, edges, g, id, at);
-    Lowest {
-        refusal: b.refusal,
-        offset: b.consistent,
-    }
+    let b = borrowed_by(names, edges, state.borrow_graph, id, at)?;
+    Ok(b.consistent)
 }
 
 pub fn has_consistent_mutable_borrows(
@@ -90,16 +84,12 @@ pub fn has_consistent_mutable_borrows(
     edges: &[[u32; EDGE_WORDS]; MAX_EDGES],
     state: AbstractState,
     id: RefID,
-    at: LabelFilter,
-) -> Lowest
+    at: Option<Label>,
+) -> Result<Option<CodeOffset>, Refusal>
     ensures { (ls : List ℕ) → Fits (words ls names.now edges.now state) → low_of result ≡ of_name (graph_in names.now edges.now state.borrow_graph) id.0 (lowest_of (borrows_mutably (graph_in names.now edges.now state.borrow_graph) id.0 (filter_of at)) (graph_in names.now edges.now state.borrow_graph).edges) }
 {
-    let g = state.borrow_graph;
-    let b = borrow_graph::lookups::borrowed_by(names, edges, g, id, at);
-    Lowest {
-        refusal: b.refusal,
-        offset: b.mutable,
-    }
+    let b = borrowed_by(names, edges, state.borrow_graph, id, at)?;
+    Ok(b.mutable)
 }
 
 // Only a mutable reference can be kept from being read.
@@ -108,13 +98,14 @@ pub fn bars_reading(
     edges: &[[u32; EDGE_WORDS]; MAX_EDGES],
     state: AbstractState,
     id: RefID,
-    at: LabelFilter,
-) -> Lowest
+    at: Option<Label>,
+) -> Result<Option<CodeOffset>, Refusal>
     ensures { (ls : List ℕ) → Fits (words ls names.now edges.now state) → low_of result ≡ of_name (graph_in names.now edges.now state.borrow_graph) id.0 (lowest_of (bars_reading (graph_in names.now edges.now state.borrow_graph) id.0 (filter_of at)) (graph_in names.now edges.now state.borrow_graph).edges) }
 {
-    let m = is_mutable(names, state, id);
-    let b = has_consistent_mutable_borrows(names, edges, state, id, at);
-    only_if(m.yes, b)
+    if is_mutable(names, state, id)? {
+        return has_consistent_mutable_borrows(names, edges, state, id, at);
+    }
+    Ok(None)
 }
 
 pub fn is_local_borrowed(
@@ -122,11 +113,11 @@ pub fn is_local_borrowed(
     edges: &[[u32; EDGE_WORDS]; MAX_EDGES],
     state: AbstractState,
     local: LocalIndex,
-) -> Lowest
+) -> Result<Option<CodeOffset>, Refusal>
     ensures { (ls : List ℕ) → Fits (words ls names.now edges.now state) → low_of result ≡ of_name (graph_in names.now edges.now state.borrow_graph) state.num_locals (lowest_of (borrows state.num_locals (some (local_label local.0))) (graph_in names.now edges.now state.borrow_graph).edges) }
 {
     let root = frame_root(state);
-    let at = LabelFilter::At(Label::Local(local.0 as u16));
+    let at = Some(Label::Local(local.0 as u16));
     has_consistent_borrows(names, edges, state, root, at)
 }
 
@@ -135,11 +126,11 @@ pub fn is_local_mutably_borrowed(
     edges: &[[u32; EDGE_WORDS]; MAX_EDGES],
     state: AbstractState,
     local: LocalIndex,
-) -> Lowest
+) -> Result<Option<CodeOffset>, Refusal>
     ensures { (ls : List ℕ) → Fits (words ls names.now edges.now state) → low_of result ≡ of_name (graph_in names.now edges.now state.borrow_graph) state.num_locals (lowest_of (borrows_mutably (graph_in names.now edges.now state.borrow_graph) state.num_locals (some (local_label local.0))) (graph_in names.now edges.now state.borrow_graph).edges) }
 {
     let root = frame_root(state);
-    let at = LabelFilter::At(Label::Local(local.0 as u16));
+    let at = Some(Label::Local(local.0 as u16));
     has_consistent_mutable_borrows(names, edges, state, root, at)
 }
 
@@ -148,11 +139,11 @@ pub fn is_global_borrowed(
     edges: &[[u32; EDGE_WORDS]; MAX_EDGES],
     state: AbstractState,
     resource: u16,
-) -> Lowest
+) -> Result<Option<CodeOffset>, Refusal>
     ensures { (ls : List ℕ) → Fits (words ls names.now edges.now state) → low_of result ≡ of_name (graph_in names.now edges.now state.borrow_graph) state.num_locals (lowest_of (borrows state.num_locals (some (global_label resource))) (graph_in names.now edges.now state.borrow_graph).edges) }
 {
     let root = frame_root(state);
-    let at = LabelFilter::At(Label::Global(resource));
+    let at = Some(Label::Global(resource));
     has_consistent_borrows(names, edges, state, root, at)
 }
 
@@ -161,11 +152,11 @@ pub fn is_global_mutably_borrowed(
     edges: &[[u32; EDGE_WORDS]; MAX_EDGES],
     state: AbstractState,
     resource: u16,
-) -> Lowest
+) -> Result<Option<CodeOffset>, Refusal>
     ensures { (ls : List ℕ) → Fits (words ls names.now edges.now state) → low_of result ≡ of_name (graph_in names.now edges.now state.borrow_graph) state.num_locals (lowest_of (borrows_mutably (graph_in names.now edges.now state.borrow_graph) state.num_locals (some (global_label resource))) (graph_in names.now edges.now state.borrow_graph).edges) }
 {
     let root = frame_root(state);
-    let at = LabelFilter::At(Label::Global(resource));
+    let at = Some(Label::Global(resource));
     has_consistent_mutable_borrows(names, edges, state, root, at)
 }
 
@@ -174,9 +165,9 @@ pub fn is_frame_borrowed(
     names: &[u32; MAX_NAMES],
     edges: &[[u32; EDGE_WORDS]; MAX_EDGES],
     state: AbstractState,
-) -> Lowest
+) -> Result<Option<CodeOffset>, Refusal>
     ensures { (ls : List ℕ) → Fits (words ls names.now edges.now state) → low_of result ≡ of_name (graph_in names.now edges.now state.borrow_graph) state.num_locals (lowest_of (borrows state.num_locals none) (graph_in names.now edges.now state.borrow_graph).edges) }
 {
     let root = frame_root(state);
-    has_consistent_borrows(names, edges, state, root, LabelFilter::Any)
+    has_consistent_borrows(names, edges, state, root, None)
 }

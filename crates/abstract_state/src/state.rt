@@ -2,28 +2,25 @@
 //
 //   here             the Rust
 //   AbstractValue    23 `AbstractValue`; a match on it stands for 30 `is_reference`, 38 `is_value` and 43 `ref_id`
-//   Local            an entry of 74 `locals`, or that there is none
+//   (an Option)      what 74 `locals` has for a local, if it has an entry
 //   Operands         a `Vec<AbstractValue>`: a call's arguments and what it returns
 //   AbstractState    72 `AbstractState`, without the function and the locals; the graph's arrays stand beside it
+ghost use Rattle.std.specs.Prelude.{◌≡◌, ◌≤◌, map, length};
+ghost use Rattle.meaning.specs.Limits.{max_operands};
+ghost use Rattle.abstract_state.specs.Models.{operand_in, operands_of};
+
 use borrow_graph::graph::BorrowGraph;
 use file_format::CodeOffset;
-use meaning::{MAX_LOCALS, MAX_OPERANDS};
+use meaning::{MAX_LOCALS, MAX_OPERANDS, lesser};
 use references::RefID;
 
 // The words of the locals.
 pub const LOCALS: usize = MAX_LOCALS as usize;
 
-#[derive(Clone, Copy)]
+#[derive(Clone, Copy, PartialEq, Eq)]
 pub enum AbstractValue {
     Reference(RefID),
     NonReference,
-}
-
-// Where it is not present, the value is free.
-#[derive(Clone, Copy)]
-pub struct Local {
-    pub present: bool,
-    pub value: AbstractValue,
 }
 
 // Operands as words. What lies from `len` on is free; a `len` beyond 16 reads as 16.
@@ -31,6 +28,15 @@ pub struct Local {
 pub struct Operands {
     pub list: [u32; MAX_OPERANDS],
     pub len: usize,
+}
+
+impl Operands {
+    pub fn words(&self) -> &[u32]
+        ensures all { map operand_in result.now ≡ operands_of self.now }
+        ensures few { length result.now ≤ max_operands }
+    {
+        &self.list[..lesser(self.len, MAX_OPERANDS)]
+    }
 }
 
 // A state stops at its first violation or refusal: one of the two is its number (the violation, where both are given), and both are 0

@@ -1,12 +1,13 @@
 // The words of locals and operands: each is made and read here. A word is 0 for an absent local, 65,536 for a value, 131,072 + its name
 // for a reference; what stands above 262,144 is free. (meaning's Area says what each word stands for.) The Rust has no such words: each
 // stands for an `AbstractValue` (abstract_state.rs, 23) or an entry of the locals (74).
-ghost use Rattle.std.specs.Prelude.{◌≡◌, true};
+ghost use Rattle.std.specs.Prelude.{◌≡◌};
+ghost use Rattle.std.specs.Option.{ForSome};
 ghost use Rattle.meaning.specs.Area.{local_in};
 ghost use Rattle.meaning.specs.EntryPoints as R;
 ghost use Rattle.abstract_state.specs.Models.{operand_of, operand_in, local_of};
 
-use crate::state::{AbstractValue, Local};
+use crate::state::AbstractValue;
 use references::RefID;
 
 // Names are below this, and kinds stand above it.
@@ -34,22 +35,20 @@ pub fn value_word(v: AbstractValue) -> u32
     }
 }
 
-pub fn local_of(w: u32) -> Local
+pub fn local_of(w: u32) -> Option<AbstractValue>
     ensures { local_of result ≡ local_in w }
 {
-    let v = value_of(w);
-    Local {
-        present: w / KIND % 4 != 0,
-        value: v,
+    if w / KIND % 4 == 0 {
+        return None;
     }
+    Some(value_of(w))
 }
 
-pub fn local_word(x: Local) -> u32
-    ensures { (local_in result ≡ local_of x) × (x.present ≡ true → operand_in result ≡ operand_of x.value) }
+pub fn local_word(x: Option<AbstractValue>) -> u32
+    ensures { (local_in result ≡ local_of x) × ForSome x (λ v. operand_in result ≡ operand_of v) }
 {
-    if x.present {
-        let v = x.value;
-        return value_word(v);
+    match x {
+        Some(v) => value_word(v),
+        None => 0,
     }
-    0
 }

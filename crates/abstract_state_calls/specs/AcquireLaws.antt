@@ -1,13 +1,19 @@
 -- The numbers that a call acquires: of those that are borrowed, the lowest one decides.
 use Rattle.std.specs.Prelude.{◌≡◌, ℕ, ◌<◌, ◌≤◌, min, Bool, true, false, cond, ◌&&◌, List, [], ◌∷◌, ◌==◌, nat_lt}
+use Rattle.std.specs.Prelude as P
+use Rattle.std.specs.Prelude.{Some, None}
+use Rattle.std.specs.Option as O
+use Rattle.file_format.specs.declared.CodeOffset.{CodeOffset}
+use Rattle.borrow_graph.specs.Models.{low_in}
 use Rattle.std.proofs.Math.Path.{refl, sym, ap}
-use Rattle.std.proofs.Common.{◌∙◌}
+use Rattle.std.proofs.Common.{◌∙◌, true≢false}
+use borrow.Author.Tests.{ltb-true, ltb-false}
 use Rattle.std.proofs.Math.Option.{Option, none, some}
 use native.Mathlib.Omega.{arith}
-use Rattle.meaning.specs.Limits.{u16_end, GLOBAL_REFERENCE}
+use Rattle.meaning.specs.Limits.{GLOBAL_REFERENCE}
 use Rattle.meaning.specs.Lists.{any}
 use Rattle.meaning.specs.Labels.{global_label}
-use Rattle.meaning.specs.Answers.{Outcome, done, fails_at, needs}
+use Rattle.meaning.specs.Answers.{Ans, ok, refuse, guard, Outcome, done, fails_at, needs}
 use Rattle.meaning.specs.BorrowGraph.{GEdge, well_formed, held, borrows, lower_of, lowest_of}
 use Rattle.meaning.specs.BorrowGraph as L
 use Rattle.meaning.specs.AbstractState.{count1}
@@ -16,38 +22,48 @@ use Rattle.meaning.proofs.Laws.Base.{decide, eqb_self}
 use Rattle.meaning.proofs.Laws.Own.{times, count_yes}
 use Rattle.meaning.proofs.Laws.InTurn.{Sorted, ascend_sorted}
 use Rattle.meaning.proofs.Laws.Tests.{is_some, lowest_some, gather_ascend}
-use Rattle.references.specs.Models.{told}
-use Rattle.borrow_graph.specs.Models.{low_in}
 use Rattle.borrow_graph.specs.Folds.{lower_if}
 use Rattle.abstract_state.specs.Models.{heeding, failing}
-use Rattle.abstract_state.specs.ModelLaws.{told_map}
-use Rattle.abstract_state_calls.specs.Models.{acquiring, is_borrowed, lowest_borrowed}
-use Rattle.abstract_state_calls.specs.IdLaws.{told_known}
+use Rattle.abstract_state_calls.specs.Models.{acquiring, is_borrowed, is_below, lowest_borrowed}
 use Rattle.abstract_state_calls.specs.LoopLaws.{heeding_at, failing_at}
 
 -- ---- one number, and none
 
 pub acquire_one : (i : ℕ) (r : Running) → failing (L.of_name r.graph r.root (lowest_of (borrows r.root (some (global_label i))) r.graph.edges)) GLOBAL_REFERENCE r ≡ acquiring (i ∷ []) r
 unfolding not_acquired
-acquire_one i r = failing_at r.graph r.root r (lowest_of (borrows r.root (some (global_label i))) r.graph.edges) GLOBAL_REFERENCE refl
+acquire_one i r = failing_at r.graph r.root r (lowest_of (borrows r.root (some (global_label i))) r.graph.edges) GLOBAL_REFERENCE
 
 pub acquire_none : (b : Bool) (r : Running) → heeding (L.of_name r.graph r.root b) r ≡ acquiring [] r
 unfolding not_acquired
 acquire_none b r = heeding_at r.graph r.root r b
 
--- the code's test of a look-up's answer, the refusal m and the offset w
-pub borrowed_known : (m w i : ℕ) (r : Running) → told m (low_in w) ≡ L.of_name r.graph r.root (lowest_of (borrows r.root (some (global_label i))) r.graph.edges)
-    → (m == 0 && nat_lt w u16_end) ≡ is_borrowed r i
-borrowed_known m w i r e =
+-- the code's test of a look-up's answer
+abbrev pub finds : Ans (Option ℕ) → Bool
+finds (ok l) = is_some l
+finds (refuse n) = false
+
+pub some_found : (o : P.Option CodeOffset) → O.is_some o ≡ is_some (low_in o)
+some_found None = refl
+some_found (Some o) = refl
+
+pub borrowed_known : (i : ℕ) (r : Running) (t : Ans (Option ℕ)) → t ≡ L.of_name r.graph r.root (lowest_of (borrows r.root (some (global_label i))) r.graph.edges) → finds t ≡ is_borrowed r i
+borrowed_known i r t e =
     let p : GEdge → Bool = borrows r.root (some (global_label i)) in
-    let l : Option ℕ = lowest_of p r.graph.edges in
-    ap (λ (b : Bool). (m == 0) && b) (found (nat_lt w u16_end))
-    ∙ told_known m (is_some (low_in w)) r.graph r.root (is_some l) (told_map r.graph r.root m (low_in w) l is_some e)
-    ∙ ap (λ (b : Bool). (well_formed r.graph && held r.graph r.root) && b) (lowest_some p r.graph.edges)
+    ap finds e ∙ go (well_formed r.graph && held r.graph r.root) (lowest_of p r.graph.edges) ∙ ap (λ (b : Bool). (well_formed r.graph && held r.graph r.root) && b) (lowest_some p r.graph.edges)
   where
-    found : (b : Bool) → b ≡ is_some (cond b (some w) none)
-    found true = refl
-    found false = refl
+    go : (b : Bool) (l : Option ℕ) → finds (guard b 9 (ok l)) ≡ (b && is_some l)
+    go true l = refl
+    go false l = refl
+
+-- one number more: below those found, or not
+pub lower_put : (n : ℕ) (l : Option ℕ) → is_below n l ≡ true → some n ≡ lower_if true n l
+lower_put n none e = refl
+lower_put n (some a) e = let h : n < a = ltb-true n a e in let m : n ≡ min n a = omega arith in ap some m
+
+pub lower_kept : (b : Bool) (n : ℕ) (l : Option ℕ) → is_below n l ≡ false → l ≡ lower_if b n l
+lower_kept b n none e = absurd (true≢false e)
+lower_kept false n (some a) e = refl
+lower_kept true n (some a) e = let h : a ≤ n = ltb-false n a e in let m : a ≡ min n a = omega arith in ap some m
 
 -- ---- the lowest of them
 

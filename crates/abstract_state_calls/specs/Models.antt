@@ -1,5 +1,7 @@
 -- What the values of the code stand for in the definitions.
-use Rattle.std.specs.Prelude.{◌≡◌, ℕ, Bool, ◌&&◌, List, [], ◌∷◌, map, take}
+use Rattle.std.specs.Prelude as P
+use Rattle.std.specs.Prelude.{Some, None}
+use Rattle.std.specs.Prelude.{◌≡◌, ℕ, Bool, true, ◌&&◌, ltb, List, [], ◌∷◌, map, take}
 use Rattle.std.proofs.Math.Option.{Option, none, some}
 use Rattle.meaning.specs.Limits.{UNSAFE_RET}
 use Rattle.meaning.specs.Lists.{any}
@@ -42,6 +44,15 @@ is_borrowed r i = (well_formed r.graph && held r.graph r.root) && any (borrows r
 unfoldable pub lowest_borrowed : Running → List ℕ → Option ℕ
 lowest_borrowed r [] = none
 lowest_borrowed r (i ∷ is) = lower_if (is_borrowed r i) i (lowest_borrowed r is)
+
+-- a number that was found, or none; and whether n is below it
+abbrev pub number_in : P.Option ℕ → Option ℕ
+number_in None = none
+number_in (Some n) = some n
+
+abbrev pub is_below : ℕ → Option ℕ → Bool
+is_below n none = true
+is_below n (some a) = ltb n a
 
 -- nothing may be borrowed from the frame
 abbrev pub framed : Running → Outcome Running

@@ -4,7 +4,7 @@
 //   call                                      493 `call`
 //   fail_acquired and what it calls           500 "Check acquires"
 //   ask_root                                  (the Rust's graph always answers for the root)
-//   hand_over, hand_value                     507 and 570 "Check mutable references can be transfered"
+//   hand_over, hand_value, bars_handing_over  507 and 570 "Check mutable references can be transfered"
 //   all, mutable                              508 `all_references_to_borrow_from`, 509 `mutable_references_to_borrow_from`
 //   return_values, return_value, return_ref   522 "Track borrow relationships of return values on inputs"
 //   ret                                       552 `ret`
@@ -13,33 +13,32 @@
 
 mod ids;
 
-ghost use Rattle.std.specs.Prelude.{◌≡◌, ℕ, List, [], ◌∷◌, map, take, ◌≢◌};
-ghost use Rattle.meaning.specs.Listing.{token_as};
+ghost use Rattle.std.specs.Prelude.{◌≡◌, ℕ, List, [], ◌∷◌, map, take};
+ghost use Rattle.meaning.specs.Limits.{max_operands};
 ghost use Rattle.meaning.specs.EntryPoints as R;
 ghost use Rattle.meaning.specs.Answers.{then};
 ghost use Rattle.meaning.specs.AbstractState.{of_ref};
 ghost use Rattle.meaning.specs.EntryPoints.{return_values};
-ghost use Rattle.borrow_graph.specs.Models.{low_in};
+ghost use Rattle.meaning.specs.BorrowGraph.{of_name, lowest_of};
+ghost use Rattle.file_format.specs.Models.{token_of};
+ghost use Rattle.borrow_graph.specs.Models.{graph_in, low_of};
 ghost use Rattle.borrow_graph.specs.Folds.{lower_if};
+ghost use Rattle.vm_status.specs.Models.{code_of};
 ghost use Rattle.abstract_state.specs.Models.{operand_of, operands_of, words, Fits, Does, running_of, outcome_of};
-ghost use Rattle.abstract_state_calls.specs.Models.{ids_of, answers_of, Calls, acquiring, handing, framed, is_borrowed, lowest_borrowed};
+ghost use Rattle.abstract_state_calls.specs.Models.{ids_of, answers_of, Calls, acquiring, handing, framed, is_borrowed, is_below, lowest_borrowed, number_in};
 
 use crate::ids::{Ids, local_ids, operand_ids};
 use abstract_state::basic_calls::{frame_root, fresh, give, new_ref, pass_refusal, violate_if};
-use abstract_state::codes::{
-    CALL_BORROWED_MUTABLE_REFERENCE, GLOBAL_REFERENCE, RET_BORROWED_MUTABLE_REFERENCE, UNSAFE_RET,
-};
 use abstract_state::predicates::{
-    has_consistent_borrows, is_frame_borrowed, is_global_borrowed, is_mutable, only_if,
+    has_consistent_borrows, is_frame_borrowed, is_global_borrowed, is_mutable,
 };
 use abstract_state::state::{AbstractState, AbstractValue, LOCALS, Operands};
 use abstract_state::words::{value_of, value_word};
-use borrow_graph::graph::NO_OFFSET;
-use meaning::{EDGE_WORDS, MAX_EDGES, MAX_NAMES, MAX_OPERANDS, ROOM, lesser};
-use references::rows::LabelFilter;
-
-// No number of a resource is as high.
-const NO_RESOURCE: u32 = 65536;
+use file_format::{CodeOffset, SignatureToken};
+use meaning::{MAX_EDGES, MAX_NAMES, MAX_OPERANDS, lesser};
+use references::RefID;
+use references::rows::Row;
+use vm_status::{Refusal, StatusCode};
 
 // What a call leaves, and the values that it returns. Where the state has stopped, the values are free.
 #[derive(Clone, Copy)]
@@ -48,24 +47,28 @@ pub struct Called {
     pub values: Operands,
 }
 
-// The acquired numbers come in any order, with repeats; the tokens are 0 a value, 1 a reference, 2 a mutable reference.
+// The acquired numbers come in any order, with repeats. Only 16 tokens are read.
 pub fn call(
     names: &mut [u32; MAX_NAMES],
-    edges: &mut [[u32; EDGE_WORDS]; MAX_EDGES],
+    edges: &mut [Row; MAX_EDGES],
     state: AbstractState,
     arguments: Operands,
-    acquired: [u16; ROOM],
-    acquired_count: usize,
-    tokens: [u8; ROOM],
-    token_count: usize,
+    acquired: &[u16],
+    tokens: &[SignatureToken],
 ) -> Called
-    ensures { (ls : List ℕ) → (Fits (words ls names.old edges.old state) → Fits (words ls names.new edges.new result.state)) × (Fits (words ls names.old edges.old state) → answers_of (words ls names.new edges.new result.state) (operands_of result.values) ≡ then (outcome_of (words ls names.old edges.old state)) (R.call (operands_of arguments) (take acquired_count acquired) (map token_as (take token_count tokens)))) }
+    ensures { (ls : List ℕ) → (Fits (words ls names.old edges.old state) → Fits (words ls names.new edges.new result.state)) × (Fits (words ls names.old edges.old state) → answers_of (words ls names.new edges.new result.state) (operands_of result.values) ≡ then (outcome_of (words ls names.old edges.old state)) (R.call (operands_of arguments) acquired.now (map token_of (take max_operands tokens.now)))) }
 {
-    let all = operand_ids(arguments);
+    let all = operand_ids(&arguments);
     let mutable = all.mutable(names, state);
-    let s = fail_acquired(names, edges, state, acquired, acquired_count);
-    let t = hand_over(names, edges, s, arguments, CALL_BORROWED_MUTABLE_REFERENCE);
-    let u = return_values(names, edges, t, tokens, token_count, mutable, all);
+    let s = fail_acquired(names, edges, state, acquired);
+    let t = hand_over(
+        names,
+        edges,
+        s,
+        arguments,
+        StatusCode::CallBorrowedMutableReference,
+    );
+    let u = return_values(names, edges, t, tokens, &mutable, &all);
     let v = u.state;
     let values = u.values;
     let w = all.release_all(names, edges, v);
@@ -75,7 +78,7 @@ pub fn call(
 pub fn ret(
     locals: &[u32; LOCALS],
     names: &mut [u32; MAX_NAMES],
-    edges: &mut [[u32; EDGE_WORDS]; MAX_EDGES],
+    edges: &mut [Row; MAX_EDGES],
     state: AbstractState,
     values: Operands,
 ) -> AbstractState
@@ -84,53 +87,54 @@ pub fn ret(
     let released = local_ids(locals, state.num_locals);
     let s = released.release_all(names, edges, state);
     let t = fail_frame(names, edges, s);
-    hand_over(names, edges, t, values, RET_BORROWED_MUTABLE_REFERENCE)
+    hand_over(
+        names,
+        edges,
+        t,
+        values,
+        StatusCode::RetBorrowedMutableReference,
+    )
 }
 
 // Nothing of the frame may be borrowed when it ends.
 fn fail_frame(
     names: &[u32; MAX_NAMES],
-    edges: &[[u32; EDGE_WORDS]; MAX_EDGES],
+    edges: &[Row; MAX_EDGES],
     state: AbstractState,
 ) -> AbstractState
     ensures { (ls : List ℕ) → Does framed (words ls names.now edges.now state) (words ls names.now edges.now result) }
 {
     let b = is_frame_borrowed(names, edges, state);
-    violate_if(state, b, UNSAFE_RET)
+    violate_if(state, b, StatusCode::UnsafeRet)
 }
 
 // A call fails on the lowest number that it acquires and that is borrowed. (The Rust has them in a BTreeSet.)
 fn fail_acquired(
     names: &[u32; MAX_NAMES],
-    edges: &[[u32; EDGE_WORDS]; MAX_EDGES],
+    edges: &[Row; MAX_EDGES],
     state: AbstractState,
-    acquired: [u16; ROOM],
-    count: usize,
+    acquired: &[u16],
 ) -> AbstractState
-    ensures { (ls : List ℕ) → Does (acquiring (take count acquired)) (words ls names.now edges.now state) (words ls names.now edges.now result) }
+    ensures { (ls : List ℕ) → Does (acquiring acquired.now) (words ls names.now edges.now state) (words ls names.now edges.now result) }
 {
-    let low = lowest_borrowed(names, edges, state, acquired, count);
-    if low < NO_RESOURCE {
-        return fail_global(names, edges, state, low as u16);
+    match lowest_borrowed(names, edges, state, acquired) {
+        Some(low) => fail_global(names, edges, state, low),
+        None => ask_root(names, state),
     }
-    ask_root(names, state)
 }
 
-// The lowest of these numbers that is borrowed; NO_RESOURCE or more, where none is.
+// The lowest of these numbers that is borrowed.
 fn lowest_borrowed(
     names: &[u32; MAX_NAMES],
-    edges: &[[u32; EDGE_WORDS]; MAX_EDGES],
+    edges: &[Row; MAX_EDGES],
     state: AbstractState,
-    resources: [u16; ROOM],
-    count: usize,
-) -> u32
-    ensures { (ls : List ℕ) → Fits (words ls names.now edges.now state) → low_in result ≡ lowest_borrowed (running_of (words ls names.now edges.now state)) (take count resources) }
+    resources: &[u16],
+) -> Option<u16>
+    ensures { (ls : List ℕ) → Fits (words ls names.now edges.now state) → number_in result ≡ lowest_borrowed (running_of (words ls names.now edges.now state)) resources.now }
 {
-    let mut low = NO_RESOURCE;
-    let mut i = lesser(count, ROOM);
-    while 0 < i {
-        i -= 1;
-        low = lower_borrowed(names, edges, state, resources[i], low);
+    let mut low = None;
+    for r in resources.iter().rev() {
+        low = lower_borrowed(names, edges, state, *r, low);
     }
     low
 }
@@ -138,32 +142,55 @@ fn lowest_borrowed(
 // One number more. Where it is not lower it is not looked up.
 fn lower_borrowed(
     names: &[u32; MAX_NAMES],
-    edges: &[[u32; EDGE_WORDS]; MAX_EDGES],
+    edges: &[Row; MAX_EDGES],
     state: AbstractState,
     resource: u16,
-    low: u32,
-) -> u32
-    ensures { (ls : List ℕ) → Fits (words ls names.now edges.now state) → low_in result ≡ lower_if (is_borrowed (running_of (words ls names.now edges.now state)) resource) resource (low_in low) }
+    low: Option<u16>,
+) -> Option<u16>
+    ensures { (ls : List ℕ) → Fits (words ls names.now edges.now state) → number_in result ≡ lower_if (is_borrowed (running_of (words ls names.now edges.now state)) resource) resource (number_in low) }
 {
-    if (resource as u32) < low {
-        let b = is_global_borrowed(names, edges, state, resource);
-        if (b.refusal == 0) & (b.offset < NO_OFFSET) {
-            return resource as u32;
+    if is_lower(resource, low) {
+        if is_borrowed(names, edges, state, resource) {
+            return Some(resource);
         }
     }
     low
 }
 
+fn is_lower(resource: u16, low: Option<u16>) -> bool
+    ensures { result ≡ is_below resource (number_in low) }
+{
+    match low {
+        Some(l) => resource < l,
+        None => true,
+    }
+}
+
+// A number that is borrowed, of a graph that answers.
+fn is_borrowed(
+    names: &[u32; MAX_NAMES],
+    edges: &[Row; MAX_EDGES],
+    state: AbstractState,
+    resource: u16,
+) -> bool
+    ensures { (ls : List ℕ) → Fits (words ls names.now edges.now state) → result ≡ is_borrowed (running_of (words ls names.now edges.now state)) resource }
+{
+    match is_global_borrowed(names, edges, state, resource) {
+        Ok(at) => at.is_some(),
+        Err(_) => false,
+    }
+}
+
 fn fail_global(
     names: &[u32; MAX_NAMES],
-    edges: &[[u32; EDGE_WORDS]; MAX_EDGES],
+    edges: &[Row; MAX_EDGES],
     state: AbstractState,
     resource: u16,
 ) -> AbstractState
     ensures { (ls : List ℕ) → Does (acquiring (resource ∷ [])) (words ls names.now edges.now state) (words ls names.now edges.now result) }
 {
     let b = is_global_borrowed(names, edges, state, resource);
-    violate_if(state, b, GLOBAL_REFERENCE)
+    violate_if(state, b, StatusCode::GlobalReference)
 }
 
 // Refused where the root cannot be asked.
@@ -178,66 +205,70 @@ fn ask_root(names: &[u32; MAX_NAMES], state: AbstractState) -> AbstractState
 // References go to a callee or to the caller: the violation, where a mutable one is borrowed.
 fn hand_over(
     names: &[u32; MAX_NAMES],
-    edges: &[[u32; EDGE_WORDS]; MAX_EDGES],
+    edges: &[Row; MAX_EDGES],
     state: AbstractState,
     values: Operands,
-    code: u8,
+    code: StatusCode,
 ) -> AbstractState
-    requires { code ≢ 0 }
-    ensures { (ls : List ℕ) → Does (handing code (operands_of values)) (words ls names.now edges.now state) (words ls names.now edges.now result) }
+    ensures { (ls : List ℕ) → Does (handing (code_of code) (operands_of values)) (words ls names.now edges.now state) (words ls names.now edges.now result) }
 {
-    let n = lesser(values.len, MAX_OPERANDS);
     let mut s = state;
-    let mut i: usize = 0;
-    while i < n {
-        let v = value_of(values.list[i]);
-        s = hand_value(names, edges, s, v, code);
-        i += 1;
+    let words = values.words();
+    for w in words {
+        s = hand_value(names, edges, s, value_of(*w), code);
     }
     s
 }
 
 fn hand_value(
     names: &[u32; MAX_NAMES],
-    edges: &[[u32; EDGE_WORDS]; MAX_EDGES],
+    edges: &[Row; MAX_EDGES],
     state: AbstractState,
     v: AbstractValue,
-    code: u8,
+    code: StatusCode,
 ) -> AbstractState
-    requires { code ≢ 0 }
-    ensures { (ls : List ℕ) → Does (handing code (operand_of v ∷ [])) (words ls names.now edges.now state) (words ls names.now edges.now result) }
+    ensures { (ls : List ℕ) → Does (handing (code_of code) (operand_of v ∷ [])) (words ls names.now edges.now state) (words ls names.now edges.now result) }
 {
     match v {
         AbstractValue::Reference(id) => {
-            let m = is_mutable(names, state, id);
-            let b = has_consistent_borrows(names, edges, state, id, LabelFilter::Any);
-            let c = only_if(m.yes, b);
-            violate_if(state, c, code)
+            let b = bars_handing_over(names, edges, state, id);
+            violate_if(state, b, code)
         }
         AbstractValue::NonReference => state,
     }
 }
 
+// Only a mutable reference can be kept from going to a callee or to the caller.
+fn bars_handing_over(
+    names: &[u32; MAX_NAMES],
+    edges: &[Row; MAX_EDGES],
+    state: AbstractState,
+    id: RefID,
+) -> Result<Option<CodeOffset>, Refusal>
+    ensures { (ls : List ℕ) → Fits (words ls names.now edges.now state) → low_of result ≡ of_name (graph_in names.now edges.now state.borrow_graph) id.0 (lowest_of (R.bars_handing_over (graph_in names.now edges.now state.borrow_graph) id.0) (graph_in names.now edges.now state.borrow_graph).edges) }
+{
+    if is_mutable(names, state, id)? {
+        return has_consistent_borrows(names, edges, state, id, None);
+    }
+    Ok(None)
+}
+
 fn return_values(
     names: &mut [u32; MAX_NAMES],
-    edges: &mut [[u32; EDGE_WORDS]; MAX_EDGES],
+    edges: &mut [Row; MAX_EDGES],
     state: AbstractState,
-    tokens: [u8; ROOM],
-    count: usize,
-    mutable: Ids,
-    all: Ids,
+    tokens: &[SignatureToken],
+    mutable: &Ids,
+    all: &Ids,
 ) -> Called
-    ensures { (ls : List ℕ) → Calls (return_values (map token_as (take count tokens)) (ids_of mutable) (ids_of all)) (words ls names.old edges.old state) (words ls names.new edges.new result.state) (operands_of result.values) }
+    ensures { (ls : List ℕ) → Calls (return_values (map token_of (take max_operands tokens.now)) (ids_of mutable.now) (ids_of all.now)) (words ls names.old edges.old state) (words ls names.new edges.new result.state) (operands_of result.values) }
 {
-    let n = lesser(count, MAX_OPERANDS);
+    let n = lesser(MAX_OPERANDS, tokens.len());
     let mut list = [0u32; MAX_OPERANDS];
     let mut s = state;
-    let mut i: usize = 0;
-    while i < n {
-        s = return_value(names, edges, s, tokens[i], mutable, all);
-        let v = s.value;
-        list[i] = value_word(v);
-        i += 1;
+    for (i, token) in tokens[..n].iter().enumerate() {
+        s = return_value(names, edges, s, *token, mutable, all);
+        list[i] = value_word(s.value);
     }
     let values = Operands { list, len: n };
     Called { state: s, values }
@@ -246,29 +277,29 @@ fn return_values(
 // The value that a token stands for. A mutable reference borrows from the mutable arguments, another one from all.
 fn return_value(
     names: &mut [u32; MAX_NAMES],
-    edges: &mut [[u32; EDGE_WORDS]; MAX_EDGES],
+    edges: &mut [Row; MAX_EDGES],
     state: AbstractState,
-    token: u8,
-    mutable: Ids,
-    all: Ids,
+    token: SignatureToken,
+    mutable: &Ids,
+    all: &Ids,
 ) -> AbstractState
-    ensures { (ls : List ℕ) → Calls (return_values (token_as token ∷ []) (ids_of mutable) (ids_of all)) (words ls names.old edges.old state) (words ls names.new edges.new result) (operand_of result.value ∷ []) }
+    ensures { (ls : List ℕ) → Calls (return_values (token_of token ∷ []) (ids_of mutable.now) (ids_of all.now)) (words ls names.old edges.old state) (words ls names.new edges.new result) (operand_of result.value ∷ []) }
 {
     match token {
-        0 => give(state, AbstractValue::NonReference),
-        2 => return_ref(names, edges, state, true, mutable),
-        _ => return_ref(names, edges, state, false, all),
+        SignatureToken::Value => give(state, AbstractValue::NonReference),
+        SignatureToken::Reference => return_ref(names, edges, state, false, all),
+        SignatureToken::MutableReference => return_ref(names, edges, state, true, mutable),
     }
 }
 
 fn return_ref(
     names: &mut [u32; MAX_NAMES],
-    edges: &mut [[u32; EDGE_WORDS]; MAX_EDGES],
+    edges: &mut [Row; MAX_EDGES],
     state: AbstractState,
     mutable: bool,
-    parents: Ids,
+    parents: &Ids,
 ) -> AbstractState
-    ensures { (ls : List ℕ) → Calls (return_values (of_ref mutable ∷ []) (ids_of parents) (ids_of parents)) (words ls names.old edges.old state) (words ls names.new edges.new result) (operand_of result.value ∷ []) }
+    ensures { (ls : List ℕ) → Calls (return_values (of_ref mutable ∷ []) (ids_of parents.now) (ids_of parents.now)) (words ls names.old edges.old state) (words ls names.new edges.new result) (operand_of result.value ∷ []) }
 {
     let id = fresh(state);
     let s = new_ref(names, state, mutable);

@@ -1,31 +1,14 @@
 -- The end of a block, local by local.
 use Rattle.std.specs.Prelude.{ℕ, suc, ◌+◌, ◌≡◌, refl, true, ◌&&◌, cond, List, [], ◌∷◌, eqb}
-use Rattle.std.proofs.Common.{arith, add-one, sym, ap, ◌∙◌}
+use Rattle.std.proofs.Common.{add-one, sym, ap, ◌∙◌}
 use Rattle.meaning.specs.Answers.{then}
 use Rattle.meaning.proofs.Laws.Base.{decide, and_l, and_r, eqb_eq, eqb_self, eqb_no, eqb_ne}
 use Rattle.meaning.specs.BorrowGraph.{Graph, renamed, name_after}
 use Rattle.meaning.specs.AbstractState as S
-use Rattle.meaning.specs.AbstractState.{State, absent, value, ref, local_holding, new_name_of, own_names, canonical, non_ref, reference}
+use Rattle.meaning.specs.AbstractState.{State, absent, value, ref, local_holding, new_name_of, own_names, canonical}
 use Rattle.meaning.specs.EntryPoints.{Running}
 use Rattle.abstract_state.specs.Models.{halted}
-use Rattle.abstract_state_join.specs.Models.{held_by, own_name, renames, canonical_end}
-
--- ---- what a local holds
-
-pub own_held : (x : S.Local) (n i : ℕ) → reference n ≡ held_by x → ref i ≡ own_name i x
-own_held absent n i e = let w : ◌≡◌ {A = ℕ} 0 1 = cc in absurd (omega arith)
-own_held value n i e = let w : ◌≡◌ {A = ℕ} 0 1 = cc in absurd (omega arith)
-own_held (ref m) n i e = refl
-
-pub own_none : (x : S.Local) (i : ℕ) → non_ref ≡ held_by x → x ≡ own_name i x
-own_none absent i e = refl
-own_none value i e = refl
-own_none (ref m) i e = let w : ◌≡◌ {A = ℕ} 0 1 = cc in absurd (omega arith)
-
-is_ref_lem : (x : S.Local) (n : ℕ) → reference n ≡ held_by x → x ≡ ref n
-is_ref_lem absent n e = let w : ◌≡◌ {A = ℕ} 0 1 = cc in absurd (omega arith)
-is_ref_lem value n e = let w : ◌≡◌ {A = ℕ} 0 1 = cc in absurd (omega arith)
-is_ref_lem (ref m) n e = let z : m ≡ n = cc in ap ref z
+use Rattle.abstract_state_join.specs.Models.{own_name, renames, canonical_end}
 
 -- ---- steps of the loops
 
@@ -39,15 +22,17 @@ pub own_end : (i : ℕ) → own_names i [] ≡ []
 unfolding own_names
 own_end i = refl
 
-pub renames_held : (i : ℕ) (x : S.Local) (n : ℕ) (xs : List S.Local) → reference n ≡ held_by x → renames i (x ∷ xs) ≡ record { old = n; new = i } ∷ renames (i + 1) xs
+pub renames_ref : (i n : ℕ) (xs : List S.Local) → renames i (ref n ∷ xs) ≡ record { old = n; new = i } ∷ renames (i + 1) xs
 unfolding renames
-renames_held i x n xs e = rw (is_ref_lem x n e, add-one i)
+renames_ref i n xs = rw (add-one i)
 
-pub renames_none : (i : ℕ) (x : S.Local) (xs : List S.Local) → non_ref ≡ held_by x → renames i (x ∷ xs) ≡ renames (i + 1) xs
+pub renames_value : (i : ℕ) (xs : List S.Local) → renames i (value ∷ xs) ≡ renames (i + 1) xs
 unfolding renames
-renames_none i absent xs e = rw (add-one i)
-renames_none i value xs e = rw (add-one i)
-renames_none i (ref n) xs e = let w : ◌≡◌ {A = ℕ} 0 1 = cc in absurd (omega arith)
+renames_value i xs = rw (add-one i)
+
+pub renames_absent : (i : ℕ) (xs : List S.Local) → renames i (absent ∷ xs) ≡ renames (i + 1) xs
+unfolding renames
+renames_absent i xs = rw (add-one i)
 
 pub renames_end : (i : ℕ) → renames i [] ≡ []
 unfolding renames

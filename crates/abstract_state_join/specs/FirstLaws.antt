@@ -1,30 +1,38 @@
 -- The first state, local by local and name by name.
-use Rattle.std.specs.Prelude.{ℕ, zero, suc, ◌+◌, ◌-◌, ◌≤◌, ◌<◌, min, ◌≡◌, refl, Bool, true, false, List, [], ◌∷◌, map, leb, length, take, drop, get_or}
-use Rattle.std.proofs.Common.{arith, add-one, sym, ◌∙◌, length-take, drop_of_length-le}
+use Rattle.std.specs.Prelude.{ℕ, zero, suc, ◌+◌, ◌-◌, ◌≤◌, ◌<◌, min, ◌≡◌, refl, true, false, List, [], ◌∷◌, map, leb, length, take, drop, get_or}
+use Rattle.std.proofs.Common.{arith, add-one, sym, ◌∙◌, drop-cons, drop_of_length-le, get_or-take, length-take}
 use Rattle.std.proofs.Math.Path.{ap}
-use Rattle.std.proofs.Math.Bool.{cond}
-use Rattle.std.proofs.Math.Dec.{eqb}
-use Rattle.std.proofs.lemmas.List.{length-map}
+use Rattle.std.proofs.lemmas.Bool.{false≢true, true≢false}
+use Rattle.std.proofs.lemmas.List.{length-map, get_or-map}
 use Rattle.meaning.proofs.Laws.Base.{decide, leb_le, leb_gt}
-use Rattle.meaning.proofs.Laws.Array.{front_map_step}
 use Rattle.meaning.specs.BorrowGraph.{Name, Graph, well_formed}
 use Rattle.meaning.specs.AbstractState as S
 use Rattle.meaning.specs.AbstractState.{Token, of_value, of_ref, first_locals, first_names, first_state}
 use Rattle.meaning.specs.EntryPoints.{Running}
-use Rattle.meaning.specs.Listing.{token_as}
+use denote.Enum.Bare.{sameb}
+use Rattle.file_format.specs.contracts.SignatureToken.{the_type}
+use Rattle.file_format.specs.declared.SignatureToken.{SignatureToken}
+use Rattle.file_format.specs.declared.SignatureToken.TheVariants.{Value, Reference, MutableReference}
+use Rattle.file_format.specs.Models.{token_of}
 use Rattle.meaning.proofs.Laws.First.{first_strong}
 use Rattle.abstract_state_join.specs.Models.{first_at, first_running}
 
 -- ---- tokens
 
 -- the token at an index, and those behind it
-pub token_step : (count : ℕ) (ps : List ℕ) (i : ℕ) → i < count → i < length ps → drop i (map token_as (take count ps)) ≡ token_as (get_or ps i 0) ∷ drop (i + 1) (map token_as (take count ps))
-token_step count ps i h l = front_map_step token_as count ps 0 i (simp (length-map, length-take) (omega arith))
+token_step : (ps : List SignatureToken) (i : ℕ) → i < length ps → drop i (map token_of ps) ≡ token_of (get_or ps i Value) ∷ drop (i + 1) (map token_of ps)
+token_step ps i h =
+    let k : i < length (map token_of ps) = simp length-map h in
+    rw add-one (drop-cons (map token_of ps) i of_value k ∙ ap (λ (u : Token). u ∷ drop (suc i) (map token_of ps)) (get_or-map token_of ps i Value of_value h))
 
-pub token_end : (count : ℕ) (ps : List ℕ) (i : ℕ) → count ≤ i → drop i (map token_as (take count ps)) ≡ []
-token_end count ps i h =
-    let k : length (map token_as (take count ps)) ≤ i = simp (length-map, length-take) (omega arith) in
-    drop_of_length-le (map token_as (take count ps)) k
+-- the same, where the loop goes over the first m
+pub taken_step : (m : ℕ) (ps : List SignatureToken) (i : ℕ) → i < length (take m ps) → drop i (map token_of ps) ≡ token_of (get_or (take m ps) i Value) ∷ drop (i + 1) (map token_of ps)
+taken_step m ps i h =
+    let k : i < min m (length ps) = simp length-take at h in
+    rw (get_or-take m ps i Value (omega arith)) (token_step ps i (omega arith))
+
+token_end : (ps : List SignatureToken) (i : ℕ) → length ps ≤ i → drop i (map token_of ps) ≡ []
+token_end ps i h = let k : length (map token_of ps) ≤ i = simp length-map h in drop_of_length-le (map token_of ps) k
 
 abbrev pub tail : {A : Type 0} → List A → List A
 tail [] = []
@@ -38,16 +46,17 @@ drop_tail (suc i) (x ∷ xs) = drop_tail i xs
 
 -- ---- locals
 
-at_token : (i t : ℕ) (ts : List Token) (b : Bool) → eqb t 0 ≡ b → cond b S.Local.value (S.Local.ref i) ≡ first_at i (token_as t ∷ ts)
-at_token i t ts true e = ap (λ (c : Bool). first_at i (cond c of_value (of_ref (eqb t 2)) ∷ ts)) (sym e)
-at_token i t ts false e = ap (λ (c : Bool). first_at i (cond c of_value (of_ref (eqb t 2)) ∷ ts)) (sym e)
+-- a parameter's local: a value's, a reference's
+pub at_value : (ps : List SignatureToken) (i : ℕ) → i < length ps → Value ≡ get_or ps i Value → S.Local.value ≡ first_at i (drop i (map token_of ps))
+at_value ps i h e = rw (token_step ps i h, ← e)
 
--- a parameter's local, and one behind the parameters
-pub at_parameter : (count : ℕ) (ps : List ℕ) (i : ℕ) (b : Bool) → i < count → i < length ps → eqb (get_or ps i 0) 0 ≡ b → cond b S.Local.value (S.Local.ref i) ≡ first_at i (drop i (map token_as (take count ps)))
-at_parameter count ps i b h l e = at_token i (get_or ps i 0) (drop (i + 1) (map token_as (take count ps))) b e ∙ ap (λ (ts : List Token). first_at i ts) (sym (token_step count ps i h l))
+at_token : (i : ℕ) (t : SignatureToken) (ts : List Token) → (t ≡ Value → ⊥) → S.Local.ref i ≡ first_at i (token_of t ∷ ts)
+at_token i Value ts other = absurd (other refl)
+at_token i Reference ts other = refl
+at_token i MutableReference ts other = refl
 
-pub at_none : (count : ℕ) (ps : List ℕ) (i : ℕ) → count ≤ i → S.Local.absent ≡ first_at i (drop i (map token_as (take count ps)))
-at_none count ps i h = ap (λ (ts : List Token). first_at i ts) (sym (token_end count ps i h))
+pub at_reference : (ps : List SignatureToken) (i : ℕ) (t : SignatureToken) → i < length ps → t ≡ get_or ps i Value → (t ≡ Value → ⊥) → S.Local.ref i ≡ first_at i (drop i (map token_of ps))
+at_reference ps i t h e other = rw (token_step ps i h, ← e) (at_token i t _ other)
 
 local_next : (i n : ℕ) (ts : List Token) → first_locals i (suc n) ts ≡ first_at i ts ∷ first_locals (suc i) n (tail ts)
 unfolding first_locals
@@ -71,20 +80,29 @@ local_end i n ts h = let e : n - i ≡ 0 = omega arith in ap (λ (k : ℕ). firs
 abbrev pub bare : List Name → Graph
 bare ns = record { names = ns; edges = [] }
 
+-- what a parameter's kind is, by the tests of the loop
+is_value : (t : SignatureToken) → sameb the_type t Value ≡ true → token_of t ≡ of_value
+is_value Value e = refl
+is_value Reference e = absurd (false≢true e)
+is_value MutableReference e = absurd (false≢true e)
+
+is_reference : (t : SignatureToken) → sameb the_type t Value ≡ false → token_of t ≡ of_ref (sameb the_type t MutableReference)
+is_reference Value e = absurd (true≢false e)
+is_reference Reference e = refl
+is_reference MutableReference e = refl
+
 -- a turn of the loop: a value, a reference
-module _ (i n t : ℕ) (ts rest : List Token) (h : i < n) (e : ts ≡ token_as t ∷ rest) where
-  opened : (u : Token) → token_as t ≡ u → first_names i (n - i) ts ≡ first_names i (suc (n - (i + 1))) (u ∷ rest)
-  opened u q =
-      let z : n - i ≡ suc (n - (i + 1)) = omega arith in
-      ap (λ (m : ℕ). first_names i m ts) z ∙ ap (λ (us : List Token). first_names i (suc (n - (i + 1))) us) e ∙ ap (λ (v : Token). first_names i (suc (n - (i + 1))) (v ∷ rest)) q
+module _ (i n : ℕ) (t : SignatureToken) (ts rest : List Token) (h : i < n) (e : ts ≡ token_of t ∷ rest) where
+  opened : (u : Token) → token_of t ≡ u → first_names i (n - i) ts ≡ first_names i (suc (n - (i + 1))) (u ∷ rest)
+  opened u q = let z : n - i ≡ suc (n - (i + 1)) = omega arith in rw (z, e, q)
 
-  pub pass_value : eqb t 0 ≡ true → first_names i (n - i) ts ≡ first_names (i + 1) (n - (i + 1)) rest
+  pub pass_value : sameb the_type t Value ≡ true → first_names i (n - i) ts ≡ first_names (i + 1) (n - (i + 1)) rest
   unfolding first_names
-  pass_value z = opened of_value (ap (λ (b : Bool). cond b of_value (of_ref (eqb t 2))) z) ∙ ap (λ (j : ℕ). first_names j (n - (i + 1)) rest) (sym (add-one i))
+  pass_value z = opened of_value (is_value t z) ∙ rw (add-one i)
 
-  pub pass_reference : eqb t 0 ≡ false → first_names i (n - i) ts ≡ record { id = i; mutable = eqb t 2 } ∷ first_names (i + 1) (n - (i + 1)) rest
+  pub pass_reference : sameb the_type t Value ≡ false → first_names i (n - i) ts ≡ record { id = i; mutable = sameb the_type t MutableReference } ∷ first_names (i + 1) (n - (i + 1)) rest
   unfolding first_names
-  pass_reference z = opened (of_ref (eqb t 2)) (ap (λ (b : Bool). cond b of_value (of_ref (eqb t 2))) z) ∙ ap (λ (j : ℕ). record { id = i; mutable = eqb t 2 } ∷ first_names j (n - (i + 1)) rest) (sym (add-one i))
+  pass_reference z = opened (of_ref (sameb the_type t MutableReference)) (is_reference t z) ∙ rw (add-one i)
 
 -- no parameter is left: the root
 root_only : (i n : ℕ) → first_names i n [] ≡ record { id = i + n; mutable = true } ∷ []
@@ -92,19 +110,19 @@ unfolding first_names
 root_only i zero = let e : i ≡ i + 0 = omega arith in ap (λ (k : ℕ). record { id = k; mutable = true } ∷ []) e
 root_only i (suc n) = let e : suc i + n ≡ i + suc n = omega arith in root_only (suc i) n ∙ ap (λ (k : ℕ). record { id = k; mutable = true } ∷ []) e
 
-pub root_last : (i n count m : ℕ) (ps : List ℕ) → m ≡ min n count → i ≤ m → m ≤ i → first_names i (n - i) (drop i (map token_as (take count ps))) ≡ record { id = n; mutable = true } ∷ []
+pub root_last : (i n : ℕ) (ps : List SignatureToken) → i ≡ min n (length ps) → first_names i (n - i) (drop i (map token_of ps)) ≡ record { id = n; mutable = true } ∷ []
 unfolding first_names
-root_last i n count m ps e low high =
-    let ts : List Token = drop i (map token_as (take count ps)) in
+root_last i n ps e =
+    let ts : List Token = drop i (map token_of ps) in
     decide (leb n i)
     (λ t. let h : n ≤ i = leb_le t in
     let z : i ≡ n = omega arith in
     let y : n - i ≡ 0 = omega arith in
     ap (λ (j : ℕ). first_names i j ts) y ∙ ap (λ (j : ℕ). record { id = j; mutable = true } ∷ []) z)
     (λ t. let h : i < n = leb_gt t in
-    let c : count ≤ i = omega arith in
+    let c : length ps ≤ i = omega arith in
     let z : i + (n - i) ≡ n = omega arith in
-    ap (λ (us : List Token). first_names i (n - i) us) (token_end count ps i c) ∙ root_only i (n - i) ∙ ap (λ (j : ℕ). record { id = j; mutable = true } ∷ []) z)
+    ap (λ (us : List Token). first_names i (n - i) us) (token_end ps i c) ∙ root_only i (n - i) ∙ ap (λ (j : ℕ). record { id = j; mutable = true } ∷ []) z)
 
 pub first_formed : (n : ℕ) (ts : List Token) → n ≤ 16 → well_formed (bare (first_names 0 n ts)) ≡ true
 unfolding first_state

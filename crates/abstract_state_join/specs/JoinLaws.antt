@@ -1,144 +1,100 @@
 -- The join, local by local, and whether it changed the state.
-use Rattle.std.specs.Prelude.{ℕ, ◌+◌, ◌<◌, ◌≤◌, ◌≡◌, ◌⊎◌, Bool, ◌&&◌, ◌||◌, eqb, length, take, drop, get_or, set}
+use Rattle.std.specs.Prelude.{ℕ, ◌+◌, ◌<◌, ◌≤◌, ◌≡◌, ◌⊎◌, Bool, ◌&&◌, eqb, length, take, drop, get_or, set, Result, Ok, Err, IfOk, Some, None}
+use Rattle.std.specs.Prelude as P
+use Rattle.std.specs.List.{zip, list_all}
+use Rattle.std.specs.Option.{option_and}
 use Rattle.std.proofs.Common.{zero-add, ◌∙◌, inl, inr}
 use native.Mathlib.Omega.{arith}
 use Rattle.std.proofs.Math.Path.{refl, sym, ap, subst}
-use Rattle.std.proofs.Math.Bool.{true, false, not, cond}
+use Rattle.std.proofs.Math.Bool.{true, false, not}
 use mathlib.Core.List.{List, [], ◌∷◌, ◌++◌, map, append-nil}
 use Rattle.std.proofs.Math.Seq.{append_snoc}
 use Rattle.meaning.specs.Answers.{Ans, ok, refuse, and_then, guard}
 use Rattle.meaning.specs.Lists.{all, empty}
 use Rattle.meaning.proofs.Laws.Base.{and_l, and_i, or_l, or_r, and_then_ok, guard_ok, ok_inj, refuse≢ok, eqb_self}
 use Rattle.meaning.proofs.Laws.Array.{push_map}
-use Rattle.meaning.specs.BorrowGraph.{Name, Graph, blurs_to, blurs_by, holds, held, well_formed, same_names, unmatched, release, join_graphs, covering}
+use Rattle.meaning.specs.BorrowGraph.{Name, Graph, blurs_to, blurs_by, holds, held, well_formed, same_names, unmatched, join_graphs, covering}
 use Rattle.meaning.proofs.Laws.Cover.{covered_at, unmatched_none}
 use Rattle.meaning.specs.AbstractState as S
-use Rattle.meaning.specs.AbstractState.{State, Step, absent, join_local, join_locals, join, join_blurs, passed, eq_local, eq_locals, changed, Operand, non_ref, reference}
+use Rattle.meaning.specs.AbstractState.{State, Step, ref, join_local, join_locals, join, join_blurs, passed, eq_local, eq_locals, changed, Operand, non_ref, reference}
 use Rattle.meaning.proofs.Laws.State.{Joined, join_law}
 use Rattle.meaning.proofs.Laws.Change.{leq, rust_changed, changed_is_rust, eq_locals_eq}
 use Rattle.meaning.specs.EntryPoints as R
-use Rattle.references.specs.Models.{told}
-use Rattle.references.specs.ModelLaws.{told_on, told_off, told_yes}
-use Rattle.references.specs.declared.RefID.{RefID}
 use Rattle.meaning.specs.Area.{local_in}
-use Rattle.abstract_state.specs.Models.{local_of, locals_in}
-use Rattle.abstract_state_join.specs.Models.{held_by, acted, step_by}
+use Rattle.abstract_state.specs.Models.{locals_in}
+use Rattle.borrow_graph.specs.Models.{told_of, graph_in}
+use Rattle.borrow_graph.specs.declared.graph.BorrowGraph.{BorrowGraph}
+use Rattle.vm_status.specs.declared.Refusal.{Refusal}
+use Rattle.vm_status.specs.Models.{answer_of, number_of}
+use Rattle.abstract_state.specs.Models.{local_of}
+use Rattle.abstract_state.specs.declared.state.AbstractValue.{AbstractValue}
+use Rattle.abstract_state.specs.declared.state.AbstractValue.TheVariants.{Reference, NonReference}
+use Rattle.abstract_state_join.specs.Models.{left, Meets}
 use Rattle.abstract_state_join.specs.LocalLaws.{local_next, unread}
-use Rattle.abstract_state_join.specs.declared.join.Meeting.{Meeting}
-use Rattle.abstract_state_join.specs.declared.join.Action.{Action}
-use Rattle.abstract_state_join.specs.declared.join.Action.TheVariants.{ReleaseOurs, ReleaseTheirs}
 
 -- ---- two locals
-
--- a local that is present or not
-abbrev pub loc : Bool → Operand → S.Local
-loc b v = cond b (R.local_of v) absent
 
 no : {X : Type 0} → ◌≡◌ {A = ℕ} 0 1 → X
 no e = absurd (omega arith)
 
-pub same_present : (p q : Bool) (u v : Operand) → p && q ≡ true → eq_local (R.local_of u) (R.local_of v) ≡ eq_local (loc p u) (loc q v)
-same_present true true u v e = refl
-same_present true false u v e = no (cc)
-same_present false q u v e = no (cc)
-
-pub same_absent : (p q : Bool) (u v : Operand) → p && q ≡ false → not (p || q) ≡ eq_local (loc p u) (loc q v)
-same_absent true true u v e = no (cc)
-same_absent true false non_ref v e = refl
-same_absent true false (reference n) v e = refl
-same_absent false true u non_ref e = refl
-same_absent false true u (reference n) e = refl
-same_absent false false u v e = refl
-
 -- both present
-pub meet_both : (p q : Bool) (u v : Operand) (g h : Graph) → p && q ≡ true → guard (eq_local (loc p u) (loc q v)) 15 (ok (record { local = loc p u; ours = g; theirs = h })) ≡ join_local (loc p u) (loc q v) g h
+pub meet_same : (u v : Operand) (g h : Graph) → eq_local (R.local_of u) (R.local_of v) ≡ true → ok (record { local = left (R.local_of u) (R.local_of v); ours = g; theirs = h }) ≡ join_local (R.local_of u) (R.local_of v) g h
 unfolding join_local
-meet_both true true non_ref non_ref g h e = refl
-meet_both true true non_ref (reference n) g h e = refl
-meet_both true true (reference m) non_ref g h e = refl
-meet_both true true (reference m) (reference n) g h e = refl
-meet_both true false u v g h e = no (cc)
-meet_both false q u v g h e = no (cc)
+meet_same non_ref non_ref g h e = refl
+meet_same non_ref (reference n) g h e = no (cc)
+meet_same (reference m) non_ref g h e = no (cc)
+meet_same (reference m) (reference n) g h e = ap (λ (b : Bool). guard b 15 (ok (record { local = ref m; ours = g; theirs = h }))) (sym e)
 
-as_guard : (b : Bool) (s : Step) → cond b (ok s) (refuse 15) ≡ guard b 15 (ok s)
-as_guard true s = refl
-as_guard false s = refl
-
-pub meet_same : (p q : Bool) (u v : Operand) (b : Bool) (g h : Graph) → p && q ≡ true → b ≡ eq_local (loc p u) (loc q v)
-    → cond b (ok (record { local = loc p u; ours = g; theirs = h })) (refuse 15) ≡ join_local (loc p u) (loc q v) g h
-meet_same p q u v b g h e s =
-    let t : Step = record { local = loc p u; ours = g; theirs = h } in
-    as_guard b t ∙ ap (λ (c : Bool). guard c 15 (ok t)) s ∙ meet_both p q u v g h e
-
--- not both present: a reference of ours, one of theirs, none
-pub meet_ours : (p q : Bool) (u v : Operand) (g h : Graph) (l : S.Local) (n : RefID) → p && q ≡ false → l ≡ absent → reference n.0 ≡ held_by (loc p u) → acted l (ReleaseOurs n) g h ≡ join_local (loc p u) (loc q v) g h
+pub meet_unlike : (u v : Operand) (g h : Graph) → eq_local (R.local_of u) (R.local_of v) ≡ false → refuse 15 ≡ join_local (R.local_of u) (R.local_of v) g h
 unfolding join_local
-meet_ours true true u v g h l n e a s = no (cc)
-meet_ours true false non_ref v g h l n e a s = no (cc)
-meet_ours true false (reference m) v g h l n e a s =
-    let z : n.0 ≡ m = cc in
-    λ i. and_then (release g (z i)) (λ g'. ok (record { local = a i; ours = g'; theirs = h }))
-meet_ours false q u v g h l n e a s = no (cc)
+meet_unlike non_ref non_ref g h e = no (cc)
+meet_unlike non_ref (reference n) g h e = refl
+meet_unlike (reference m) non_ref g h e = refl
+meet_unlike (reference m) (reference n) g h e = ap (λ (b : Bool). guard b 15 (ok (record { local = ref m; ours = g; theirs = h }))) (sym e)
 
-pub meet_theirs : (p q : Bool) (u v : Operand) (g h : Graph) (l : S.Local) (n : RefID) → p && q ≡ false → l ≡ absent → reference n.0 ≡ held_by (loc q v) → acted l (ReleaseTheirs n) g h ≡ join_local (loc p u) (loc q v) g h
-unfolding join_local
-meet_theirs true true u v g h l n e a s = no (cc)
-meet_theirs false true u non_ref g h l n e a s = no (cc)
-meet_theirs false true u (reference m) g h l n e a s =
-    let z : n.0 ≡ m = cc in
-    λ i. and_then (release h (z i)) (λ h'. ok (record { local = a i; ours = g; theirs = h' }))
-meet_theirs true false u v g h l n e a s = no (cc)
-meet_theirs false false u v g h l n e a s = no (cc)
+-- what is made of a graph that a call leaves
+pub answer_then : {A B C : Type 0} (r : Result A Refusal) (x : B) (a : Ans B) (f : B → C) → answer_of (λ (u : A). x) r ≡ a → answer_of (λ (u : A). f x) r ≡ and_then a (λ y. ok (f y))
+answer_then {A} {B} {C} (Ok u) x a f e = ap (λ (z : Ans B). and_then z (λ y. ok (f y))) e
+answer_then {A} {B} {C} (Err r) x a f e = ap (λ (z : Ans B). and_then z (λ y. ok (f y))) e
 
-pub meet_none : (p q : Bool) (u v : Operand) (g h : Graph) (l : S.Local) → p && q ≡ false → l ≡ absent → non_ref ≡ held_by (loc p u) → non_ref ≡ held_by (loc q v) → ok (record { local = l; ours = g; theirs = h }) ≡ join_local (loc p u) (loc q v) g h
-unfolding join_local
-meet_none true true u v g h l e a s t = no (cc)
-meet_none true false non_ref v g h l e a s t = λ i. ok (record { local = a i; ours = g; theirs = h })
-meet_none true false (reference m) v g h l e a s t = no (cc)
-meet_none false true u non_ref g h l e a s t = λ i. ok (record { local = a i; ours = g; theirs = h })
-meet_none false true u (reference m) g h l e a s t = no (cc)
-meet_none false false u v g h l e a s t = λ i. ok (record { local = a i; ours = g; theirs = h })
+-- what a call blurs, of a graph that it leaves
+pub blurs_of : (r : Result ℕ Refusal) (g g' : Graph) (a : Ans Graph) → answer_of (λ (n : ℕ). g') r ≡ a → IfOk r (λ n. n ≡ blurs_by g a) → IfOk r (λ n. n ≡ blurs_to g g')
+blurs_of (Ok n) g g' a e q = q ∙ ap (blurs_by g) (sym e)
+blurs_of (Err r) g g' a e q = q
 
--- what was released, told by a number and a graph
-pub acted_ours : (n : ℕ) (k : Graph) (r : RefID) (act : Action) (l : S.Local) (g h : Graph) → told n k ≡ release g r.0 → act ≡ ReleaseOurs r → told n (record { local = l; ours = k; theirs = h }) ≡ acted l act g h
-acted_ours n k r act l g h e f =
-    go (eqb n 0) ∙ ap (λ (a : Ans Graph). and_then a (λ g'. ok (record { local = l; ours = g'; theirs = h }))) e ∙ ap (λ (c : Action). acted l c g h) (sym f)
-  where
-    go : (b : Bool) → cond {A = Ans Step} b (ok (record { local = l; ours = k; theirs = h })) (refuse n) ≡ and_then (cond {A = Ans Graph} b (ok k) (refuse n)) (λ g'. ok (record { local = l; ours = g'; theirs = h }))
-    go true = refl
-    go false = refl
+pub add_blurs : (r : Result ℕ Refusal) (g g' h h' : Graph) → blurs_to h h' ≡ 0 → IfOk r (λ n. n ≡ blurs_to g g') → (IfOk r (λ n. n ≡ blurs_to g g' + blurs_to h h')) × (IfOk r (λ n. n ≡ blurs_to h h' + blurs_to g g'))
+add_blurs (Ok n) g g' h h' z q = (omega (arith, z, q), omega (arith, z, q))
+add_blurs (Err r) g g' h h' z q = (q, q)
 
-pub acted_theirs : (n : ℕ) (k : Graph) (r : RefID) (act : Action) (l : S.Local) (g h : Graph) → told n k ≡ release h r.0 → act ≡ ReleaseTheirs r → told n (record { local = l; ours = g; theirs = k }) ≡ acted l act g h
-acted_theirs n k r act l g h e f =
-    go (eqb n 0) ∙ ap (λ (a : Ans Graph). and_then a (λ h'. ok (record { local = l; ours = g; theirs = h' }))) e ∙ ap (λ (c : Action). acted l c g h) (sym f)
-  where
-    go : (b : Bool) → cond {A = Ans Step} b (ok (record { local = l; ours = g; theirs = k })) (refuse n) ≡ and_then (cond {A = Ans Graph} b (ok k) (refuse n)) (λ h'. ok (record { local = l; ours = g; theirs = h' }))
-    go true = refl
-    go false = refl
+-- what is left of two locals
+pub left_and : (a b : P.Option AbstractValue) → local_of (option_and b a) ≡ left (local_of a) (local_of b)
+left_and a None = refl
+left_and a (Some (Reference n)) = refl
+left_and a (Some NonReference) = refl
 
--- what a release blurs, told by a number and a graph
-pub released_blurs : (n b : ℕ) (g k : Graph) (a : Ans Graph) → told n k ≡ a → b ≡ blurs_by g a → n ≡ 0 → b ≡ blurs_to g k
-released_blurs n b g k a e q z = q ∙ ap (blurs_by g) (sym e ∙ told_yes n k z)
+-- the join of the two locals of these words: not refused, and refused
+module _ (a b : S.Local) (ns : List ℕ) (es : List (List ℕ)) (g : BorrowGraph) (ns₂ : List ℕ) (es₂ : List (List ℕ)) (h : BorrowGraph)
+    (ns' : List ℕ) (es' : List (List ℕ)) (g' : BorrowGraph) (ns₂' : List ℕ) (es₂' : List (List ℕ)) (h' : BorrowGraph) (x y : S.Local) (r : Result ℕ Refusal) (e : Meets a b ns es g ns₂ es₂ h ns' es' g' ns₂' es₂' h' r) where
+  pub met : (k : ℕ) → r ≡ Ok k → a ≡ x → b ≡ y → (z : S.Local) → z ≡ left a b
+      → (ok (record { local = z; ours = graph_in ns' es' g'; theirs = graph_in ns₂' es₂' h' }) ≡ join_local x y (graph_in ns es g) (graph_in ns₂ es₂ h))
+      × (k ≡ blurs_to (graph_in ns es g) (graph_in ns' es' g') + blurs_to (graph_in ns₂ es₂ h) (graph_in ns₂' es₂' h'))
+  met k q p o z w = (
+    rw w (rw q at e.step) ∙ (λ i. join_local (p i) (o i) (graph_in ns es g) (graph_in ns₂ es₂ h)),
+    rw q at e.blurs,
+  )
 
--- the local that was written is the step's
-pub written : (n : ℕ) (l l' : S.Local) (g h : Graph) (z : Ans Step) → l' ≡ l → told n (record { local = l; ours = g; theirs = h }) ≡ z → told n (record { local = l'; ours = g; theirs = h }) ≡ z
-written n l l' g h z e f = ap (λ (y : S.Local). told {A = Step} n (record { local = y; ours = g; theirs = h })) e ∙ f
-
-pub idle_step : (m : Meeting) (g h : Graph) → m.idle ≡ true → ok (record { local = local_of m.local; ours = g; theirs = h }) ≡ step_by m g h
-idle_step m g h e = ap (λ (b : Bool). cond b (ok (record { local = local_of m.local; ours = g; theirs = h })) (acted (local_of m.local) m.action g h)) (sym e)
-
-pub busy_step : (m : Meeting) (g h : Graph) → m.idle ≡ false → acted (local_of m.local) m.action g h ≡ step_by m g h
-busy_step m g h e = ap (λ (b : Bool). cond b (ok (record { local = local_of m.local; ours = g; theirs = h })) (acted (local_of m.local) m.action g h)) (sym e)
+  pub unmet : (n : Refusal) → r ≡ Err n → a ≡ x → b ≡ y → refuse (number_of n) ≡ join_local x y (graph_in ns es g) (graph_in ns₂ es₂ h)
+  unmet n q p o = (rw q at e.step) ∙ (λ i. join_local (p i) (o i) (graph_in ns es g) (graph_in ns₂ es₂ h))
 
 -- ---- all locals
 
-pub eq_locals_step : (x y : S.Local) (xs ys : List S.Local) → eq_locals (x ∷ xs) (y ∷ ys) ≡ eq_local x y && eq_locals xs ys
+-- locals that are compared pair by pair
+pub eq_locals_zip : (xs ys : List ℕ) → length xs ≡ length ys → list_all (λ p. eq_local (local_in p.0) (local_in p.1)) (zip xs ys) ≡ eq_locals (map local_in xs) (map local_in ys)
 unfolding eq_locals
-eq_locals_step x y xs ys = refl
-
-pub eq_locals_end : eq_locals [] [] ≡ true
-unfolding eq_locals
-eq_locals_end = refl
+eq_locals_zip [] [] e = refl
+eq_locals_zip [] (y ∷ ys) e = absurd (omega (arith, e))
+eq_locals_zip (x ∷ xs) [] e = absurd (omega (arith, e))
+eq_locals_zip (x ∷ xs) (y ∷ ys) e = ap (λ (b : Bool). eq_local (local_in x) (local_in y) && b) (eq_locals_zip xs ys (omega (arith, e)))
 
 -- the locals and the sets blurred before, and what the rest gives
 abbrev pub after : List S.Local → ℕ → S.Parts → Ans S.Parts
@@ -178,35 +134,32 @@ module _ (as' bs : List S.Local) (a b : S.Local) (xs ys : List S.Local) (g h : G
       go (ok s) = inner s (join_locals xs ys s.ours s.theirs)
       go (refuse n) = refl
 
-  -- a step that is told: it goes on, or is refused
-  module _ (n : ℕ) (s : Step) (e : told n s ≡ join_local a b g h) where
-    pub turn_on : n ≡ 0 → (pre' : List S.Local) → pre' ≡ pre ++ (s.local ∷ []) → (k' : ℕ) → k' ≡ k + step_blurs s → and_then (join_locals xs ys s.ours s.theirs) (after pre' k') ≡ j
-    turn_on z pre' ep k' ek =
-        (λ i. and_then (join_locals xs ys s.ours s.theirs) (after (ep i) (ek i)))
-        ∙ told_on n s (join_local a b g h) on j e turned z
+  -- it goes on, or is refused
+  pub turn_on : (s : Step) → ok s ≡ join_local a b g h → (pre' : List S.Local) → pre' ≡ pre ++ (s.local ∷ []) → (k' : ℕ) → k' ≡ k + step_blurs s → and_then (join_locals xs ys s.ours s.theirs) (after pre' k') ≡ j
+  turn_on s e pre' ep k' ek =
+      (λ i. and_then (join_locals xs ys s.ours s.theirs) (after (ep i) (ek i))) ∙ ap (λ (z : Ans Step). and_then z on) e ∙ turned
 
-    pub turn_off : (n ≡ 0 → ⊥) → (p : S.Parts) → told n p ≡ j
-    turn_off z p = told_off n s (join_local a b g h) on j e turned z p
+  pub turn_off : (n : ℕ) → refuse n ≡ join_local a b g h → refuse n ≡ j
+  turn_off n e = ap (λ (z : Ans Step). and_then z on) e ∙ turned
 
--- a turn of the loop: the local at i is written, its step is told by a number and the graphs
+-- a turn of the loop: the local at i is written
 module _ (ls ls₂ : List ℕ) (n m i w : ℕ) (g h : Graph) (b : ℕ) (j : Ans S.Parts) (l : length ls ≡ 16) (l₂ : length ls₂ ≡ 16) (hn : n ≤ 16) (hm : m ≤ 16) (hi : i < n) (hj : i < m)
-    (inv : and_then (join_locals (drop i (locals_in ls n)) (drop i (locals_in ls₂ m)) g h) (after (map local_in (take i ls)) b) ≡ j) (k : ℕ) (g' h' : Graph)
-    (e : told {A = Step} k (record { local = local_in w; ours = g'; theirs = h' }) ≡ join_local (local_in (get_or ls i 0)) (local_in (get_or ls₂ i 0)) g h) where
-  pub goes_on : k ≡ 0 → (b' : ℕ) → b' ≡ b + (blurs_to g g' + blurs_to h h')
+    (inv : and_then (join_locals (drop i (locals_in ls n)) (drop i (locals_in ls₂ m)) g h) (after (map local_in (take i ls)) b) ≡ j) where
+  pub goes_on : (g' h' : Graph) → ok (record { local = local_in w; ours = g'; theirs = h' }) ≡ join_local (local_in (get_or ls i 0)) (local_in (get_or ls₂ i 0)) g h → (b' : ℕ) → b' ≡ b + (blurs_to g g' + blurs_to h h')
       → and_then (join_locals (drop (i + 1) (locals_in (set ls i w) n)) (drop (i + 1) (locals_in ls₂ m)) g' h') (after (map local_in (take (i + 1) (set ls i w))) b') ≡ j
-  goes_on z b' eb =
+  goes_on g' h' e b' eb =
       ap (λ (zs : List S.Local). and_then (join_locals zs (drop (i + 1) (locals_in ls₂ m)) g' h') (after (map local_in (take (i + 1) (set ls i w))) b')) (unread ls n i w)
       ∙ turn_on (drop i (locals_in ls n)) (drop i (locals_in ls₂ m)) (local_in (get_or ls i 0)) (local_in (get_or ls₂ i 0))
       (drop (i + 1) (locals_in ls n)) (drop (i + 1) (locals_in ls₂ m)) g h (map local_in (take i ls)) b j
       (local_next ls n n l (omega arith) i hi) (local_next ls₂ m m l₂ (omega arith) i hj)
-      inv k (record { local = local_in w; ours = g'; theirs = h' }) e z _ (front_next ls i w (omega arith)) b' eb
+      inv (record { local = local_in w; ours = g'; theirs = h' }) e _ (front_next ls i w (omega arith)) b' eb
 
-  pub ends : (k ≡ 0 → ⊥) → (p : S.Parts) → told k p ≡ j
-  ends z p =
+  pub ends : (k : ℕ) → refuse k ≡ join_local (local_in (get_or ls i 0)) (local_in (get_or ls₂ i 0)) g h → refuse k ≡ j
+  ends k e =
       turn_off (drop i (locals_in ls n)) (drop i (locals_in ls₂ m)) (local_in (get_or ls i 0)) (local_in (get_or ls₂ i 0))
       (drop (i + 1) (locals_in ls n)) (drop (i + 1) (locals_in ls₂ m)) g h (map local_in (take i ls)) b j
       (local_next ls n n l (omega arith) i hi) (local_next ls₂ m m l₂ (omega arith) i hj)
-      inv k (record { local = local_in w; ours = g'; theirs = h' }) e z p
+      inv k e
 
 one_left : (as' bs : List S.Local) (g h : Graph) → (length as' ≡ 0) ⊎ (length bs ≡ 0) → (length as' ≡ length bs → ⊥) → join_locals as' bs g h ≡ refuse 9
 unfolding join_locals
@@ -281,6 +234,11 @@ cover_leq : (g h : Graph) → empty (unmatched g h) ≡ leq g h
 unfolding leq
 cover_leq g h = unmatched_none g h ∙ (λ i. all (λ x. sym (covered_at x g.edges) i) h.edges)
 
+-- whether the answer is yes
+abbrev pub covered : Result Bool Refusal → Bool
+covered (Ok b) = b
+covered (Err r) = false
+
 module _ (s o t : State) (e : join s o ≡ ok t) where
   -- other locals
   pub changed_locals : eq_locals s.locals t.locals ≡ false → true ≡ changed s t
@@ -305,12 +263,12 @@ module _ (s o t : State) (e : join s o ≡ ok t) where
       let k : all (λ m. held s.graph m.id) t.graph.names ≡ true = subst (λ (ns : List Name). all (λ m. held s.graph m.id) ns ≡ true) (sym names) (own_names_lem s.graph.names) in
       rw (wf, j.merge.formed, k) (ap {B = Ans Bool} ok (cover_leq s.graph t.graph))
 
-  pub changed_graph : eq_locals s.locals t.locals ≡ true → (n : ℕ) (b : Bool) → told n b ≡ covering s.graph t.graph → not (eqb n 0) || not b ≡ changed s t
+  pub changed_graph : eq_locals s.locals t.locals ≡ true → (r : Result Bool Refusal) → told_of r ≡ covering s.graph t.graph → not (covered r) ≡ changed s t
   unfolding rust_changed
-  changed_graph z n b c =
-      go (eqb n 0) (c ∙ cover_told z)
+  changed_graph z r c =
+      go r (c ∙ cover_told z)
       ∙ sym (changed_is_rust s o t e ∙ ap (λ (x : Bool). not (x && leq s.graph t.graph)) z)
     where
-      go : (x : Bool) → cond x (ok b) (refuse n) ≡ ok (leq s.graph t.graph) → not x || not b ≡ not (leq s.graph t.graph)
-      go true q = ap not (ok_inj q)
-      go false q = no (cc)
+      go : (r : Result Bool Refusal) → told_of r ≡ ok (leq s.graph t.graph) → not (covered r) ≡ not (leq s.graph t.graph)
+      go (Ok b) q = ap not (ok_inj q)
+      go (Err n) q = absurd (refuse≢ok q)

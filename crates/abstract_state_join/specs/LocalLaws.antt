@@ -1,5 +1,5 @@
 -- The locals of a state, read and written one by one.
-use Rattle.std.specs.Prelude.{ℕ, ◌+◌, ◌≤◌, ◌<◌, min, ◌≡◌, refl, Bool, true, false, cond, leb, length, take, drop, get_or, set}
+use Rattle.std.specs.Prelude.{ℕ, ◌+◌, ◌≤◌, ◌<◌, min, ◌≡◌, refl, leb, length, take, drop, get_or, set}
 use native.Mathlib.Omega.{arith}
 use Rattle.std.proofs.Math.Path.{sym, ap}
 use Rattle.std.proofs.Common.{◌∙◌, drop_of_length-le, length-take, take_all}
@@ -9,10 +9,7 @@ use Rattle.meaning.proofs.Laws.Base.{decide, leb_le, leb_gt}
 use Rattle.meaning.proofs.Laws.Array.{front_map_step, push_map, drop_set}
 use Rattle.meaning.specs.Area.{local_in}
 use Rattle.meaning.specs.AbstractState as S
-use Rattle.meaning.specs.EntryPoints as R
-use Rattle.meaning.specs.AbstractState.{Operand, non_ref, reference}
 use Rattle.abstract_state.specs.Models.{locals_in}
-use Rattle.abstract_state_join.specs.Models.{held_by}
 
 -- a number beyond 16 reads as 16
 module _ (xs : List ℕ) (n k : ℕ) (l : length xs ≡ 16) (e : k ≡ min n 16) where
@@ -52,12 +49,3 @@ module _ (out : List ℕ) (i : ℕ) (rest total : List S.Local) (h : map local_i
 pub unread : (ls : List ℕ) (n i w : ℕ) → drop (i + 1) (locals_in (set ls i w) n) ≡ drop (i + 1) (locals_in ls n)
 unfolding locals_in
 unread ls n i w = drop_set local_in ls i (i + 1) n w (omega arith)
-
-pub held_present : (b : Bool) (v : Operand) → b ≡ true → v ≡ held_by (cond b (R.local_of v) S.Local.absent)
-held_present true non_ref e = refl
-held_present true (reference n) e = refl
-held_present false v e = let w : ◌≡◌ {A = ℕ} 0 1 = cc in absurd (omega arith)
-
-pub held_absent : (b : Bool) (v : Operand) → b ≡ false → non_ref ≡ held_by (cond b (R.local_of v) S.Local.absent)
-held_absent true v e = let w : ◌≡◌ {A = ℕ} 0 1 = cc in absurd (omega arith)
-held_absent false v e = refl

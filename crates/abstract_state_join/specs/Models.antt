@@ -1,26 +1,18 @@
 -- What the values of the code stand for in the definitions, and what the calls answer.
-use Rattle.std.specs.Prelude.{ℕ, suc, ◌+◌, ◌≡◌, Bool, false, cond, List, [], ◌∷◌, length}
+use Rattle.std.specs.Prelude.{ℕ, suc, ◌+◌, ◌≡◌, List, [], ◌∷◌, length, Result, Ok, Err, IfOk}
 use Rattle.meaning.specs.Limits.{max_locals}
-use Rattle.meaning.specs.Answers.{Ans, ok, refuse, and_then, Outcome, done, leaves}
-use Rattle.meaning.specs.BorrowGraph.{Graph, blurs_to, release, Change}
+use Rattle.meaning.specs.Answers.{ok, refuse, Outcome, done}
+use Rattle.meaning.specs.BorrowGraph.{Graph, blurs_to, Change}
 use Rattle.meaning.specs.AbstractState as S
-use Rattle.meaning.specs.AbstractState.{State, Step, absent, value, ref, join_locals, join, changed, canonical, Operand, non_ref, reference, Token, of_value, of_ref, first_state}
+use Rattle.meaning.specs.AbstractState.{State, Step, absent, value, ref, join_local, join_locals, join, join_blurs, changed, canonical, Token, of_value, of_ref, first_state}
 use Rattle.meaning.specs.EntryPoints.{Running}
 use Rattle.meaning.specs.Blocks.{start_machine, start_with}
-use Rattle.references.specs.Models.{told}
 use Rattle.borrow_graph.specs.Models.{graph_in, Tells}
 use Rattle.borrow_graph.specs.declared.graph.BorrowGraph.{BorrowGraph}
-use Rattle.abstract_state.specs.Models.{local_of, locals_in, Words, Fits, running_of, state_of}
-use Rattle.abstract_state_join.specs.declared.join.Action.{Action}
-use Rattle.abstract_state_join.specs.declared.join.Action.TheVariants.{ReleaseOurs, ReleaseTheirs, Refuse}
-use Rattle.abstract_state_join.specs.declared.join.Meeting.{Meeting}
-use Rattle.abstract_state_join.specs.declared.join.Parts.{Parts}
-
--- the reference that a local holds, if it holds one
-abbrev pub held_by : S.Local → Operand
-held_by absent = non_ref
-held_by value = non_ref
-held_by (ref n) = reference n
+use Rattle.vm_status.specs.declared.Refusal.{Refusal}
+use Rattle.vm_status.specs.Models.{answer_of, number_of}
+use Rattle.abstract_state.specs.Models.{locals_in, Words, words, Fits, running_of, state_of}
+use Rattle.abstract_state_join.specs.declared.join.Joined.{Joined}
 
 -- ---- the first state
 
@@ -53,50 +45,48 @@ renames i (ref n ∷ xs) = record { old = n; new = i } ∷ renames (suc i) xs
 
 -- ---- the join
 
--- what is left of two locals, and an action on the graphs
-abbrev pub acted : S.Local → Action → Graph → Graph → Ans Step
-acted l (ReleaseOurs n) g h = and_then (release g n.0) (λ g'. ok (record { local = l; ours = g'; theirs = h }))
-acted l (ReleaseTheirs n) g h = and_then (release h n.0) (λ h'. ok (record { local = l; ours = g; theirs = h' }))
-acted l Refuse g h = refuse 15
+-- what a local is after the join, where it is not refused
+abbrev pub left : S.Local → S.Local → S.Local
+left a absent = absent
+left a value = a
+left a (ref n) = a
 
-abbrev pub step_by : Meeting → Graph → Graph → Ans Step
-step_by m g h = cond m.idle (ok (record { local = local_of m.local; ours = g; theirs = h })) (acted (local_of m.local) m.action g h)
+-- The join of the locals a and b, on the two graphs in their arrays. Its value: how many sets it blurred.
+pub record Meets (a b : S.Local) (ns : List ℕ) (es : List (List ℕ)) (g : BorrowGraph) (ns₂ : List ℕ) (es₂ : List (List ℕ)) (h : BorrowGraph)
+    (ns' : List ℕ) (es' : List (List ℕ)) (g' : BorrowGraph) (ns₂' : List ℕ) (es₂' : List (List ℕ)) (h' : BorrowGraph) (r : Result ℕ Refusal) : Type 0 where
+  pub step : answer_of {B = Step} (λ n. record { local = left a b; ours = graph_in ns' es' g'; theirs = graph_in ns₂' es₂' h' }) r ≡ join_local a b (graph_in ns es g) (graph_in ns₂ es₂ h)
+  pub ours : Tells ns' es' g'
+  pub theirs : Tells ns₂' es₂' h'
+  pub blurs : IfOk r (λ n. n ≡ blurs_to (graph_in ns es g) (graph_in ns' es' g') + blurs_to (graph_in ns₂ es₂ h) (graph_in ns₂' es₂' h'))
 
--- A step with the local l, on the two graphs in their arrays.
-pub record Acts (l : S.Local) (step_of_lem : Graph → Graph → Ans Step) (ns : List ℕ) (es : List (List ℕ)) (g : BorrowGraph) (ns₂ : List ℕ) (es₂ : List (List ℕ)) (h : BorrowGraph)
-    (ns' : List ℕ) (es' : List (List ℕ)) (ns₂' : List ℕ) (es₂' : List (List ℕ)) (r : Parts) : Type 0 where
-  pub step : told {A = Step} r.refusal (record { local = l; ours = graph_in ns' es' r.ours; theirs = graph_in ns₂' es₂' r.theirs }) ≡ step_of_lem (graph_in ns es g) (graph_in ns₂ es₂ h)
-  pub ours : Tells ns' es' r.ours
-  pub theirs : Tells ns₂' es₂' r.theirs
-  pub blurs : r.refusal ≡ 0 → r.blurred ≡ blurs_to (graph_in ns es g) (graph_in ns' es' r.ours) + blurs_to (graph_in ns₂ es₂ h) (graph_in ns₂' es₂' r.theirs)
-
--- The locals of a and b joined, in their arrays.
-pub record LocalsJoin (a b : Words) (ls' ns' : List ℕ) (es' : List (List ℕ)) (ns₂' : List ℕ) (es₂' : List (List ℕ)) (r : Parts) : Type 0 where
-  pub parts : told {A = S.Parts} r.refusal (record { locals = locals_in ls' a.state.num_locals; ours = graph_in ns' es' r.ours; theirs = graph_in ns₂' es₂' r.theirs; blurs = r.blurred })
-      ≡ join_locals (running_of a).locals (running_of b).locals (running_of a).graph (running_of b).graph
+-- The locals xs and ys joined, on the graphs g and h; the first n locals are what there is of them in the array.
+pub record LocalsJoin (xs ys : List S.Local) (g h : Graph) (n : ℕ) (ls' ns' : List ℕ) (es' : List (List ℕ)) (g' : BorrowGraph) (ns₂' : List ℕ) (es₂' : List (List ℕ)) (h' : BorrowGraph) (r : Result ℕ Refusal) : Type 0 where
+  pub parts : answer_of {B = S.Parts} (λ k. record { locals = locals_in ls' n; ours = graph_in ns' es' g'; theirs = graph_in ns₂' es₂' h'; blurs = k }) r ≡ join_locals xs ys g h
   pub locals : length ls' ≡ max_locals
-  pub ours : Tells ns' es' r.ours
-  pub theirs : Tells ns₂' es₂' r.theirs
+  pub ours : Tells ns' es' g'
+  pub theirs : Tells ns₂' es₂' h'
 
 abbrev pub with_state : Running → State → Running
 with_state r s = record { locals = s.locals; graph = s.graph; next = r.next; root = r.root; blurs = r.blurs; offset = r.offset }
 
--- A join of b into a with the refusal n (0: none) came to t. Of both, stopped or not, only locals and graph count; all else of the first is kept.
-pub record Merges (a b : Words) (n : ℕ) (t : Words) : Type 0 where
-  pub answer : told n (state_of t) ≡ join (state_of a) (state_of b)
-  pub fits : n ≡ 0 → Fits t
-  pub rest : running_of t ≡ with_state (running_of a) (state_of t)
-  pub stop : (t.state.violation ≡ a.state.violation) × (t.state.borrowed_at ≡ a.state.borrowed_at) × (t.state.refusal ≡ a.state.refusal)
-
--- The same, and refused, the first state is left.
-pub record Joins (a b : Words) (n : ℕ) (t : Words) : Type 0 where
-  pub answer : told n (state_of t) ≡ join (state_of a) (state_of b)
-  pub left : state_of t ≡ leaves (state_of a) (join (state_of a) (state_of b))
+-- A join of b into a came to t, and blurred k sets. Of both, stopped or not, only locals and graph count; all else of the first is kept.
+pub record Merged (a b t : Words) (k : ℕ) : Type 0 where
+  pub answer : ok (state_of t) ≡ join (state_of a) (state_of b)
   pub fits : Fits t
   pub rest : running_of t ≡ with_state (running_of a) (state_of t)
   pub stop : (t.state.violation ≡ a.state.violation) × (t.state.borrowed_at ≡ a.state.borrowed_at) × (t.state.refusal ≡ a.state.refusal)
+  pub blurs : k ≡ join_blurs (state_of a) (state_of b)
 
--- a refused join changes nothing
-abbrev pub changed_by : State → Ans State → Bool
-changed_by s (ok t) = changed s t
-changed_by s (refuse n) = false
+-- It was refused, and no set counts as blurred.
+pub record Unmerged (a b : Words) (r : Refusal) : Type 0 where
+  pub answer : refuse (number_of r) ≡ join (state_of a) (state_of b)
+  pub blurs : 0 ≡ join_blurs (state_of a) (state_of b)
+
+abbrev pub Merges : Words → Words → Words → Result ℕ Refusal → Type 0
+Merges a b t (Ok k) = Merged a b t k
+Merges a b t (Err r) = Unmerged a b r
+
+-- The same, with word whether it is another state than the first; refused, the first state is left, in its arrays.
+abbrev pub Joins : Words → Words → List ℕ → List ℕ → List (List ℕ) → Result Joined Refusal → Type 0
+Joins a b ls ns es (Ok x) = Merged a b (words ls ns es x.state) x.blurred × (x.changed ≡ changed (state_of a) (state_of (words ls ns es x.state)))
+Joins a b ls ns es (Err r) = Unmerged a b r × (words ls ns es a.state ≡ a)

@@ -12,8 +12,8 @@ ghost use Rattle.borrow_graph.specs.Models.{map_of};
 ghost use Rattle.abstract_state.specs.Models.{local_of, locals_in, words, Does};
 ghost use Rattle.abstract_state_join.specs.Models.{canonical_end, own_name, renames};
 
-use crate::locals::{count, value_of};
-use abstract_state::state::{AbstractState, AbstractValue, LOCALS, Local};
+use crate::locals::count;
+use abstract_state::state::{AbstractState, AbstractValue, LOCALS};
 use abstract_state::words::{local_of, local_word};
 use borrow_graph::remap::{IdMap, IdPair, renamed};
 use meaning::{EDGE_WORDS, MAX_EDGES, MAX_NAMES};
@@ -29,58 +29,38 @@ fn id_map(locals: &[u32; LOCALS], n: u8, root: RefID) -> IdMap
     };
     let mut list = [kept; MAX_NAMES];
     let mut len: usize = 1;
-    let k = count(n);
-    let mut i: usize = 0;
-    while i < k {
-        let x = local_of(locals[i]);
-        let v = value_of(x);
-        match v {
-            AbstractValue::Reference(held) => {
-                let pair = IdPair {
-                    old: held,
-                    new: RefID(i as u16),
-                };
-                list[len] = pair;
-                len += 1;
-                i += 1;
-            }
-            AbstractValue::NonReference => {
-                i += 1;
-            }
-        }
+    for i in 0..count(n) {
+        let Some(AbstractValue::Reference(held)) = local_of(locals[i]) else {
+            continue;
+        };
+        list[len] = IdPair {
+            old: held,
+            new: RefID(i as u16),
+        };
+        len += 1;
     }
     IdMap {
-        list: list,
+        list,
         len: len as u8,
     }
 }
 
 // The local with the index for the name of its reference, if it holds one.
-fn own_name(x: Local, i: usize) -> Local
+fn own_name(x: Option<AbstractValue>, i: usize) -> Option<AbstractValue>
     requires { i < max_locals }
     ensures { local_of result ≡ own_name i (local_of x) }
 {
-    let v = value_of(x);
-    match v {
-        AbstractValue::Reference(held) => Local {
-            present: true,
-            value: AbstractValue::Reference(RefID(i as u16)),
-        },
-        AbstractValue::NonReference => x,
+    match x {
+        Some(AbstractValue::Reference(_)) => Some(AbstractValue::Reference(RefID(i as u16))),
+        _ => x,
     }
 }
 
 fn own_names(locals: &mut [u32; LOCALS], n: u8)
     ensures { length locals.old ≡ max_locals → (locals_in locals.new n ≡ own_names 0 (locals_in locals.old n)) × (length locals.new ≡ max_locals) }
 {
-    let k = count(n);
-    let mut i: usize = 0;
-    while i < k {
-        let x = local_of(locals[i]);
-        let y = own_name(x, i);
-        let w = local_word(y);
-        locals[i] = w;
-        i += 1;
+    for i in 0..count(n) {
+        locals[i] = local_word(own_name(local_of(locals[i]), i));
     }
 }
 

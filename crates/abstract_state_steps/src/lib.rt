@@ -18,36 +18,31 @@
 //   vector_element_borrow    472 `vector_element_borrow`
 #![tactic(auto)]
 
-ghost use Rattle.std.specs.Prelude.{◌≡◌, ℕ, List, ◌≢◌};
+ghost use Rattle.std.specs.Prelude.{◌≡◌, ℕ, List};
 ghost use Rattle.meaning.specs.Limits.{BORROWFIELD_EXISTS_MUTABLE_BORROW, GLOBAL_REFERENCE};
 ghost use Rattle.meaning.specs.Answers as Out;
 ghost use Rattle.meaning.specs.AbstractState as S;
 ghost use Rattle.meaning.specs.EntryPoints as R;
 ghost use Rattle.references.specs.Models.{filter_of};
 ghost use Rattle.file_format.specs.Models.{token_of};
+ghost use Rattle.vm_status.specs.Models.{code_of};
 ghost use Rattle.abstract_state.specs.Models.{operand_of, words, Does, Gives};
 
 use abstract_state::basic_calls::{
     add_borrow, add_copy, add_field_borrow, add_local_borrow, add_resource_borrow, fresh, give,
     local, new_ref, pass_refusal, refuse, release, require_yes, set_local, violate_if,
 };
-use abstract_state::codes::{
-    BORROWFIELD_EXISTS_MUTABLE_BORROW, BORROWLOC_EXISTS_BORROW, COPYLOC_EXISTS_BORROW,
-    FREEZEREF_EXISTS_MUTABLE_BORROW, GLOBAL_REFERENCE, MOVELOC_EXISTS_BORROW,
-    READREF_EXISTS_MUTABLE_BORROW, STLOC_UNSAFE_TO_DESTROY, VEC_BORROW_ELEMENT, VEC_UPDATE,
-    WRITEREF_EXISTS_BORROW,
-};
 use abstract_state::predicates::{
     bars_reading, has_consistent_borrows, has_consistent_mutable_borrows, has_full_borrows,
     is_global_borrowed, is_global_mutably_borrowed, is_local_borrowed, is_local_mutably_borrowed,
     is_mutable, only_if,
 };
-use abstract_state::state::{AbstractState, AbstractValue, LOCALS, Local};
+use abstract_state::state::{AbstractState, AbstractValue, LOCALS};
 use file_format::{LocalIndex, SignatureToken};
 use meaning::{EDGE_WORDS, MAX_EDGES, MAX_NAMES};
 use paths::Label;
 use references::RefID;
-use references::rows::LabelFilter;
+use vm_status::{Refusal, StatusCode};
 
 pub fn value_for(
     names: &mut [u32; MAX_NAMES],
@@ -94,20 +89,18 @@ pub fn copy_loc(
 ) -> AbstractState
     ensures { Gives (R.copy_loc i.0) (words locals.now names.old edges.old state) (words locals.now names.new edges.new result) }
 {
-    let x = local(locals, state, i);
-    if x.present {
-        let v = x.value;
-        match v {
-            AbstractValue::Reference(id) => return copy_ref(names, edges, state, id),
-            AbstractValue::NonReference => {
-                let b = is_local_mutably_borrowed(names, edges, state, i);
-                let s = violate_if(state, b, COPYLOC_EXISTS_BORROW);
-                return give(s, AbstractValue::NonReference);
-            }
+    match local(locals, state, i) {
+        Some(AbstractValue::Reference(id)) => copy_ref(names, edges, state, id),
+        Some(AbstractValue::NonReference) => {
+            let b = is_local_mutably_borrowed(names, edges, state, i);
+            let s = violate_if(state, b, StatusCode::CopyLocExistsBorrow);
+            give(s, AbstractValue::NonReference)
+        }
+        None => {
+            let s = refuse(state, Refusal::AbsentLocal);
+            give(s, AbstractValue::NonReference)
         }
     }
-    let s = refuse(state, 12);
-    give(s, AbstractValue::NonReference)
 }
 
 // The copy of a reference.
@@ -122,7 +115,8 @@ fn copy_ref(
     let m = is_mutable(names, state, id);
     let new = fresh(state);
     let s = pass_refusal(state, m);
-    let t = new_ref(names, s, m.yes);
+    // (Where the question was refused the state has stopped, and nothing is made.)
+    let t = new_ref(names, s, m.unwrap_or(false));
     let u = add_copy(names, edges, t, id, new);
     give(u, AbstractValue::Reference(new))
 }
@@ -136,28 +130,22 @@ pub fn move_loc(
 ) -> AbstractState
     ensures { Gives (R.move_loc i.0) (words locals.old names.now edges.now state) (words locals.new names.now edges.now result) }
 {
-    let x = local(locals, state, i);
-    let absent = Local {
-        present: false,
-        value: AbstractValue::NonReference,
-    };
-    if x.present {
-        let v = x.value;
-        match v {
-            AbstractValue::Reference(id) => {
-                set_local(locals, i, absent);
-                return give(state, AbstractValue::Reference(id));
-            }
-            AbstractValue::NonReference => {
-                let b = is_local_borrowed(names, edges, state, i);
-                let s = violate_if(state, b, MOVELOC_EXISTS_BORROW);
-                set_local(locals, i, absent);
-                return give(s, AbstractValue::NonReference);
-            }
+    match local(locals, state, i) {
+        Some(AbstractValue::Reference(id)) => {
+            set_local(locals, i, None);
+            give(state, AbstractValue::Reference(id))
+        }
+        Some(AbstractValue::NonReference) => {
+            let b = is_local_borrowed(names, edges, state, i);
+            let s = violate_if(state, b, StatusCode::MoveLocExistsBorrow);
+            set_local(locals, i, None);
+            give(s, AbstractValue::NonReference)
+        }
+        None => {
+            let s = refuse(state, Refusal::AbsentLocal);
+            give(s, AbstractValue::NonReference)
         }
     }
-    let s = refuse(state, 12);
-    give(s, AbstractValue::NonReference)
 }
 
 pub fn st_loc(
@@ -170,26 +158,16 @@ pub fn st_loc(
 ) -> AbstractState
     ensures { Does (R.st_loc i.0 (operand_of new)) (words locals.old names.old edges.old state) (words locals.new names.new edges.new result) }
 {
-    let x = local(locals, state, i);
-    set_local(
-        locals,
-        i,
-        Local {
-            present: true,
-            value: new,
-        },
-    );
-    if x.present {
-        let v = x.value;
-        match v {
-            AbstractValue::Reference(id) => return release(names, edges, state, id),
-            AbstractValue::NonReference => {
-                let b = is_local_borrowed(names, edges, state, i);
-                return violate_if(state, b, STLOC_UNSAFE_TO_DESTROY);
-            }
+    let old = local(locals, state, i);
+    set_local(locals, i, Some(new));
+    match old {
+        Some(AbstractValue::Reference(id)) => release(names, edges, state, id),
+        Some(AbstractValue::NonReference) => {
+            let b = is_local_borrowed(names, edges, state, i);
+            violate_if(state, b, StatusCode::StLocUnsafeToDestroy)
         }
+        None => state,
     }
-    state
 }
 
 pub fn freeze_ref(
@@ -201,10 +179,10 @@ pub fn freeze_ref(
     ensures { (ls : List ℕ) → Gives (R.freeze_ref id.0) (words ls names.old edges.old state) (words ls names.new edges.new result) }
 {
     let m = is_mutable(names, state, id);
-    let b = has_consistent_mutable_borrows(names, edges, state, id, LabelFilter::Any);
+    let b = has_consistent_mutable_borrows(names, edges, state, id, None);
     let new = fresh(state);
-    let s = require_yes(state, m, 13);
-    let t = violate_if(s, b, FREEZEREF_EXISTS_MUTABLE_BORROW);
+    let s = require_yes(state, m, Refusal::Immutable);
+    let t = violate_if(s, b, StatusCode::FreezeRefExistsMutableBorrow);
     let u = new_ref(names, t, false);
     let v = add_copy(names, edges, u, id, new);
     let w = release(names, edges, v, id);
@@ -220,21 +198,17 @@ pub fn comparison(
 ) -> AbstractState
     ensures { (ls : List ℕ) → Gives (R.comparison (operand_of v1) (operand_of v2)) (words ls names.old edges.old state) (words ls names.new edges.new result) }
 {
-    match v1 {
-        AbstractValue::Reference(id1) => match v2 {
-            AbstractValue::Reference(id2) => compare_refs(names, edges, state, id1, id2),
-            AbstractValue::NonReference => {
-                let s = refuse(state, 11);
-                give(s, AbstractValue::NonReference)
-            }
-        },
-        AbstractValue::NonReference => match v2 {
-            AbstractValue::Reference(id2) => {
-                let s = refuse(state, 11);
-                give(s, AbstractValue::NonReference)
-            }
-            AbstractValue::NonReference => give(state, AbstractValue::NonReference),
-        },
+    match (v1, v2) {
+        (AbstractValue::Reference(id1), AbstractValue::Reference(id2)) => {
+            compare_refs(names, edges, state, id1, id2)
+        }
+        (AbstractValue::NonReference, AbstractValue::NonReference) => {
+            give(state, AbstractValue::NonReference)
+        }
+        _ => {
+            let s = refuse(state, Refusal::WrongOperand);
+            give(s, AbstractValue::NonReference)
+        }
     }
 }
 
@@ -247,8 +221,8 @@ fn compare_refs(
 ) -> AbstractState
     ensures { (ls : List ℕ) → Gives (R.comparison (S.Operand.reference id1.0) (S.Operand.reference id2.0)) (words ls names.old edges.old state) (words ls names.new edges.new result) }
 {
-    let at = LabelFilter::Any;
-    let code = READREF_EXISTS_MUTABLE_BORROW;
+    let at = None;
+    let code = StatusCode::ReadRefExistsMutableBorrow;
     let s = violate_if_unreadable(names, edges, state, id1, at, code);
     let t = violate_if_unreadable(names, edges, s, id2, at, code);
     let u = release(names, edges, t, id1);
@@ -262,11 +236,10 @@ fn violate_if_unreadable(
     edges: &[[u32; EDGE_WORDS]; MAX_EDGES],
     state: AbstractState,
     id: RefID,
-    at: LabelFilter,
-    code: u8,
+    at: Option<Label>,
+    code: StatusCode,
 ) -> AbstractState
-    requires { code ≢ 0 }
-    ensures { (ls : List ℕ) → Does (λ s. R.needs_name s.graph id.0 (R.fails s (R.bars_reading s.graph id.0 (filter_of at)) code (Out.Outcome.done s))) (words ls names.now edges.now state) (words ls names.now edges.now result) }
+    ensures { (ls : List ℕ) → Does (λ s. R.needs_name s.graph id.0 (R.fails s (R.bars_reading s.graph id.0 (filter_of at)) (code_of code) (Out.Outcome.done s))) (words ls names.now edges.now state) (words ls names.now edges.now result) }
 {
     let b = bars_reading(names, edges, state, id, at);
     violate_if(state, b, code)
@@ -280,8 +253,15 @@ pub fn read_ref(
 ) -> AbstractState
     ensures { (ls : List ℕ) → Gives (R.read_ref id.0) (words ls names.old edges.old state) (words ls names.new edges.new result) }
 {
-    let at = LabelFilter::Any;
-    let s = violate_if_unreadable(names, edges, state, id, at, READREF_EXISTS_MUTABLE_BORROW);
+    let at = None;
+    let s = violate_if_unreadable(
+        names,
+        edges,
+        state,
+        id,
+        at,
+        StatusCode::ReadRefExistsMutableBorrow,
+    );
     let t = release(names, edges, s, id);
     give(t, AbstractValue::NonReference)
 }
@@ -295,9 +275,9 @@ pub fn write_ref(
     ensures { (ls : List ℕ) → Does (R.write_ref id.0) (words ls names.old edges.old state) (words ls names.new edges.new result) }
 {
     let m = is_mutable(names, state, id);
-    let b = has_consistent_borrows(names, edges, state, id, LabelFilter::Any);
-    let s = require_yes(state, m, 13);
-    let t = violate_if(s, b, WRITEREF_EXISTS_BORROW);
+    let b = has_consistent_borrows(names, edges, state, id, None);
+    let s = require_yes(state, m, Refusal::Immutable);
+    let t = violate_if(s, b, StatusCode::WriteRefExistsBorrow);
     release(names, edges, t, id)
 }
 
@@ -313,7 +293,7 @@ pub fn borrow_loc(
     let b = is_local_mutably_borrowed(names, edges, state, i);
     let new = fresh(state);
     let c = only_if(!mutable, b);
-    let s = violate_if(state, c, BORROWLOC_EXISTS_BORROW);
+    let s = violate_if(state, c, StatusCode::BorrowLocExistsBorrow);
     let t = new_ref(names, s, mutable);
     let u = add_local_borrow(names, edges, t, i, new);
     give(u, AbstractValue::Reference(new))
@@ -348,12 +328,12 @@ fn violate_if_field_borrowed(
 ) -> AbstractState
     ensures { (ls : List ℕ) → Does (λ s. R.needs_name s.graph id.0 (R.fails s (R.bars_field_borrow mutable s.graph id.0 field) BORROWFIELD_EXISTS_MUTABLE_BORROW (Out.Outcome.done s))) (words ls names.now edges.now state) (words ls names.now edges.now result) }
 {
-    let code = BORROWFIELD_EXISTS_MUTABLE_BORROW;
+    let code = StatusCode::BorrowFieldExistsMutableBorrow;
     if mutable {
         let b = has_full_borrows(names, edges, state, id);
         return violate_if(state, b, code);
     }
-    let at = LabelFilter::At(Label::Field(field));
+    let at = Some(Label::Field(field));
     violate_if_unreadable(names, edges, state, id, at, code)
 }
 
@@ -385,10 +365,10 @@ fn violate_if_resource_borrowed(
 {
     if mutable {
         let b = is_global_borrowed(names, edges, state, resource);
-        return violate_if(state, b, GLOBAL_REFERENCE);
+        return violate_if(state, b, StatusCode::GlobalReference);
     }
     let b = is_global_mutably_borrowed(names, edges, state, resource);
-    violate_if(state, b, GLOBAL_REFERENCE)
+    violate_if(state, b, StatusCode::GlobalReference)
 }
 
 pub fn move_from(
@@ -400,7 +380,7 @@ pub fn move_from(
     ensures { (ls : List ℕ) → Gives (R.move_from resource) (words ls names.now edges.now state) (words ls names.now edges.now result) }
 {
     let b = is_global_borrowed(names, edges, state, resource);
-    let s = violate_if(state, b, GLOBAL_REFERENCE);
+    let s = violate_if(state, b, StatusCode::GlobalReference);
     give(s, AbstractValue::NonReference)
 }
 
@@ -411,15 +391,14 @@ fn vector_test(
     state: AbstractState,
     mutable: bool,
     id: RefID,
-    code: u8,
+    code: StatusCode,
 ) -> AbstractState
-    requires { code ≢ 0 }
-    ensures { (ls : List ℕ) → Does (λ s. R.needs_name s.graph id.0 (R.vector_test mutable s id.0 code (Out.Outcome.done s))) (words ls names.now edges.now state) (words ls names.now edges.now result) }
+    ensures { (ls : List ℕ) → Does (λ s. R.needs_name s.graph id.0 (R.vector_test mutable s id.0 (code_of code) (Out.Outcome.done s))) (words ls names.now edges.now state) (words ls names.now edges.now result) }
 {
     let m = is_mutable(names, state, id);
     if mutable {
-        let b = has_consistent_borrows(names, edges, state, id, LabelFilter::Any);
-        let s = require_yes(state, m, 13);
+        let b = has_consistent_borrows(names, edges, state, id, None);
+        let s = require_yes(state, m, Refusal::Immutable);
         return violate_if(s, b, code);
     }
     pass_refusal(state, m)
@@ -436,10 +415,17 @@ pub fn vector_op(
 {
     match vector {
         AbstractValue::Reference(id) => {
-            let s = vector_test(names, edges, state, mutable, id, VEC_UPDATE);
+            let s = vector_test(
+                names,
+                edges,
+                state,
+                mutable,
+                id,
+                StatusCode::VecUpdateExistsMutableBorrow,
+            );
             release(names, edges, s, id)
         }
-        AbstractValue::NonReference => refuse(state, 11),
+        AbstractValue::NonReference => refuse(state, Refusal::WrongOperand),
     }
 }
 
@@ -455,14 +441,21 @@ pub fn vector_element_borrow(
     match vector {
         AbstractValue::Reference(id) => {
             let new = fresh(state);
-            let s = vector_test(names, edges, state, mutable, id, VEC_BORROW_ELEMENT);
+            let s = vector_test(
+                names,
+                edges,
+                state,
+                mutable,
+                id,
+                StatusCode::VecBorrowElementExistsMutableBorrow,
+            );
             let t = new_ref(names, s, mutable);
             let u = add_borrow(names, edges, t, id, new);
             let v = release(names, edges, u, id);
             give(v, AbstractValue::Reference(new))
         }
         AbstractValue::NonReference => {
-            let s = refuse(state, 11);
+            let s = refuse(state, Refusal::WrongOperand);
             give(s, AbstractValue::NonReference)
         }
     }

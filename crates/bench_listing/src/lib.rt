@@ -5,7 +5,7 @@ ghost use Rattle.std.specs.Prelude.{◌≡◌};
 ghost use Rattle.meaning.specs.Listing.{read_listing};
 ghost use Rattle.bench_listing.specs.Number.{number_of};
 
-use listing::{Reading, read_listing};
+use listing::read_listing;
 use meaning::MAX_INSTRUCTIONS;
 
 // The number of a listing's refusal; 0, if there is none.
@@ -14,11 +14,8 @@ pub extern "C" fn listing_number(s: &[u8]) -> u8
     ensures { result ≡ number_of (read_listing s.now) }
 {
     let mut code = [0u16; MAX_INSTRUCTIONS];
-    let r = read_listing(s, &mut code);
-    let reading = r.reading;
-    match reading {
-        Reading::Read => 0,
-        Reading::Nothing => 0,
-        Reading::Refused(number, _) => number,
+    match read_listing(s, &mut code) {
+        Ok(_) => 0,
+        Err(refused) => u8::from(refused.refusal),
     }
 }

@@ -1,29 +1,14 @@
 -- The test of well-formedness as the code's fold, and the borrows of a name edge by edge.
-use Rattle.std.specs.Prelude.{◌≡◌, refl, Bool, true, false, not, cond, ◌&&◌, ◌||◌, ℕ, ◌+◌, ◌<◌, ◌≤◌, min, leb, ltb, eqb, length}
-use Rattle.std.proofs.Common.{sym, ap, ◌∙◌, arith, lt-ltb, ltb-false}
-use Rattle.std.proofs.Math.Bool.{and_assoc, and-true}
+use Rattle.std.specs.Prelude.{◌≡◌, refl, Bool, true, false, not, cond, ◌&&◌, ◌||◌, ℕ, ◌+◌, min, ltb, eqb, length}
+use Rattle.std.proofs.Common.{sym, ap, ◌∙◌, arith, lt-ltb}
 use Rattle.std.proofs.lemmas.Bool.{false≢true}
 use Rattle.std.proofs.Math.Option.{Option, none, some}
-use mathlib.Core.List.{List, [], ◌∷◌, foldl}
+use mathlib.Core.List.{List, [], ◌∷◌}
 use Rattle.meaning.specs.References.{weakest, short, lt_edge, eq_edge}
-use Rattle.meaning.proofs.Laws.Base.{and_l, decide}
+use Rattle.meaning.proofs.Laws.Base.{and_l}
 use Rattle.meaning.proofs.Laws.Array.{empty_length}
 use Rattle.meaning.specs.BorrowGraph.{GEdge, Name, is_before, mutable_in, meets_label, empty_path, borrows, borrows_fully, lower_of, lowest_of, Borrows}
-use Rattle.meaning.specs.Refinement.Chain.{same, link, next_count, chain, climbs}
-use Rattle.borrow_graph.specs.Models.{low_in}
-
--- ---- names that ascend
-
-pub record Climb : Type 0 where
-  pub ok : Bool
-  pub from : ℕ
-
-abbrev pub climb : Climb → Name → Climb
-climb s n = record { ok = s.ok && (ltb n.id 65536 && leb s.from n.id); from = n.id + 1 }
-
-pub climb_ok : (s : Climb) (ns : List Name) → (foldl climb s ns).ok ≡ s.ok && climbs s.from ns
-climb_ok s [] = sym (and-true s.ok)
-climb_ok s (n ∷ ns) = climb_ok (climb s n) ns ∙ and_assoc s.ok (ltb n.id 65536 && leb s.from n.id) (climbs (n.id + 1) ns)
+use Rattle.meaning.specs.Refinement.Chain.{same, link, next_count, chain}
 
 -- ---- an edge that follows another
 
@@ -111,21 +96,6 @@ borrows_in ns n at s xs = record {
   consistent = lower_both s.consistent (lowest_of (borrows n at) xs);
   mutable = lower_both s.mutable (lowest_of (λ x. borrows n at x && mutable_in ns x.child) xs);
 }
-
--- the code's test: an offset that counts and is lower takes the place of the lowest so far
-pub lower_taken : (o w : ℕ) → o < 65536 → o < w → low_in o ≡ some (lower_of o (low_in w))
-lower_taken o w h l = decide (ltb w 65536)
-    (λ t.
-    let e : o ≡ min o w = omega arith in
-    rw (lt-ltb o 65536 h, t) (ap some e))
-    (λ t. rw (lt-ltb o 65536 h, t) refl)
-
-pub lower_left : (b : Bool) (o w : ℕ) → o < 65536 → b && ltb o w ≡ false → low_in w ≡ lower_if b o (low_in w)
-lower_left false o w h e = refl
-lower_left true o w h e =
-    let l : w ≤ o = ltb-false o w e in
-    let m : w ≡ min o w = omega arith in
-    rw (lt-ltb w 65536 (omega arith)) (ap some m)
 
 -- it does not matter when an offset is looked at
 lower_turn : (b : Bool) (o : ℕ) (l m : Option ℕ) → lower_both (lower_if b o l) m ≡ lower_both l (lower_if b o m)

@@ -15,15 +15,18 @@ ghost use Rattle.meaning.specs.Limits.{max_names, max_edges};
 ghost use Rattle.meaning.specs.BorrowGraph.{empty_graph, well_formed, new_name, mutable_of, contains_id, all_refs};
 ghost use Rattle.meaning.specs.Refinement.Chain as C;
 ghost use Rattle.meaning.specs.Refinement.Chain.{next_count};
-ghost use Rattle.references.specs.Models.{row_of, names_in, edges_in, told};
+ghost use Rattle.references.specs.Models.{row_of, names_in, edges_in};
+ghost use Rattle.vm_status.specs.Models.{answer_of};
 ghost use Rattle.borrow_graph.specs.Models.{graph_in, Tells, Answers, told_of};
 
-use crate::refs::{ascend, holds, is_mutable_in, pair_ok, place, put_at};
-use meaning::{EDGE_WORDS, MAX_EDGE_SET_SIZE, MAX_EDGES, MAX_NAMES, lesser};
-use paths::Ordering;
+use crate::refs::{ascend, holds, is_mutable_in, pair_ok, place};
+use file_format::CodeOffset;
+use meaning::{EDGE_WORDS, MAX_EDGE_SET_SIZE, MAX_EDGES, MAX_NAMES, insert_at, lesser};
 use references::RefID;
-use references::rows::{child, is_blurred, is_strong, labels, lt, parent, side};
+use references::rows::{Row, child, is_blurred, is_strong, labels, lt, parent, side};
 use references::words::name_word;
+use std::cmp::Ordering;
+use vm_status::Refusal;
 
 // How many names and edges there are, and whether they are well formed: the answer to document 01's test for 9, kept so that it is tested
 // once. `measure` makes one for any words.
@@ -34,45 +37,13 @@ pub struct BorrowGraph {
     pub formed: bool,
 }
 
-// A refusal's number, or 0, and the graph; refused, the graph as it was.
-#[derive(Clone, Copy)]
-pub struct Answer {
-    pub refusal: u8,
-    pub graph: BorrowGraph,
-}
-
-// A refusal's number, or 0 and the answer to a question. Beside a refusal `yes` is free.
-#[derive(Clone, Copy)]
-pub struct YesOrNo {
-    pub refusal: u8,
-    pub yes: bool,
-}
-
-// Where the lowest of some edges' offsets is given: there is no such edge. (Any number from here on says so.)
-pub const NO_OFFSET: u32 = 65536;
-
-// A refusal's number, or 0 and the lowest offset among the edges that were asked for. Beside a refusal it is free.
-#[derive(Clone, Copy)]
-pub struct Lowest {
-    pub refusal: u8,
-    pub offset: u32,
-}
-
-// A refusal's number, or 0 and the lowest offsets among the empty-path borrows, among those that count, and among those that count with a
-// mutable borrower. Beside a refusal the three are free.
+// The lowest offsets among the empty-path borrows, among those that count, and among those that count with a mutable borrower; `None` where there
+// is no such borrow.
 #[derive(Clone, Copy)]
 pub struct BorrowedBy {
-    pub refusal: u8,
-    pub full: u32,
-    pub consistent: u32,
-    pub mutable: u32,
-}
-
-// A refusal's number, or 0 and how many names or edges were found. Beside a refusal `len` is free.
-#[derive(Clone, Copy)]
-pub struct Found {
-    pub refusal: u8,
-    pub len: usize,
+    pub full: Option<CodeOffset>,
+    pub consistent: Option<CodeOffset>,
+    pub mutable: Option<CodeOffset>,
 }
 
 // No name, no edge, whatever the arrays hold.
@@ -87,7 +58,7 @@ pub fn new() -> BorrowGraph
 }
 
 // How many edges of its pair there have been with x, which follows y as number `count` of its pair; 0 where x may not follow.
-pub(crate) fn link(y: &[u32; EDGE_WORDS], count: usize, x: &[u32; EDGE_WORDS]) -> usize
+pub(crate) fn link(y: &Row, count: usize, x: &Row) -> usize
     ensures { result ≡ cond (C.link count (row_of y.now) (row_of x.now)) (next_count count (row_of y.now) (row_of x.now)) 0 }
 {
     let p = parent(x);
@@ -119,29 +90,25 @@ pub(crate) fn link(y: &[u32; EDGE_WORDS], count: usize, x: &[u32; EDGE_WORDS]) -
 pub(crate) fn well_formed(
     names: &[u32; MAX_NAMES],
     n: usize,
-    edges: &[[u32; EDGE_WORDS]; MAX_EDGES],
+    edges: &[Row; MAX_EDGES],
     m: usize,
 ) -> bool
     ensures { length names.entry.now ≡ max_names → length edges.now ≡ max_edges → result ≡ well_formed (record { names = names_in names.entry.now n; edges = edges_in edges.now m }) }
 {
-    let k = lesser(m, MAX_EDGES);
     if !ascend(names, n) {
         return false;
     }
     // what stands before the first edge: no edge joins a name to itself
     let mut last = [0u32; EDGE_WORDS];
     let mut count: usize = 0;
-    let mut i: usize = 0;
-    while i < k {
-        let x = edges[i];
-        let p = parent(&x);
-        let c = child(&x);
+    for x in &edges[..lesser(m, MAX_EDGES)] {
+        let p = parent(x);
+        let c = child(x);
         let h = pair_ok(names, n, p, c);
-        let l = link(&last, count, &x);
+        let l = link(&last, count, x);
         if h & (0 < l) {
-            last = x;
+            last = *x;
             count = l;
-            i += 1;
         } else {
             return false;
         }
@@ -152,92 +119,69 @@ pub(crate) fn well_formed(
 pub fn measure(
     names: &[u32; MAX_NAMES],
     n: usize,
-    edges: &[[u32; EDGE_WORDS]; MAX_EDGES],
+    edges: &[Row; MAX_EDGES],
     m: usize,
 ) -> BorrowGraph
     ensures { length names.entry.now ≡ max_names → length edges.now ≡ max_edges → Tells names.entry.now edges.now result × (graph_in names.entry.now edges.now result ≡ record { names = names_in names.entry.now n; edges = edges_in edges.now m }) }
 {
     let formed = well_formed(names, n, edges, m);
-    let refs = lesser(n, MAX_NAMES);
-    let rows = lesser(m, MAX_EDGES);
     BorrowGraph {
-        refs: refs,
-        edges: rows,
-        formed: formed,
+        refs: lesser(n, MAX_NAMES),
+        edges: lesser(m, MAX_EDGES),
+        formed,
     }
 }
 
-pub fn contains_id(names: &[u32; MAX_NAMES], g: BorrowGraph, id: RefID) -> YesOrNo
+pub fn contains_id(names: &[u32; MAX_NAMES], g: BorrowGraph, id: RefID) -> Result<bool, Refusal>
     ensures { (es : List (List ℕ)) → Tells names.now es g → told_of result ≡ contains_id (graph_in names.now es g) id.0 }
 {
     if g.formed {
-        let h = holds(names, g.refs, id);
-        return YesOrNo { refusal: 0, yes: h };
+        return Ok(holds(names, g.refs, id));
     }
-    YesOrNo {
-        refusal: 9,
-        yes: false,
-    }
+    Err(Refusal::IllFormed)
 }
 
 // How many of the array's names there are.
-pub fn all_refs(g: BorrowGraph) -> Found
-    ensures { (ns : List ℕ) (es : List (List ℕ)) → Tells ns es g → told result.refusal (names_in ns result.len) ≡ all_refs (graph_in ns es g) }
+pub fn all_refs(g: BorrowGraph) -> Result<usize, Refusal>
+    ensures { (ns : List ℕ) (es : List (List ℕ)) → Tells ns es g → answer_of (names_in ns) result ≡ all_refs (graph_in ns es g) }
 {
     if g.formed {
-        return Found {
-            refusal: 0,
-            len: g.refs,
-        };
+        return Ok(g.refs);
     }
-    Found { refusal: 9, len: 0 }
+    Err(Refusal::IllFormed)
 }
 
-pub fn is_mutable(names: &[u32; MAX_NAMES], g: BorrowGraph, id: RefID) -> YesOrNo
+pub fn is_mutable(names: &[u32; MAX_NAMES], g: BorrowGraph, id: RefID) -> Result<bool, Refusal>
     ensures { (es : List (List ℕ)) → Tells names.now es g → told_of result ≡ mutable_of (graph_in names.now es g) id.0 }
 {
     let h = holds(names, g.refs, id);
     if g.formed & h {
-        let m = is_mutable_in(names, g.refs, id);
-        return YesOrNo { refusal: 0, yes: m };
+        return Ok(is_mutable_in(names, g.refs, id));
     }
-    YesOrNo {
-        refusal: 9,
-        yes: false,
-    }
+    Err(Refusal::IllFormed)
 }
 
-// 8 where the name is held, then 23 where 48 are.
-pub fn new_ref(names: &mut [u32; MAX_NAMES], g: BorrowGraph, id: RefID, mutable: bool) -> Answer
-    ensures { (es : List (List ℕ)) → Tells names.old es g → Answers (new_name (graph_in names.old es g) id.0 mutable) names.old es g names.new es result }
+// 8 where the name is held, then 23 where 48 are; refused, names and graph are as they were.
+pub fn new_ref(
+    names: &mut [u32; MAX_NAMES],
+    g: &mut BorrowGraph,
+    id: RefID,
+    mutable: bool,
+) -> Result<(), Refusal>
+    ensures { (es : List (List ℕ)) → Tells names.old es g.old → Answers (new_name (graph_in names.old es g.old) id.0 mutable) names.old es g.old names.new es g.new result }
 {
-    if g.formed {
-        if holds(names, g.refs, id) {
-            return Answer {
-                refusal: 8,
-                graph: g,
-            };
-        }
-        if MAX_NAMES <= g.refs {
-            return Answer {
-                refusal: 23,
-                graph: g,
-            };
-        }
-        let k = place(names, g.refs, id);
-        let w = name_word(id, mutable);
-        put_at(names, g.refs, k, w);
-        return Answer {
-            refusal: 0,
-            graph: BorrowGraph {
-                refs: g.refs + 1,
-                edges: g.edges,
-                formed: true,
-            },
-        };
+    if !g.formed {
+        return Err(Refusal::IllFormed);
     }
-    Answer {
-        refusal: 9,
-        graph: g,
+    if holds(names, g.refs, id) {
+        return Err(Refusal::NameHeld);
     }
+    if MAX_NAMES <= g.refs {
+        return Err(Refusal::ManyNames);
+    }
+    let k = place(&names[..g.refs], id);
+    let w = name_word(id, mutable);
+    insert_at(names, g.refs, k, w);
+    g.refs += 1;
+    Ok(())
 }

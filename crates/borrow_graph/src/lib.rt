@@ -1,6 +1,7 @@
 // The labelled borrow graph (graph.rs) on its arrays: names of 48 words, edges of 96 rows.
 #![tactic(auto)]
 
+mod arrays;
 pub mod cover;
 pub mod graph;
 pub mod lookups;

@@ -1,18 +1,19 @@
 -- The strong borrow's loop over the rows that it moves.
-use Rattle.std.specs.Prelude.{ℕ, suc, ◌+◌, ◌≤◌, ◌<◌, ◌≡◌, Bool, true, false, not, cond, ◌&&◌, List, [], ◌∷◌, map, eqb, leb, length, drop}
+use Rattle.std.specs.Prelude.{ℕ, suc, ◌+◌, ◌≤◌, ◌<◌, ◌≡◌, Bool, true, false, not, cond, ◌&&◌, List, [], ◌∷◌, map, eqb, leb, length, drop, Ok, Err}
 use Rattle.std.proofs.Common.{arith, ap, ◌∙◌, subst, length-drop}
 use Rattle.std.proofs.Math.Path.{refl, sym}
 use Rattle.std.proofs.lemmas.Bool.{false≢true}
-use Rattle.meaning.specs.Answers.{refuse, and_then}
+use Rattle.meaning.specs.Answers.{refuse, and_then, leaves}
 use Rattle.meaning.specs.Lists.{any, all, keep}
-use Rattle.meaning.specs.BorrowGraph.{Name, GEdge, well_formed, pair_ok, between, add_edge, add_all, limit, shift, moves, borrow_strong}
-use Rattle.meaning.proofs.Laws.Base.{and_l, and_r, and_i, leb_le, le_leb}
+use Rattle.meaning.specs.BorrowGraph.{Name, GEdge, Graph, well_formed, pair_ok, between, set_at, set_to, add_edge, add_all, limit, shift, moves, borrow_strong}
+use Rattle.meaning.proofs.Laws.Base.{and_l, and_r, and_i, le_leb, refuse≢ok}
 use Rattle.meaning.proofs.Laws.Add.{keep_few}
 use Rattle.meaning.specs.Laws.Put.{Moved}
-use Rattle.meaning.proofs.Laws.Put.{shifted_kept, shifted_rest, shifted_length, strong_9, strong_still, stay_formed, moved_pairs, strong_last}
+use Rattle.meaning.proofs.Laws.Put.{insert_short, add_fits, made_length, shifted_kept, shifted_rest, shifted_length, strong_9, strong_still, stay_formed, moved_pairs, strong_last}
 use Rattle.references.specs.Models.{edges_in}
 use Rattle.references.specs.ModelLaws.{edges_count}
-use Rattle.borrow_graph_edit.specs.Edits.{graph_with, Added, added_left}
+use Rattle.borrow_graph_edit.specs.Edits.{graph_with, Added, added_edits}
+use Rattle.vm_status.specs.declared.Refusal.{Refusal}
 use Rattle.borrow_graph_edit.specs.declared.blurs.Changed.{Changed}
 
 -- of the moved edges ys are left; the others are put in
@@ -24,26 +25,40 @@ pub record Going (ns : List Name) (es : List GEdge) (c : ℕ) (path : List ℕ) 
   pub rest : add_all (map (shift c path) ys) (graph_with ns (edges_in rows n)) ≡ add_all (map (shift c path) moved) (graph_with ns es)
 
 module _ (ns : List Name) (es : List GEdge) (c : ℕ) (path : List ℕ) (moved : List GEdge) (rows : List (List ℕ)) (n : ℕ) where
-  pub going_turn : (y : GEdge) (ys : List GEdge) → Going ns es c path moved rows n (y ∷ ys) → length y.edge.path ≤ 8
-      → (rows' : List (List ℕ)) (r : Changed) → r.edges ≤ 96 → Added (shift c path y) rows n rows' r → Going ns es c path moved rows' r.edges ys
-  going_turn y ys g s rows' r l d =
-      let k : length (edges_in rows n) ≡ n = edges_count rows n (omega (arith, g.full, g.room)) in
-      let h : length (edges_in rows n) < 96 = omega (arith, k, g.room) in
-      let z : length (drop (length path) y.edge.path) ≤ 8 = omega (arith, s, length-drop (length path) y.edge.path) in
-      let p : pair_ok ns c y.child ≡ true = and_l (pair_ok ns c y.child) (all (λ (x : GEdge). pair_ok ns c x.child) ys) g.pairs in
-      let a = added_left (shift c path y) rows n rows' r d ns in
-      let b = graph_with ns (edges_in rows n) in
-      let f = graph_with ns (edges_in rows' r.edges) in
-      let t : length (edges_in rows' r.edges) ≤ suc (length (edges_in rows n)) =
-      shifted_length b c path y (map (shift c path) ys) (add_all (map (shift c path) moved) (graph_with ns es)) g.formed h f z p a in
-      let u : length (edges_in rows' r.edges) ≡ r.edges = edges_count rows' r.edges (omega (arith, d.0, l)) in
-      record {
-        full = d.0;
-        formed = (shifted_kept b c path y (map (shift c path) ys) (add_all (map (shift c path) moved) (graph_with ns es)) g.formed h f z p a).formed;
-        room = omega (arith, t, u, k, g.room);
-        pairs = and_r (pair_ok ns c y.child) (all (λ (x : GEdge). pair_ok ns c x.child) ys) g.pairs;
-        rest = shifted_rest b c path y (map (shift c path) ys) (add_all (map (shift c path) moved) (graph_with ns es)) g.formed h f z p a g.rest;
-      }
+  -- the next of the moved edges is put in, which is not refused
+  module _ (y : GEdge) (ys : List GEdge) (g : Going ns es c path moved rows n (y ∷ ys)) (s : length y.edge.path ≤ 8) where
+    abbrev now : Graph
+    now = graph_with ns (edges_in rows n)
+
+    count : length (edges_in rows n) ≡ n
+    count = edges_count rows n (omega (arith, g.full, g.room))
+
+    short : length (drop (length path) y.edge.path) ≤ 8
+    short = omega (arith, s, length-drop (length path) y.edge.path)
+
+    pub going_turn : (rows' : List (List ℕ)) (k : Changed) → k.edges ≤ 96 → Added (shift c path y) rows n rows' (Ok k) → Going ns es c path moved rows' k.edges ys
+    going_turn rows' k l d =
+        let h : length (edges_in rows n) < 96 = omega (arith, count, g.room) in
+        let p : pair_ok ns c y.child ≡ true = and_l (pair_ok ns c y.child) (all (λ (x : GEdge). pair_ok ns c x.child) ys) g.pairs in
+        let a = ap (leaves now) (added_edits (shift c path y) rows n rows' (Ok k) d ns).0 in
+        let f = graph_with ns (edges_in rows' k.edges) in
+        let t : length (edges_in rows' k.edges) ≤ suc (length (edges_in rows n)) =
+        shifted_length now c path y (map (shift c path) ys) (add_all (map (shift c path) moved) (graph_with ns es)) g.formed h f short p a in
+        let u : length (edges_in rows' k.edges) ≡ k.edges = edges_count rows' k.edges (omega (arith, d.0, l)) in
+        record {
+          full = d.0;
+          formed = (shifted_kept now c path y (map (shift c path) ys) (add_all (map (shift c path) moved) (graph_with ns es)) g.formed h f short p a).formed;
+          room = omega (arith, t, u, count, g.room);
+          pairs = and_r (pair_ok ns c y.child) (all (λ (x : GEdge). pair_ok ns c x.child) ys) g.pairs;
+          rest = shifted_rest now c path y (map (shift c path) ys) (add_all (map (shift c path) moved) (graph_with ns es)) g.formed h f short p a g.rest;
+        }
+
+    pub going_on : (rows' : List (List ℕ)) (e : Refusal) → Added (shift c path y) rows n rows' (Err e) → ⊥
+    going_on rows' e d =
+        let f = (shift c path y).edge in
+        let i = insert_short (set_at c y.child now.edges) f short in
+        let l : length (set_to c y.child i.0 now.edges) ≤ suc (length now.edges) = made_length now c y.child f i.0 i.1 in
+        refuse≢ok ((added_edits (shift c path y) rows n rows' (Err e) d ns).0 ∙ add_fits now c y.child f i.0 i.1 (omega (arith, l, count, g.room)))
 
   pub going_end : Going ns es c path moved rows n [] → Moved (graph_with ns es) c path moved (graph_with ns (edges_in rows n))
   unfolding add_all
@@ -125,8 +140,8 @@ module _ (ns : List Name) (es : List GEdge) (p : ℕ) (path : List ℕ) (c o : �
 -- ---- the test of a call: the flag, the names, and that the number of rows is one
 
 module _ (f h : Bool) (m : ℕ) where
-  pub test_few : (f && h) && leb m 96 ≡ true → m ≤ 96
-  test_few t = leb_le (and_r (f && h) (leb m 96) t)
+  pub test_formed : (f && h) && leb m 96 ≡ true → f ≡ true
+  test_formed t = and_l f h (and_l (f && h) (leb m 96) t)
 
   module _ (w q : Bool) (fw : f ≡ w) (hq : h ≡ q) where
     pub test_yes : (f && h) && leb m 96 ≡ true → w && q ≡ true

@@ -8,3 +8,4 @@ pub mod BorrowLaws
 pub mod Ways
 pub mod PassLaws
 pub mod JoinLaws
+pub mod Shifts

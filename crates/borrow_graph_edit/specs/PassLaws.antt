@@ -1,15 +1,20 @@
 -- Turns of the loops over a name's children and parents.
-use Rattle.std.specs.Prelude.{ℕ, ◌≡◌, Bool, true, false, not, ◌&&◌, List, [], ◌∷◌, eqb}
+use Rattle.std.specs.Prelude.{ℕ, ◌≡◌, Bool, true, false, not, ◌&&◌, cond, List, [], ◌∷◌, eqb, Result, Ok, Err}
 use Rattle.std.proofs.Common.{sym, ap, ◌∙◌}
-use Rattle.meaning.specs.Answers.{Ans, ok, and_then}
+use Rattle.std.proofs.lemmas.Bool.{false≢true}
+use Rattle.meaning.specs.Answers.{Ans, ok, refuse, and_then}
 use Rattle.meaning.specs.Lists.{each}
 use Rattle.meaning.specs.References.{EdgeSet}
 use Rattle.meaning.specs.BorrowGraph.{GEdge}
-use Rattle.meaning.specs.Refinement.Pairs.{Pair, replace_lim}
+use Rattle.meaning.specs.Refinement.Pairs.{Pair, replace_lim, or21, two_pass}
 use Rattle.meaning.specs.Refinement.Passes.{children_from, parents_from}
 use Rattle.meaning.proofs.Laws.Pair.{pass_end}
 use Rattle.meaning.proofs.Laws.PairCall.{firsts_end}
-use Rattle.meaning.proofs.Laws.Pass.{pass_each, children_take, children_skip, parents_take, parents_skip}
+use Rattle.meaning.proofs.Laws.Base.{eqb_eq}
+use Rattle.vm_status.specs.declared.Refusal.{Refusal}
+use Rattle.vm_status.specs.Models.{number_of, answer_of}
+use Rattle.borrow_graph_edit.specs.Models.{is_21}
+use Rattle.meaning.proofs.Laws.Pass.{pass_again, pass_each, children_take, children_skip, parents_take, parents_skip}
 
 -- n: the name; last: the child or parent before; p and c: the ends of the edge y, as the code has read them
 module _ (sh : Bool) (new : ℕ → ℕ → Ans EdgeSet) (n last : ℕ) (f : Pair → List Pair) (es : List GEdge) (r : Ans (List GEdge)) (xs : List GEdge) where
@@ -52,3 +57,21 @@ module _ (sh : Bool) (new : ℕ → ℕ → Ans EdgeSet) (n last : ℕ) (f : Pai
     parent_end k =
         sym (ap (λ (rs : List Pair). replace_lim sh new (each rs f) es) (ap (λ (l : List GEdge). parents_from n last l) e ∙ firsts_end (λ y. eqb n y.child) (record { parent = last; child = n }))
         ∙ pass_end sh new es) ∙ k
+
+-- ---- a second pass where the first ended at the limit
+
+module _ (new : ℕ → ℕ → Ans EdgeSet) (rs : List Pair) (es : List GEdge) (f : ℕ → List GEdge) (r : Result ℕ Refusal) (e : answer_of f r ≡ replace_lim false new rs es) where
+  pub first_pass : is_21 r ≡ false → answer_of f r ≡ two_pass new rs es
+  unfolding two_pass
+  first_pass h = go r h (replace_lim false new rs es) (and_then (replace_lim true new rs es) (λ fs. replace_lim false new rs fs)) e
+    where
+      go : (r : Result ℕ Refusal) → is_21 r ≡ false → (a k : Ans (List GEdge)) → answer_of f r ≡ a → answer_of f r ≡ or21 a k
+      go (Ok n) h a k e = ap (λ (b : Ans (List GEdge)). or21 b k) e
+      go (Err n) h a k e = ap (λ (b : Bool). cond b k (refuse (number_of n))) (sym h) ∙ ap (λ (b : Ans (List GEdge)). or21 b k) e
+
+  pub next_pass : is_21 r ≡ true → and_then (replace_lim true new rs es) (λ fs. replace_lim false new rs fs) ≡ two_pass new rs es
+  next_pass h = pass_again new rs es (sym e ∙ go r h)
+    where
+      go : (r : Result ℕ Refusal) → is_21 r ≡ true → answer_of f r ≡ refuse 21
+      go (Ok n) h = absurd (false≢true h)
+      go (Err n) h = ap (λ (k : ℕ). refuse k) (eqb_eq h)

@@ -1,17 +1,16 @@
 -- Loops over rows: those that pass a test are kept, searched, or copied one by one.
-use Rattle.std.specs.Prelude.{ℕ, ◌+◌, ◌%◌, ◌≤◌, ◌<◌, min, ◌≡◌, refl, Bool, true, false, not, ◌&&◌, cond, List, [], ◌∷◌, ◌++◌, map, length, take, drop, get_or, set}
-use Rattle.std.proofs.Common.{arith, sym, ap, ◌∙◌, append-nil, length-take}
+use Rattle.std.specs.Prelude.{ℕ, suc, filter, ◌||◌, ◌+◌, ◌%◌, ◌≤◌, ◌<◌, min, ◌≡◌, refl, Bool, true, false, not, ◌&&◌, cond, List, [], ◌∷◌, ◌++◌, map, length, drop, get_or, set}
+use Rattle.std.proofs.Common.{arith, sym, ap, ◌∙◌, append-nil}
 use Rattle.meaning.specs.Answers.{Ans, ok, and_then}
-use Rattle.meaning.specs.Lists.{all, keep}
+use Rattle.meaning.specs.Lists.{any, all, keep}
 use Rattle.meaning.specs.References.{Edge, EdgeSet, insert}
 use Rattle.meaning.specs.BorrowGraph.{GEdge, splice}
 use Rattle.meaning.specs.Laws.Graph.{insert_all}
 use Rattle.meaning.proofs.Laws.Pair.{insert_all_on, insert_all_append, insert_all_end}
 use Rattle.meaning.specs.Refinement.Passes.{splices}
 use Rattle.meaning.specs.Area.{label_in}
-use Rattle.meaning.proofs.Laws.Array.{front_all}
 use Rattle.meaning.proofs.Laws.Listing.{up_to_length}
-use Rattle.references.specs.Models.{row_of, edges_in, set_edges}
+use Rattle.references.specs.Models.{row_of, edges_in}
 use Rattle.borrow_graph.specs.ArrayLaws.{keep_in, keep_out}
 use Rattle.references.specs.ModelLaws.{edges_next, edges_over, edges_push, edges_past}
 
@@ -65,41 +64,27 @@ row_short r =
 
 -- of the edges that pass q none passes r
 module _ (q r : GEdge → Bool) where
-  next_kept : (x : GEdge) (xs : List GEdge) → all (λ y. not (r y)) (keep q (x ∷ xs)) ≡ cond (q x && r x) false (all (λ y. not (r y)) (keep q xs))
-  next_kept x xs = go (q x) (r x) refl
+  pub none_of : (xs : List GEdge) → not (any (λ x. q x && r x) xs) ≡ all (λ y. not (r y)) (keep q xs)
+  none_of [] = refl
+  none_of (x ∷ xs) = go (q x) (r x) refl (none_of xs)
     where
-      go : (s t : Bool) → r x ≡ t → all (λ y. not (r y)) (cond s (x ∷ keep q xs) (keep q xs)) ≡ cond (s && t) false (all (λ y. not (r y)) (keep q xs))
-      go false t h = refl
-      go true true h = ap (λ (c : Bool). not c && all (λ y. not (r y)) (keep q xs)) h
-      go true false h = ap (λ (c : Bool). not c && all (λ y. not (r y)) (keep q xs)) h
+      go : (s t : Bool) → r x ≡ t → not (any (λ y. q y && r y) xs) ≡ all (λ y. not (r y)) (keep q xs)
+          → not ((s && t) || any (λ y. q y && r y) xs) ≡ all (λ y. not (r y)) (cond s (x ∷ keep q xs) (keep q xs))
+      go true true e h = sym (ap (λ (c : Bool). not c && all (λ y. not (r y)) (keep q xs)) e)
+      go true false e h = h ∙ sym (ap (λ (c : Bool). not c && all (λ y. not (r y)) (keep q xs)) e)
+      go false t e h = h
 
-  module _ (rows : List (List ℕ)) (m : ℕ) (n : m ≤ length rows) (i : ℕ) (b : Bool) (e : all (λ y. not (r y)) (keep q (drop i (edges_in rows m))) ≡ b) where
-    module _ (k : i < m) (d : List ℕ) where
-      abbrev others : Bool
-      others = all (λ y. not (r y)) (keep q (drop (i + 1) (edges_in rows m)))
-
-      none_turn : (a : Bool) → q (row_of (get_or rows i d)) && r (row_of (get_or rows i d)) ≡ a → cond a false others ≡ b
-      none_turn a h =
-          ap (λ (c : Bool). cond c false others) (sym h) ∙ sym (next_kept (row_of (get_or rows i d)) (drop (i + 1) (edges_in rows m)))
-          ∙ ap (λ (l : List GEdge). all (λ y. not (r y)) (keep q l)) (sym (edges_next rows m d i k n)) ∙ e
-
-      pub none_found : q (row_of (get_or rows i d)) && r (row_of (get_or rows i d)) ≡ true → false ≡ b
-      none_found h = none_turn true h
-
-      pub none_on : q (row_of (get_or rows i d)) && r (row_of (get_or rows i d)) ≡ false → all (λ y. not (r y)) (keep q (drop (i + 1) (edges_in rows m))) ≡ b
-      none_on h = none_turn false h
-
-    pub none_all : m ≤ i → true ≡ b
-    none_all k = sym (ap (λ (l : List GEdge). all (λ y. not (r y)) (keep q l)) (edges_over rows m i k n)) ∙ e
+-- std's filter counts the edges that are kept
+pub filter_keeps : {A B : Type 0} (q : B → Bool) (f : A → B) (xs : List A) → length (filter (λ x. q (f x)) xs) ≡ length (keep q (map f xs))
+filter_keeps q f [] = refl
+filter_keeps {A} {B} q f (x ∷ xs) = go (q (f x)) (filter_keeps q f xs)
+  where
+    go : (b : Bool) → length (filter (λ y. q (f y)) xs) ≡ length (keep q (map f xs))
+        → length (cond b (x ∷ filter (λ y. q (f y)) xs) (filter (λ y. q (f y)) xs)) ≡ length (cond b (f x ∷ keep q (map f xs)) (keep q (map f xs)))
+    go true h = ap suc h
+    go false h = h
 
 -- ---- a set's rows
-
--- its rows by the number that the code reads
-pub set_cut : (rows : List (List ℕ)) (k n : ℕ) → length rows ≡ 10 → n ≡ min k 10 → set_edges rows n ≡ set_edges rows k
-unfolding set_edges
-set_cut rows k n l e =
-    let h : n ≡ length (take k rows) = omega (arith, e, l, length-take k rows) in
-    ap (λ (r : List (List ℕ)). map (λ s. (row_of s).edge) r) (ap (λ (i : ℕ). take i rows) h ∙ front_all k rows)
 
 -- a turn of the loops that splice
 module _ (e : Edge) (xs ys : List Edge) (x : Edge) (h : xs ≡ x ∷ ys) (s : EdgeSet) (r : Ans EdgeSet) where

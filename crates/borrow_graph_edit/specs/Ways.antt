@@ -1,5 +1,5 @@
 -- The ways through a name by the edges that touch it, and a release with at most one of them.
-use Rattle.std.specs.Prelude.{ℕ, suc, ◌≤◌, ◌<◌, ◌≡◌, Bool, true, false, not, ◌&&◌, ◌||◌, cond, get_or, leb, eqb}
+use Rattle.std.specs.Prelude.{ℕ, suc, ◌≤◌, ◌<◌, ◌≡◌, Bool, true, false, not, ◌&&◌, cond, get_or, leb, eqb, Option, None, Some, ⊤}
 use native.Mathlib.Omega.{arith}
 use Rattle.std.proofs.Math.Path.{refl, ap}
 use Rattle.std.proofs.Common.{sym, ◌∙◌}
@@ -8,7 +8,7 @@ use mathlib.Core.List.{List, [], ◌∷◌, ◌++◌}
 use Rattle.std.proofs.Math.ListN.{length}
 use Rattle.meaning.specs.Answers.{Ans, ok, refuse, and_then, guard}
 use Rattle.meaning.specs.Lists.{keep, each, all}
-use Rattle.meaning.proofs.Laws.Base.{and_i, and_l, and_r, not_true, leb_le, all_imp, keep_passes}
+use Rattle.meaning.proofs.Laws.Base.{and_i, and_l, and_r, leb_le, all_imp, keep_passes}
 use Rattle.meaning.specs.References.{Edge, Offered, fits, too_long, fitting}
 use Rattle.meaning.specs.BorrowGraph.{Name, GEdge, Graph, holds, held, pair_ok, other, set_at, set_to, between, splice, spliced, without, well_formed, add_edge, add_all, limit, release}
 use Rattle.meaning.proofs.Laws.Call.{holds_all}
@@ -18,10 +18,10 @@ use Rattle.meaning.proofs.Laws.Spliced.{spliced_rows_lem}
 use Rattle.meaning.proofs.Laws.Add.{limit_pass, without_formed, keep_few}
 use Rattle.meaning.proofs.Laws.Put.{insert_short, add_fits, made_length}
 use Rattle.meaning.specs.Refinement.Passes.{apart}
-use Rattle.references.specs.Models.{row_of, told}
-use Rattle.references.specs.ModelLaws.{told_no}
+use Rattle.references.specs.Models.{row_of}
+use Rattle.meaning.specs.Limits.{max_edges}
 use Rattle.borrow_graph_edit.specs.declared.release.Side.{Side}
-use Rattle.borrow_graph_edit.specs.declared.release.OneWay.{OneWay}
+use Rattle.borrow_graph_edit.specs.declared.release.Side.TheVariants.{Empty, Single, Several}
 
 abbrev pub entering : ℕ → GEdge → Bool
 entering n x = eqb n x.child
@@ -36,37 +36,61 @@ through x y = cond (not (eqb x.parent y.child)) (between x.parent (splice x.edge
 abbrev pub ways : List GEdge → List GEdge → List GEdge
 ways xs ys = each xs (λ x. each ys (through x))
 
+-- one more edge on a side, in row i
+abbrev pub one_more : Side → ℕ → Side
+one_more Empty i = Single i
+one_more (Single j) i = Several
+one_more Several i = Several
+
+-- a row that a side names is one of the array's
+abbrev pub Within : Side → Type 0
+Within Empty = ⊤
+Within (Single i) = i < max_edges
+Within Several = ⊤
+
 -- xs are the edges on this side of a name
 abbrev pub Found : List (List ℕ) → Side → List GEdge → Type 0
-Found rows s xs = (s.empty ≡ true → xs ≡ []) × (s.single ≡ true → xs ≡ row_of (get_or rows s.at []) ∷ [])
+Found rows Empty xs = xs ≡ []
+Found rows (Single i) xs = xs ≡ row_of (get_or rows i []) ∷ []
+Found rows Several xs = ⊤
 
 -- the edges that are put in: a row's, which then is not blurred
-abbrev pub put_of : OneWay → List GEdge
-put_of b = cond b.one (between (row_of b.row).parent (row_of b.row).edge (row_of b.row).child ∷ []) []
+abbrev pub put_of : Option (List ℕ) → List GEdge
+put_of None = []
+put_of (Some r) = between (row_of r).parent (row_of r).edge (row_of r).child ∷ []
+
+pub within_more : (s : Side) (i : ℕ) → i < max_edges → Within (one_more s i)
+within_more Empty i h = h
+within_more (Single j) i h = tt
+within_more Several i h = tt
 
 -- ---- the edges that pass a test, found one by one
 
--- among those before xs: none, or a single one, a
-abbrev pub Seen : (GEdge → Bool) → Bool → Bool → GEdge → List GEdge → List GEdge → Type 0
-Seen q empty single a xs all = (empty ≡ true → keep q xs ≡ keep q all) × (single ≡ true → a ∷ keep q xs ≡ keep q all)
+-- among those before xs: none, a single one, or several
+abbrev pub Seen : (GEdge → Bool) → List (List ℕ) → Side → List GEdge → List GEdge → Type 0
+Seen q rows Empty xs all = keep q xs ≡ keep q all
+Seen q rows (Single i) xs all = row_of (get_or rows i []) ∷ keep q xs ≡ keep q all
+Seen q rows Several xs all = ⊤
 
-module _ (q : GEdge → Bool) (empty single : Bool) (a : GEdge) (all : List GEdge) where
-  module _ (x : GEdge) (xs ys : List GEdge) (e : ys ≡ x ∷ xs) (s : Seen q empty single a ys all) where
+module _ (q : GEdge → Bool) (rows : List (List ℕ)) (all : List GEdge) where
+  module _ (x : GEdge) (xs ys : List GEdge) (e : ys ≡ x ∷ xs) where
     kept : (b : Bool) → q x ≡ b → cond b (x ∷ keep q xs) (keep q xs) ≡ keep q ys
     kept b h = ap (λ (c : Bool). cond c (x ∷ keep q xs) (keep q xs)) (sym h) ∙ ap (λ (l : List GEdge). keep q l) (sym e)
 
-    pub seen_hit : q x ≡ true → Seen q false empty x xs all
-    seen_hit h = (λ k. absurd (false≢true k), λ k. kept true h ∙ s.0 k)
+    pub seen_hit : (s : Side) (i : ℕ) → row_of (get_or rows i []) ≡ x → q x ≡ true → Seen q rows s ys all → Seen q rows (one_more s i) xs all
+    seen_hit Empty i r h s = ap (λ (y : GEdge). y ∷ keep q xs) r ∙ kept true h ∙ s
+    seen_hit (Single j) i r h s = tt
+    seen_hit Several i r h s = tt
 
-    pub seen_miss : q x ≡ false → Seen q empty single a xs all
-    seen_miss h = (λ k. kept false h ∙ s.0 k, λ k. ap (λ (l : List GEdge). a ∷ l) (kept false h) ∙ s.1 k)
+    pub seen_miss : (s : Side) → q x ≡ false → Seen q rows s ys all → Seen q rows s xs all
+    seen_miss Empty h s = kept false h ∙ s
+    seen_miss (Single i) h s = ap (λ (l : List GEdge). row_of (get_or rows i []) ∷ l) (kept false h) ∙ s
+    seen_miss Several h s = tt
 
-    -- one more that is not kept in mind
-    pub seen_lost : Seen q (empty && not (q x)) (single && not (q x)) a xs all
-    seen_lost = (λ k. (seen_miss (not_true (and_r empty (not (q x)) k))).0 (and_l empty (not (q x)) k), λ k. (seen_miss (not_true (and_r single (not (q x)) k))).1 (and_l single (not (q x)) k))
-
-  pub seen_all : (xs : List GEdge) → xs ≡ [] → Seen q empty single a xs all → (empty ≡ true → keep q all ≡ []) × (single ≡ true → keep q all ≡ a ∷ [])
-  seen_all xs e s = (λ k. sym (s.0 k) ∙ ap (λ (l : List GEdge). keep q l) e, λ k. sym (s.1 k) ∙ ap (λ (l : List GEdge). a ∷ keep q l) e)
+  pub seen_all : (s : Side) (xs : List GEdge) → xs ≡ [] → Seen q rows s xs all → Found rows s (keep q all)
+  seen_all Empty xs e s = sym s ∙ ap (λ (l : List GEdge). keep q l) e
+  seen_all (Single i) xs e s = sym s ∙ ap (λ (l : List GEdge). row_of (get_or rows i []) ∷ keep q l) e
+  seen_all Several xs e s = tt
 
 -- ---- at most one way, as the code makes it
 
@@ -86,36 +110,17 @@ fitted e d f = go (leb (length e.path) 8) f
     go true q = ap edge_or q
     go false q = absurd (false≢true (ap is_fit q))
 
-no_ways : (xs : List GEdge) → ways xs [] ≡ []
+pub no_ways : (xs : List GEdge) → ways xs [] ≡ []
 no_ways [] = refl
 no_ways (x ∷ xs) = no_ways xs
 
-pub no_way : (a b : Bool) (xs ys : List GEdge) → (a ≡ true → xs ≡ []) → (b ≡ true → ys ≡ []) → a || b ≡ true → ways xs ys ≡ []
-no_way true b xs ys l r v = ap (λ (o : List GEdge). ways o ys) (l refl)
-no_way false true xs ys l r v = ap (λ (o : List GEdge). ways xs o) (r refl) ∙ no_ways xs
-no_way false false xs ys l r v = absurd (false≢true v)
-
--- x and y are the rows in mind, z the row that is made of them, p and q its ends
-module _ (ss st : Bool) (x y z : GEdge) (xs ys : List GEdge) (h : ss ≡ true → xs ≡ x ∷ []) (k : st ≡ true → ys ≡ y ∷ [])
-    (fit : Bool) (e : cond fit (fits z.edge) (too_long z.edge.offset) ≡ fitting (splice x.edge y.edge)) (zp : z.parent ≡ x.parent) (zc : z.child ≡ y.child)
-    (p q : ℕ) (px : p ≡ x.parent) (qy : q ≡ y.child) where
-  abbrev put : List GEdge
-  put = between z.parent z.edge z.child ∷ []
-
-  pub only_way : (ss && st) && (eqb p q || fit) ≡ true → ways xs ys ≡ cond (not (eqb p q)) put []
-  only_way v =
-      let o = and_l (ss && st) (eqb p q || fit) v in
-      (λ i. ways (h (and_l ss st o) i) (k (and_r ss st o) i))
-      ∙ (λ i. (cond (not (eqb (sym px i) (sym qy i))) (w ∷ []) [] ++ []) ++ [])
-      ∙ way (eqb p q) fit e (and_r (ss && st) (eqb p q || fit) v)
-    where
-      w : GEdge
-      w = between x.parent (splice x.edge y.edge) y.child
-
-      way : (b f : Bool) → cond f (fits z.edge) (too_long z.edge.offset) ≡ fitting (splice x.edge y.edge) → b || f ≡ true → (cond (not b) (w ∷ []) [] ++ []) ++ [] ≡ cond (not b) put []
-      way true f g u = refl
-      way false true g u = let d = fitted (splice x.edge y.edge) z.edge (sym g) in λ i. between (sym zp i) (d i) (sym zc i) ∷ []
-      way false false g u = absurd (false≢true u)
+-- x and y are the two edges, z the row that is made of them, p and q its ends
+module _ (x y z : GEdge) (e : fits z.edge ≡ fitting (splice x.edge y.edge)) (zp : z.parent ≡ x.parent) (zc : z.child ≡ y.child) where
+  pub only_way : eqb x.parent y.child ≡ false → ways (x ∷ []) (y ∷ []) ≡ between z.parent z.edge z.child ∷ []
+  only_way h =
+      let d = fitted (splice x.edge y.edge) z.edge (sym e) in
+      ap (λ (b : Bool). (cond (not b) (between x.parent (splice x.edge y.edge) y.child ∷ []) [] ++ []) ++ []) h
+      ∙ (λ i. between (sym zp i) (d i) (sym zc i) ∷ [])
 
 -- ---- what is spliced is the ways
 
@@ -153,7 +158,7 @@ fewer n f z (x ∷ xs) e = go (eqb n x.parent) (eqb n x.child) e (keep_few (apar
     go false true h k r = omega arith
     go false false h k r = let l : length (keep (apart n) xs) < length xs = r h in omega arith
 
-abbrev answered : Ans Graph → Bool
+abbrev pub answered : Ans Graph → Bool
 answered (ok k) = true
 answered (refuse m) = false
 
@@ -212,9 +217,9 @@ module _ (g : Graph) (n : ℕ) (t : well_formed g && held g n ≡ true) (h : Gra
           omega arith
 
       -- it is not refused, so that nothing of what was left out is asked for again
-      pub release_one : (r : ℕ) (k : Graph) → told r k ≡ added → (told r k ≡ release g n) × ((r ≡ 0 → ⊥) → ⊥)
-      release_one r k u =
+      pub release_one : (o : Ans Graph) → o ≡ added → (o ≡ release g n) × (answered o ≡ true)
+      release_one o u =
           let s = insert_short (set_at p c h.edges) d sh in
           let f : length (set_to p c s.0 h.edges) ≤ suc (length h.edges) = made_length h p c d s.0 s.1 in
           let y = add_fits h p c d s.0 s.1 (omega (arith, f, roomy)) in
-          (u ∙ sym one_way, λ v. false≢true (ap answered (sym (told_no r k v) ∙ u ∙ y)))
+          (u ∙ sym one_way, ap answered (u ∙ y))

@@ -5,245 +5,167 @@
 //   release_through                        its loops over the parents and the children, 233 to 248
 //   splice_pair, splice_each, splice_one   256 `splice_out_intermediate`
 //   without, left_out                      232, 235 and 249 to 252: what has the name is taken away
-ghost use Rattle.std.specs.Prelude.{◌≡◌, true, not, ◌&&◌, List, map, ◌≤◌, ◌<◌, length};
-ghost use Rattle.meaning.specs.Limits.{max_edges, max_set_size};
+ghost use Rattle.std.specs.Prelude.{◌≡◌, true, ◌&&◌, not, List, [], ◌∷◌, map, ◌≤◌, length, IfOk, IfSome};
+ghost use Rattle.meaning.specs.Limits.{max_edges};
 ghost use Rattle.meaning.specs.Lists.{keep};
 ghost use Rattle.meaning.specs.BorrowGraph as G;
 ghost use Rattle.meaning.specs.Laws.Graph.{insert_all};
 ghost use Rattle.meaning.specs.Refinement.Pairs.{across, replace_lim, two_pass};
 ghost use Rattle.meaning.specs.Laws.Pair.{Neat};
 ghost use Rattle.meaning.specs.Refinement.Passes.{apart, splices, splice_set, child_row, splice_pairs};
-ghost use Rattle.references.specs.Models.{row_of, edges_in, set_in};
+ghost use Rattle.references.specs.Models.{row_of, edges_in, set_of};
+ghost use Rattle.vm_status.specs.Models.{answer_of};
 ghost use Rattle.borrow_graph.specs.Models.{graph_in, Tells};
 ghost use Rattle.borrow_graph_edit.specs.Models.{replaced_in, filled_in, Blurs};
 ghost use Rattle.borrow_graph_edit.specs.Edits.{graph_with, Edits};
-ghost use Rattle.borrow_graph_edit.specs.Ways.{entering, leaving, ways, Found, put_of};
+ghost use Rattle.borrow_graph_edit.specs.Ways.{entering, leaving, ways, Within, Found, one_more, put_of};
 
-use crate::blurs::{Blurring, Changed, newly_blurred};
-use crate::edges::add_edge;
-use crate::pairs::{Filled, Replaced, between, replace_set};
+use crate::blurs::{Changed, settled};
+use crate::edges::{add_edge, retain};
+use crate::pairs::{between, passes_limit, replace_set};
 use borrow_graph::graph::BorrowGraph;
 use borrow_graph::refs;
-use meaning::{EDGE_WORDS, MAX_EDGE_SET_SIZE, MAX_EDGES, MAX_NAMES};
+use meaning::{MAX_EDGES, MAX_NAMES};
+use references::rows::{Candidate, Row};
 use references::set::BorrowEdgeSet;
-use references::{RefID, rows, set};
+use references::{RefID, rows};
+use vm_status::Refusal;
 
-// The set with one parent edge spliced with each child edge.
+// The set with one parent edge spliced with each child edge. Refused, what it holds is free.
 fn splice_one(
-    set: &mut [[u32; EDGE_WORDS]; MAX_EDGE_SET_SIZE],
-    s: BorrowEdgeSet,
-    parent: &[u32; EDGE_WORDS],
-    children: &[[u32; EDGE_WORDS]; MAX_EDGE_SET_SIZE],
-    cs: BorrowEdgeSet,
-) -> Filled
-    ensures { length set.old ≡ max_set_size → length children.now ≡ max_set_size → (length set.new ≡ max_set_size) × (filled_in set.new result ≡ insert_all (map (G.splice (row_of parent.now).edge) (set_in children.now cs).edges) (set_in set.old s)) }
+    set: &mut BorrowEdgeSet,
+    parent: &Row,
+    children: &BorrowEdgeSet,
+) -> Result<(), Refusal>
+    ensures { filled_in set.new result ≡ insert_all (map (G.splice (row_of parent.now).edge) (set_of children.now).edges) (set_of set.old) }
 {
-    let n = set::len(cs);
-    let mut t = s;
-    let mut i: usize = 0;
-    while i < n {
-        let c = rows::splice(parent, &children[i]);
-        let r = set::insert(set, t, c);
-        if r.refusal == 0 {
-            let u = r.set;
-            t = u;
-            i += 1;
-        } else {
-            return Filled {
-                refusal: r.refusal,
-                set: t,
-            };
-        }
+    for y in children.rows() {
+        set.insert(rows::splice(parent, y))?;
     }
-    Filled { refusal: 0, set: t }
+    Ok(())
 }
 
-// The set with each parent edge spliced with each child edge.
+// The set with each parent edge spliced with each child edge. Refused, what it holds is free.
 fn splice_each(
-    set: &mut [[u32; EDGE_WORDS]; MAX_EDGE_SET_SIZE],
-    s: BorrowEdgeSet,
-    parents: &[[u32; EDGE_WORDS]; MAX_EDGE_SET_SIZE],
-    ps: BorrowEdgeSet,
-    children: &[[u32; EDGE_WORDS]; MAX_EDGE_SET_SIZE],
-    cs: BorrowEdgeSet,
-) -> Filled
-    ensures { length set.old ≡ max_set_size → length parents.now ≡ max_set_size → length children.now ≡ max_set_size → (length set.new ≡ max_set_size) × (filled_in set.new result ≡ insert_all (splices (set_in parents.now ps).edges (set_in children.now cs).edges) (set_in set.old s)) }
+    set: &mut BorrowEdgeSet,
+    parents: &BorrowEdgeSet,
+    children: &BorrowEdgeSet,
+) -> Result<(), Refusal>
+    ensures { filled_in set.new result ≡ insert_all (splices (set_of parents.now).edges (set_of children.now).edges) (set_of set.old) }
 {
-    let n = set::len(ps);
-    let mut t = s;
-    let mut i: usize = 0;
-    while i < n {
-        let r = splice_one(set, t, &parents[i], children, cs);
-        if r.refusal == 0 {
-            let u = r.set;
-            t = u;
-            i += 1;
-        } else {
-            return r;
-        }
+    for x in parents.rows() {
+        splice_one(set, x, children)?;
     }
-    Filled { refusal: 0, set: t }
+    Ok(())
 }
 
-// A pair's set with the ways through `id`, made in `set`.
+// A pair's set with the ways through `id`.
 fn spliced(
-    set: &mut [[u32; EDGE_WORDS]; MAX_EDGE_SET_SIZE],
-    edges: &[[u32; EDGE_WORDS]; MAX_EDGES],
+    edges: &[Row; MAX_EDGES],
     m: usize,
     parent: RefID,
     id: RefID,
     child: RefID,
-) -> Filled
+) -> Result<BorrowEdgeSet, Refusal>
     requires { m ≤ max_edges }
-    ensures { length set.old ≡ max_set_size → length edges.now ≡ max_edges → Neat (edges_in edges.now m) → (length set.new ≡ max_set_size) × (filled_in set.new result ≡ splice_set (edges_in edges.now m) id.0 parent.0 child.0) }
+    ensures { length edges.now ≡ max_edges → Neat (edges_in edges.now m) → answer_of set_of result ≡ splice_set (edges_in edges.now m) id.0 parent.0 child.0 }
 {
-    let mut parents = [[0u32; EDGE_WORDS]; MAX_EDGE_SET_SIZE];
-    let mut children = [[0u32; EDGE_WORDS]; MAX_EDGE_SET_SIZE];
-    let a = between(edges, m, parent, id, &mut parents);
-    let b = between(edges, m, id, child, &mut children);
-    let c = between(edges, m, parent, child, set);
-    let ps = a.set;
-    let cs = b.set;
-    let s = c.set;
-    splice_each(set, s, &parents, ps, &children, cs)
+    let parents = between(edges, m, parent, id);
+    let children = between(edges, m, id, child);
+    let mut pair = between(edges, m, parent, child);
+    splice_each(&mut pair.set, &parents.set, &children.set)?;
+    Ok(pair.set)
 }
 
 // No way leads from a name to itself.
 fn splice_pair(
-    edges: &mut [[u32; EDGE_WORDS]; MAX_EDGES],
+    edges: &mut [Row; MAX_EDGES],
     k: usize,
-    old: &[[u32; EDGE_WORDS]; MAX_EDGES],
+    old: &[Row; MAX_EDGES],
     m: usize,
     parent: RefID,
     id: RefID,
     child: RefID,
     shrinking: bool,
-) -> Replaced
+) -> Result<usize, Refusal>
     requires { (k ≤ max_edges) × (m ≤ max_edges) }
-    ensures { (result.edges ≤ max_edges) × (length edges.old ≡ max_edges → length old.now ≡ max_edges → Neat (edges_in edges.old k) → Neat (edges_in old.now m) → (length edges.new ≡ max_edges) × (replaced_in edges.new result ≡ replace_lim shrinking (splice_set (edges_in old.now m) id.0) (across (record { parent = parent.0; child = id.0 }) (record { parent = id.0; child = child.0 })) (edges_in edges.old k))) }
+    ensures { IfOk result (λ n. n ≤ max_edges) × (length edges.old ≡ max_edges → length old.now ≡ max_edges → Neat (edges_in edges.old k) → Neat (edges_in old.now m) → (length edges.new ≡ max_edges) × (replaced_in edges.new result ≡ replace_lim shrinking (splice_set (edges_in old.now m) id.0) (across (record { parent = parent.0; child = id.0 }) (record { parent = id.0; child = child.0 })) (edges_in edges.old k))) }
 {
-    if parent.0 == child.0 {
-        return Replaced {
-            refusal: 0,
-            edges: k,
-        };
+    if parent == child {
+        return Ok(k);
     }
-    let mut set = [[0u32; EDGE_WORDS]; MAX_EDGE_SET_SIZE];
-    let s = spliced(&mut set, old, m, parent, id, child);
-    replace_set(edges, k, parent, child, &set, s, shrinking)
+    let set = spliced(old, m, parent, id, child)?;
+    replace_set(edges, k, parent, child, &set, shrinking)
 }
 
-// One parent with each child.
+// One parent with each child. (`splice_rows` is alike; a closure for what is called would need clauses longer than both.)
 fn splice_row(
-    edges: &mut [[u32; EDGE_WORDS]; MAX_EDGES],
+    edges: &mut [Row; MAX_EDGES],
     k: usize,
-    old: &[[u32; EDGE_WORDS]; MAX_EDGES],
+    old: &[Row; MAX_EDGES],
     m: usize,
     parent: RefID,
     id: RefID,
     shrinking: bool,
-) -> Replaced
+) -> Result<usize, Refusal>
     requires { (k ≤ max_edges) × (m ≤ max_edges) }
-    ensures { (result.edges ≤ max_edges) × (length edges.old ≡ max_edges → length old.now ≡ max_edges → Neat (edges_in edges.old k) → Neat (edges_in old.now m) → (length edges.new ≡ max_edges) × (replaced_in edges.new result ≡ replace_lim shrinking (splice_set (edges_in old.now m) id.0) (child_row (edges_in old.now m) id.0 (record { parent = parent.0; child = id.0 })) (edges_in edges.old k))) }
+    ensures { IfOk result (λ n. n ≤ max_edges) × (length edges.old ≡ max_edges → length old.now ≡ max_edges → Neat (edges_in edges.old k) → Neat (edges_in old.now m) → (length edges.new ≡ max_edges) × (replaced_in edges.new result ≡ replace_lim shrinking (splice_set (edges_in old.now m) id.0) (child_row (edges_in old.now m) id.0 (record { parent = parent.0; child = id.0 })) (edges_in edges.old k))) }
 {
     let mut n = k;
     let mut last = id;
-    let mut i: usize = 0;
-    while i < m {
-        let p = rows::parent(&old[i]);
-        let c = rows::child(&old[i]);
-        if (id.0 == p.0) & !(last.0 == c.0) {
-            let r = splice_pair(edges, n, old, m, parent, id, c, shrinking);
-            if r.refusal == 0 {
-                n = r.edges;
-                last = c;
-                i += 1;
-            } else {
-                return r;
-            }
-        } else {
-            i += 1;
+    for x in &old[..m] {
+        let p = rows::parent(x);
+        let c = rows::child(x);
+        if (id == p) & !(last == c) {
+            n = splice_pair(edges, n, old, m, parent, id, c, shrinking)?;
+            last = c;
         }
     }
-    Replaced {
-        refusal: 0,
-        edges: n,
-    }
+    Ok(n)
 }
 
 // Each parent with each child.
 fn splice_rows(
-    edges: &mut [[u32; EDGE_WORDS]; MAX_EDGES],
+    edges: &mut [Row; MAX_EDGES],
     k: usize,
-    old: &[[u32; EDGE_WORDS]; MAX_EDGES],
+    old: &[Row; MAX_EDGES],
     m: usize,
     id: RefID,
     shrinking: bool,
-) -> Replaced
+) -> Result<usize, Refusal>
     requires { (k ≤ max_edges) × (m ≤ max_edges) }
-    ensures { (result.edges ≤ max_edges) × (length edges.old ≡ max_edges → length old.now ≡ max_edges → Neat (edges_in edges.old k) → Neat (edges_in old.now m) → (length edges.new ≡ max_edges) × (replaced_in edges.new result ≡ replace_lim shrinking (splice_set (edges_in old.now m) id.0) (splice_pairs (edges_in old.now m) id.0) (edges_in edges.old k))) }
+    ensures { IfOk result (λ n. n ≤ max_edges) × (length edges.old ≡ max_edges → length old.now ≡ max_edges → Neat (edges_in edges.old k) → Neat (edges_in old.now m) → (length edges.new ≡ max_edges) × (replaced_in edges.new result ≡ replace_lim shrinking (splice_set (edges_in old.now m) id.0) (splice_pairs (edges_in old.now m) id.0) (edges_in edges.old k))) }
 {
     let mut n = k;
     let mut last = id;
-    let mut i: usize = 0;
-    while i < m {
-        let p = rows::parent(&old[i]);
-        let c = rows::child(&old[i]);
-        if (id.0 == c.0) & !(last.0 == p.0) {
-            let r = splice_row(edges, n, old, m, p, id, shrinking);
-            if r.refusal == 0 {
-                n = r.edges;
-                last = p;
-                i += 1;
-            } else {
-                return r;
-            }
-        } else {
-            i += 1;
+    for x in &old[..m] {
+        let p = rows::parent(x);
+        let c = rows::child(x);
+        if (id == c) & !(last == p) {
+            n = splice_row(edges, n, old, m, p, id, shrinking)?;
+            last = p;
         }
     }
-    Replaced {
-        refusal: 0,
-        edges: n,
-    }
+    Ok(n)
 }
 
 // Whether a row's edge touches a name.
-fn touches(x: &[u32; EDGE_WORDS], id: RefID) -> bool
+fn touches(x: &Row, id: RefID) -> bool
     ensures { not result ≡ apart id.0 (row_of x.now) }
 {
-    let p = rows::parent(x);
-    let c = rows::child(x);
-    (id.0 == p.0) | (id.0 == c.0)
+    (id == rows::parent(x)) | (id == rows::child(x))
 }
 
 // The rows that touch a name are left out.
-fn left_out(edges: &mut [[u32; EDGE_WORDS]; MAX_EDGES], m: usize, id: RefID) -> usize
+fn left_out(edges: &mut [Row; MAX_EDGES], m: usize, id: RefID) -> usize
     requires { m ≤ max_edges }
     ensures { (result ≤ max_edges) × (length edges.old ≡ max_edges → (length edges.new ≡ max_edges) × (edges_in edges.new result ≡ keep (apart id.0) (edges_in edges.old m))) }
 {
-    let mut j: usize = 0;
-    let mut i: usize = 0;
-    while i < m {
-        if touches(&edges[i], id) {
-            i += 1;
-        } else {
-            let x = edges[i];
-            edges[j] = x;
-            j += 1;
-            i += 1;
-        }
-    }
-    j
+    retain(edges, m, |x| !touches(x, id))
 }
 
 // The rows of `old` that do not touch a name.
-fn without(
-    edges: &mut [[u32; EDGE_WORDS]; MAX_EDGES],
-    old: &[[u32; EDGE_WORDS]; MAX_EDGES],
-    m: usize,
-    id: RefID,
-) -> usize
+fn without(edges: &mut [Row; MAX_EDGES], old: &[Row; MAX_EDGES], m: usize, id: RefID) -> usize
     requires { m ≤ max_edges }
     ensures { (result ≤ max_edges) × (length edges.old ≡ max_edges → length old.now ≡ max_edges → (length edges.new ≡ max_edges) × (edges_in edges.new result ≡ keep (apart id.0) (edges_in old.now m))) }
 {
@@ -253,55 +175,40 @@ fn without(
 
 // Where 96 is passed on the way, again: first what makes the list shorter, then all.
 fn splice_all(
-    edges: &mut [[u32; EDGE_WORDS]; MAX_EDGES],
-    old: &[[u32; EDGE_WORDS]; MAX_EDGES],
+    edges: &mut [Row; MAX_EDGES],
+    old: &[Row; MAX_EDGES],
     m: usize,
     id: RefID,
-) -> Replaced
+) -> Result<usize, Refusal>
     requires { m ≤ max_edges }
-    ensures { (result.edges ≤ max_edges) × (length edges.old ≡ max_edges → length old.now ≡ max_edges → Neat (keep (apart id.0) (edges_in old.now m)) → Neat (edges_in old.now m) → (length edges.new ≡ max_edges) × (replaced_in edges.new result ≡ two_pass (splice_set (edges_in old.now m) id.0) (splice_pairs (edges_in old.now m) id.0) (keep (apart id.0) (edges_in old.now m)))) }
+    ensures { IfOk result (λ n. n ≤ max_edges) × (length edges.old ≡ max_edges → length old.now ≡ max_edges → Neat (keep (apart id.0) (edges_in old.now m)) → Neat (edges_in old.now m) → (length edges.new ≡ max_edges) × (replaced_in edges.new result ≡ two_pass (splice_set (edges_in old.now m) id.0) (splice_pairs (edges_in old.now m) id.0) (keep (apart id.0) (edges_in old.now m)))) }
 {
     let k = without(edges, old, m, id);
-    let a = splice_rows(edges, k, old, m, id, false);
-    if a.refusal == 21 {
-        let n = without(edges, old, m, id);
-        let b = splice_rows(edges, n, old, m, id, true);
-        if b.refusal == 0 {
-            return splice_rows(edges, b.edges, old, m, id, false);
-        }
-        return b;
+    let r = splice_rows(edges, k, old, m, id, false);
+    if !passes_limit(r) {
+        return r;
     }
-    a
+    let k = without(edges, old, m, id);
+    let n = splice_rows(edges, k, old, m, id, true)?;
+    splice_rows(edges, n, old, m, id, false)
 }
 
 // A release with ways through the name.
-fn release_through(edges: &mut [[u32; EDGE_WORDS]; MAX_EDGES], m: usize, id: RefID) -> Changed
+fn release_through(edges: &mut [Row; MAX_EDGES], m: usize, id: RefID) -> Result<Changed, Refusal>
     requires { m ≤ max_edges }
-    ensures { (result.edges ≤ max_edges) × (length edges.old ≡ max_edges → (ns : List G.Name) → G.well_formed (graph_with ns (edges_in edges.old m)) && G.holds ns id.0 ≡ true → Edits (G.release (graph_with ns (edges_in edges.old m)) id.0) (keep (G.other id.0) ns) edges.old m edges.new result) }
+    ensures { IfOk result (λ c. c.edges ≤ max_edges) × (length edges.old ≡ max_edges → (ns : List G.Name) → G.well_formed (graph_with ns (edges_in edges.old m)) && G.holds ns id.0 ≡ true → Edits (G.release (graph_with ns (edges_in edges.old m)) id.0) (keep (G.other id.0) ns) edges.old m edges.new result) }
 {
     let old = *edges;
     let r = splice_all(edges, &old, m, id);
-    if r.refusal == 0 {
-        return Changed {
-            refusal: 0,
-            edges: r.edges,
-            blurred: newly_blurred(&old, m, edges, r.edges),
-        };
-    }
-    *edges = old;
-    Changed {
-        refusal: r.refusal,
-        edges: m,
-        blurred: 0,
-    }
+    settled(edges, &old, m, r)
 }
 
-// The edges on one side of a name: none, a single one in the row `at`, or several.
+// The edges on one side of a name: none, a single one in this row, or several.
 #[derive(Clone, Copy)]
-pub(crate) struct Side {
-    pub empty: bool,
-    pub single: bool,
-    pub at: usize,
+pub(crate) enum Side {
+    Empty,
+    Single(usize),
+    Several,
 }
 
 // The edges to a name, and from it.
@@ -311,152 +218,114 @@ pub(crate) struct Touching {
     pub from: Side,
 }
 
-// What a release puts in, one row or nothing, where it is `known` without the passes; else the other fields are free. Where it is
-// nothing, so is the row.
-#[derive(Clone, Copy)]
-pub(crate) struct OneWay {
-    pub known: bool,
-    pub one: bool,
-    pub row: [u32; EDGE_WORDS],
+// One more edge on a side, in row i.
+fn one_more(s: Side, i: usize) -> Side
+    ensures { result ≡ one_more s i }
+{
+    match s {
+        Side::Empty => Side::Single(i),
+        Side::Single(_) => Side::Several,
+        Side::Several => Side::Several,
+    }
 }
 
 // An edge from the name to itself counts as several from it.
-fn touching_edges(edges: &[[u32; EDGE_WORDS]; MAX_EDGES], m: usize, id: RefID) -> Touching
+fn touching_edges(edges: &[Row; MAX_EDGES], m: usize, id: RefID) -> Touching
     requires { m ≤ max_edges }
-    ensures { (result.to.at < max_edges) × (result.from.at < max_edges) × (length edges.now ≡ max_edges → Found edges.now result.to (keep (entering id.0) (edges_in edges.now m)) × Found edges.now result.from (keep (leaving id.0) (edges_in edges.now m))) }
+    ensures { Within result.to × Within result.from × (length edges.now ≡ max_edges → Found edges.now result.to (keep (entering id.0) (edges_in edges.now m)) × Found edges.now result.from (keep (leaving id.0) (edges_in edges.now m))) }
 {
-    let mut to = Side {
-        empty: true,
-        single: false,
-        at: 0,
-    };
-    let mut from = to;
-    let mut i: usize = 0;
-    while i < m {
-        let p = rows::parent(&edges[i]);
-        let c = rows::child(&edges[i]);
-        let out = id.0 == p.0;
-        if id.0 == c.0 {
-            to.single = to.empty;
-            to.empty = false;
-            to.at = i;
-            from.empty = from.empty & !out;
-            from.single = from.single & !out;
-            i += 1;
+    let mut to = Side::Empty;
+    let mut from = Side::Empty;
+    for i in 0..m {
+        let out = id == rows::parent(&edges[i]);
+        if id == rows::child(&edges[i]) {
+            to = one_more(to, i);
+            if out {
+                from = Side::Several;
+            }
         } else {
             if out {
-                from.single = from.empty;
-                from.empty = false;
-                from.at = i;
-                i += 1;
-            } else {
-                i += 1;
+                from = one_more(from, i);
             }
         }
     }
-    Touching { to: to, from: from }
+    Touching { to, from }
 }
 
-// Nothing where a side is empty, or where the way would lead from a name to itself.
-fn one_way(edges: &[[u32; EDGE_WORDS]; MAX_EDGES], t: Touching) -> OneWay
-    requires { (t.to.at < max_edges) × (t.from.at < max_edges) }
-    ensures { result.known ≡ true → (xs ys : List G.GEdge) → Found edges.now t.to xs → Found edges.now t.from ys → ways xs ys ≡ put_of result }
+// What an edge to a name and one from it put in: a row, or nothing where the way would lead from a name to itself; `None` where its path is
+// too long.
+fn one_way(x: &Row, y: &Row) -> Option<Option<Row>>
+    ensures { IfSome result (λ b. ways (row_of x.now ∷ []) (row_of y.now ∷ []) ≡ put_of b) }
 {
-    let to = t.to;
-    let from = t.from;
-    if to.empty | from.empty {
-        return OneWay {
-            known: true,
-            one: false,
-            row: [0u32; EDGE_WORDS],
-        };
+    if rows::parent(x) == rows::child(y) {
+        return Some(None);
     }
-    let i = to.at;
-    let j = from.at;
-    let x = edges[i];
-    let y = edges[j];
-    let c = rows::splice(&x, &y);
-    let p = rows::parent(&x);
-    let q = rows::child(&y);
-    let row = c.row;
-    let cycle = p.0 == q.0;
-    OneWay {
-        known: to.single & from.single & (cycle | c.fits),
-        one: !cycle,
-        row: row,
+    match rows::splice(x, y) {
+        Candidate::Fits(row) => Some(Some(row)),
+        Candidate::TooLong(_) => None,
+    }
+}
+
+// What a release puts in, where the passes are not needed to know it: nothing where a side is empty, else the way of two single edges.
+fn put_in(edges: &[Row; MAX_EDGES], t: Touching) -> Option<Option<Row>>
+    requires { Within t.to × Within t.from }
+    ensures { IfSome result (λ b. (xs ys : List G.GEdge) → Found edges.now t.to xs → Found edges.now t.from ys → ways xs ys ≡ put_of b) }
+{
+    match (t.to, t.from) {
+        (Side::Empty, _) => Some(None),
+        (_, Side::Empty) => Some(None),
+        (Side::Single(i), Side::Single(j)) => one_way(&edges[i], &edges[j]),
+        _ => None,
     }
 }
 
 // A release where at most one way leads through the name: its rows are left out and that way is put in, which needs no passes and is
 // never refused.
 fn splice_one_way(
-    edges: &mut [[u32; EDGE_WORDS]; MAX_EDGES],
+    edges: &mut [Row; MAX_EDGES],
     m: usize,
     id: RefID,
-    b: OneWay,
-) -> Changed
+    b: Option<Row>,
+) -> Result<Changed, Refusal>
     requires { m ≤ max_edges }
-    ensures { (result.edges ≤ max_edges) × (length edges.old ≡ max_edges → (ns : List G.Name) → G.well_formed (graph_with ns (edges_in edges.old m)) && G.holds ns id.0 ≡ true → ways (keep (entering id.0) (edges_in edges.old m)) (keep (leaving id.0) (edges_in edges.old m)) ≡ put_of b → Edits (G.release (graph_with ns (edges_in edges.old m)) id.0) (keep (G.other id.0) ns) edges.old m edges.new result) }
+    ensures { IfOk result (λ c. c.edges ≤ max_edges) × (length edges.old ≡ max_edges → (ns : List G.Name) → G.well_formed (graph_with ns (edges_in edges.old m)) && G.holds ns id.0 ≡ true → ways (keep (entering id.0) (edges_in edges.old m)) (keep (leaving id.0) (edges_in edges.old m)) ≡ put_of b → Edits (G.release (graph_with ns (edges_in edges.old m)) id.0) (keep (G.other id.0) ns) edges.old m edges.new result) }
 {
     let k = left_out(edges, m, id);
-    if b.one {
-        let x = b.row;
-        return add_edge(edges, k, x);
-    }
-    Changed {
-        refusal: 0,
-        edges: k,
-        blurred: 0,
+    match b {
+        Some(x) => add_edge(edges, k, x),
+        None => Ok(Changed {
+            edges: k,
+            blurred: 0,
+        }),
     }
 }
 
 // 22 for a path of more than eight labels, then 21 for more than 96 edges in the end.
-fn release_edges(edges: &mut [[u32; EDGE_WORDS]; MAX_EDGES], m: usize, id: RefID) -> Changed
+fn release_edges(edges: &mut [Row; MAX_EDGES], m: usize, id: RefID) -> Result<Changed, Refusal>
     requires { m ≤ max_edges }
-    ensures { (result.edges ≤ max_edges) × (length edges.old ≡ max_edges → (ns : List G.Name) → G.well_formed (graph_with ns (edges_in edges.old m)) && G.holds ns id.0 ≡ true → Edits (G.release (graph_with ns (edges_in edges.old m)) id.0) (keep (G.other id.0) ns) edges.old m edges.new result) }
+    ensures { IfOk result (λ c. c.edges ≤ max_edges) × (length edges.old ≡ max_edges → (ns : List G.Name) → G.well_formed (graph_with ns (edges_in edges.old m)) && G.holds ns id.0 ≡ true → Edits (G.release (graph_with ns (edges_in edges.old m)) id.0) (keep (G.other id.0) ns) edges.old m edges.new result) }
 {
     let t = touching_edges(edges, m, id);
-    let b = one_way(edges, t);
-    if b.known {
-        return splice_one_way(edges, m, id, b);
+    match put_in(edges, t) {
+        Some(b) => splice_one_way(edges, m, id, b),
+        None => release_through(edges, m, id),
     }
-    release_through(edges, m, id)
 }
 
-// 9 where the name is not held.
+// How many sets are blurred by it; refused, all is as it was. 9 where the name is not held.
 pub fn release(
     names: &mut [u32; MAX_NAMES],
-    edges: &mut [[u32; EDGE_WORDS]; MAX_EDGES],
-    g: BorrowGraph,
+    edges: &mut [Row; MAX_EDGES],
+    g: &mut BorrowGraph,
     id: RefID,
-) -> Blurring
-    ensures { Tells names.old edges.old g → Blurs (G.release (graph_in names.old edges.old g) id.0) names.old edges.old g names.new edges.new result }
+) -> Result<u8, Refusal>
+    ensures { Tells names.old edges.old g.old → Blurs (G.release (graph_in names.old edges.old g.old) id.0) names.old edges.old g.old names.new edges.new g.new result }
 {
-    let m = g.edges;
-    let h = refs::holds(names, g.refs, id);
-    if g.formed & h & (m <= MAX_EDGES) {
-        let r = release_edges(edges, m, id);
-        if r.refusal == 0 {
-            let n = refs::without(names, g.refs, id);
-            return Blurring {
-                refusal: 0,
-                graph: BorrowGraph {
-                    refs: n,
-                    edges: r.edges,
-                    formed: true,
-                },
-                blurred: r.blurred,
-            };
-        }
-        return Blurring {
-            refusal: r.refusal,
-            graph: g,
-            blurred: 0,
-        };
+    if !(g.formed & refs::holds(names, g.refs, id) & (g.edges <= MAX_EDGES)) {
+        return Err(Refusal::IllFormed);
     }
-    Blurring {
-        refusal: 9,
-        graph: g,
-        blurred: 0,
-    }
+    let c = release_edges(edges, g.edges, id)?;
+    g.edges = c.edges;
+    g.refs = refs::without(names, g.refs, id);
+    Ok(c.blurred)
 }

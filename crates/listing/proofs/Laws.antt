@@ -6,65 +6,33 @@ use mathlib.Core.List.{List, [], ◌∷◌, map}
 use Prim.Native.Nat.{ℕ, zero, suc, ◌+◌, ◌-◌, ◌≤◌, ◌<◌}
 use native.Mathlib.Numerals.{add-one}
 use native.Mathlib.Omega.{arith}
-use lib.ListN.{length, take, drop, get_or, length-take, length-drop}
-use lib.Seq.{get_or-take, take-take, take-nil, length-take-le}
+use lib.ListN.{length, take, drop, get_or, length-take, length-drop, get_or-map}
+use Rattle.std.proofs.lemmas.List.{take-map}
+use Rattle.std.proofs.Common.{rules, tests, is_lt, nat_cmp}
+use lib.Seq.{get_or-take, take-nil, length-take-le}
 use lib.Dec.{leb, ltb, eqb, eqb-suc-zero}
-use borrow.Author.Tests.{lt-ltb, le-ltb, eq-eqb, ne_eqb}
+use borrow.Author.Tests.{eq-eqb, ne_eqb}
 use Rattle.meaning.specs.Lists.{any, empty, up_to}
 use Rattle.meaning.proofs.Laws.Base.{decide, eqb_eq, or_false}
-use Rattle.meaning.specs.Loop.{no_block}
 use Rattle.meaning.specs.Loop as M
 use Rattle.meaning.specs.Steps as I
 use Rattle.meaning.specs.Steps.{is_ret}
 use Rattle.meaning.specs.Listing as D
 use Rattle.meaning.proofs.Laws.Listing.{Rows, by_row, up_to_length}
-use Rattle.meaning.proofs.Laws.Search.{search_at, search_end, array_at, array_end}
+use Rattle.meaning.proofs.Laws.Search.{search_at, search_end}
 use Rattle.listing.specs.declared.Block.{Block}
-use Rattle.listing.specs.Models.{block_of, blocks_in, faulty_successors}
+use Rattle.listing.specs.Models.{block_of, faulty_successors}
 use Rattle.listing_records.specs.Models.{before_ret}
 use Rattle.listing_records.specs.ModelLaws.{ret_before, ret_within}
-use Rattle.listing_records.proofs.Lists.{or_true, map_take, counted, element, within_list}
+use Rattle.listing_records.proofs.Lists.{or_true, within_list}
 
 -- ---- the blocks of an array
 
 abbrev pub none_block : Block
 none_block = record { entry = record { 0 = 0 }; exit = record { 0 = 0 }; count = 0; first = record { 0 = 0 }; second = record { 0 = 0 } }
 
-module _ (bs : List Block) (n : ℕ) (full : length bs ≡ 16) (few : n ≤ 16) where
-  fits : n ≤ length bs
-  fits = omega arith
-
-  pub block_count : length (blocks_in bs n) ≡ n
-  unfolding blocks_in
-  block_count = counted block_of bs n fits
-
-  pub block_here : (i : ℕ) → i < n → get_or (blocks_in bs n) i no_block ≡ block_of (get_or bs i none_block)
-  unfolding blocks_in
-  block_here i h = element block_of bs n fits none_block i h
-
-  pub block_part : (i : ℕ) → i ≤ n → take i (blocks_in bs n) ≡ blocks_in bs i
-  unfolding blocks_in
-  block_part i h = sym (map_take block_of i (take n bs)) ∙ ap (map block_of) (take-take i n bs h)
-
-  -- a search through them
-  module _ {R : Type 0} (P : List M.Block → R) (i : ℕ) (r : R) (left : P (drop i (blocks_in bs n)) ≡ r) where
-    pub block_at_lem : i < n → P (block_of (get_or bs i none_block) ∷ drop (i + 1) (blocks_in bs n)) ≡ r
-    unfolding blocks_in
-    block_at_lem h = array_at block_of P bs n fits i r left none_block h
-
-    pub block_end : n ≤ i → P [] ≡ r
-    unfolding blocks_in
-    block_end h = array_end block_of P bs n fits i r left h
-
-  module _ (p : M.Block → Bool) (r : Bool) (i : ℕ) where
-    pub found : i < n → any p (drop i (blocks_in bs n)) ≡ r → p (block_of (get_or bs i none_block)) ≡ true → true ≡ r
-    found h e q = rw q at (block_at_lem (any p) i r e h)
-
-    pub passed : i < n → any p (drop i (blocks_in bs n)) ≡ r → p (block_of (get_or bs i none_block)) ≡ false → any p (drop (i + 1) (blocks_in bs n)) ≡ r
-    passed h e q = rw q at (block_at_lem (any p) i r e h)
-
-    pub missed : n ≤ i → any p (drop i (blocks_in bs n)) ≡ r → false ≡ r
-    missed h e = block_end (any p) i r e h
+pub lt_is : (a b : ℕ) → is_lt (nat_cmp a b) ≡ ltb a b
+lt_is a b = search (rules, tests)
 
 pub no_successor : (n a b : ℕ) → empty (take n (a ∷ b ∷ [])) ≡ eqb n 0
 no_successor zero a b = refl
@@ -114,50 +82,47 @@ module _ (xs : List M.Block) (i e : ℕ) (b : M.Block) where
   pub succ_none : D.entry_in xs e ≡ false → true ≡ D.faulty_successor xs i b e
   succ_none h = rw h
 
-  pub succ_back : D.entry_in xs e ≡ true → e ≤ b.entry → false ≡ D.faulty_successor xs i b e
-  succ_back h g = rw (h, le-ltb b.entry e g)
-
-  pub succ_forth : D.entry_in xs e ≡ true → b.entry < e → not (D.entry_in (drop (i + 1) xs) e) ≡ D.faulty_successor xs i b e
-  succ_forth h g = rw (h, lt-ltb b.entry e g)
+  pub succ_forth : D.entry_in xs e ≡ true → ltb b.entry e ≡ true → not (D.entry_in (drop (i + 1) xs) e) ≡ D.faulty_successor xs i b e
+  succ_forth h g = rw (h, g)
 
 -- none, one or two successors under a test
 module _ (F : ℕ → Bool) (a c : ℕ) where
-  abbrev tests : List ℕ → Bool
-  tests es = D.repeats es || any F es
+  abbrev given : List ℕ → Bool
+  given es = D.repeats es || any F es
 
-  pub succ_0 : (n : ℕ) → n ≡ 0 → false ≡ tests (take n (a ∷ c ∷ []))
+  pub succ_0 : (n : ℕ) → n ≡ 0 → false ≡ given (take n (a ∷ c ∷ []))
   unfolding D.repeats
   succ_0 n h = rw h
 
-  pub succ_first : (n : ℕ) → (n ≡ 0 → ⊥) → F a ≡ true → true ≡ tests (take n (a ∷ c ∷ []))
+  pub succ_first : (n : ℕ) → (n ≡ 0 → ⊥) → F a ≡ true → true ≡ given (take n (a ∷ c ∷ []))
   unfolding D.repeats
   succ_first zero h q = absurd (h refl)
   succ_first (suc n) h q = rw (q, or_true)
 
-  pub succ_1 : (n : ℕ) → n ≡ 1 → F a ≡ false → false ≡ tests (take n (a ∷ c ∷ []))
+  pub succ_1 : (n : ℕ) → n ≡ 1 → F a ≡ false → false ≡ given (take n (a ∷ c ∷ []))
   unfolding D.repeats
   succ_1 n h q = rw (h, q)
 
-  pub succ_same : (n : ℕ) → (n ≡ 0 → ⊥) → (n ≡ 1 → ⊥) → a ≡ c → true ≡ tests (take n (a ∷ c ∷ []))
+  pub succ_same : (n : ℕ) → (n ≡ 0 → ⊥) → (n ≡ 1 → ⊥) → a ≡ c → true ≡ given (take n (a ∷ c ∷ []))
   unfolding D.repeats
   succ_same zero h g e = absurd (h refl)
   succ_same (suc zero) h g e = absurd (g refl)
-  succ_same (suc (suc n)) h g e = subst (λ (l : List ℕ). true ≡ tests (a ∷ c ∷ l)) (sym (take-nil n)) (rw (eq-eqb a c e))
+  succ_same (suc (suc n)) h g e = subst (λ (l : List ℕ). true ≡ given (a ∷ c ∷ l)) (sym (take-nil n)) (rw (eq-eqb a c e))
 
-  pub succ_second : (n : ℕ) → (n ≡ 0 → ⊥) → (n ≡ 1 → ⊥) → (a ≡ c → ⊥) → F a ≡ false → F c ≡ tests (take n (a ∷ c ∷ []))
+  pub succ_second : (n : ℕ) → (n ≡ 0 → ⊥) → (n ≡ 1 → ⊥) → (a ≡ c → ⊥) → F a ≡ false → F c ≡ given (take n (a ∷ c ∷ []))
   unfolding D.repeats
   succ_second zero h g e q = absurd (h refl)
   succ_second (suc zero) h g e q = absurd (g refl)
-  succ_second (suc (suc n)) h g e q = subst (λ (l : List ℕ). F c ≡ tests (a ∷ c ∷ l)) (sym (take-nil n)) (rw (ne_eqb a c e, q) (sym (or_false (F c))))
+  succ_second (suc (suc n)) h g e q = subst (λ (l : List ℕ). F c ≡ given (a ∷ c ∷ l)) (sym (take-nil n)) (rw (ne_eqb a c e, q) (sym (or_false (F c))))
 
-module _ (bs : List Block) (n : ℕ) (full : length bs ≡ 16) (few : n ≤ 16) (i : ℕ) (here : i < n) (m : ℕ) where
+module _ (bs : List Block) (i m : ℕ) where
   abbrev this : M.Block
   this = block_of (get_or bs i none_block)
 
-  pub faulty_eq : D.faulty_block m (blocks_in bs n) i
-      ≡ (eqb i 0 && not (eqb this.entry 0)) || (ltb this.exit this.entry || (leb m this.exit || (any (D.overlap this) (blocks_in bs i) || faulty_successors (blocks_in bs n) i this)))
+  pub faulty_eq : D.faulty_block m (map block_of bs) i
+      ≡ (eqb i 0 && not (eqb this.entry 0)) || (ltb this.exit this.entry || (leb m this.exit || (any (D.overlap this) (map block_of (take i bs)) || faulty_successors (map block_of bs) i this)))
   unfolding D.faulty_block
-  faulty_eq = let w : i ≤ n = omega arith in rw (block_here bs n full few i here, block_part bs n full few i w)
+  faulty_eq = rw (get_or-map block_of bs i none_block, take-map block_of i bs)
 
 -- the row of kind 23 is a Ret, and no other
 ret_rows : (k : ℕ) (b : List ℕ) → Rows (λ i. is_ret i ≡ eqb k 23) k (D.instructions b)

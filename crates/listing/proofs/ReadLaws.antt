@@ -5,8 +5,8 @@ use mathlib.Core.Bool.{Bool, true}
 use mathlib.Core.List.{List, [], ◌∷◌, map}
 use Prim.Native.Nat.{ℕ, zero, suc, ◌+◌, ◌*◌, ◌≤◌, ◌<◌}
 use native.Mathlib.Omega.{arith}
-use lib.ListN.{length, take, get_or}
-use lib.Seq.{get_or-take}
+use lib.ListN.{length, take, get_or, length-map}
+use lib.Seq.{get_or-take, length-take-le}
 use lib.Dec.{ltb, eqb, eqb-suc-zero}
 use borrow.Author.Tests.{lt-ltb, le-ltb, eq-eqb, ne_eqb}
 use Rattle.meaning.specs.Lists.{all, empty, up_to}
@@ -18,9 +18,11 @@ use Rattle.meaning.specs.Blocks as Q
 use Rattle.meaning.specs.Listing as D
 use Rattle.meaning.proofs.Laws.Listing.{ok_block_lem, ok_code_lem, two_successors, call_limits, frame_limits, ok_block, ok_code, Good, places_good, first_passed, first_kind, read_places_lem}
 use Rattle.listing_records.specs.declared.Places.{Places}
-use Rattle.listing.specs.Models.{call_for, decoded_at, two_at, Sound, ruled_places, bytes_at}
-use Rattle.listing_records.specs.Models.{places_in, places_of, ReadInto}
-use Rattle.listing_records.proofs.Lists.{counted, map_up_to}
+use Rattle.listing.specs.declared.Block.{Block}
+use Rattle.listing.specs.Models.{block_of, call_for, decoded_at, two_at, Sound, ruled_places, tokens_at, FirstOf}
+use Rattle.std.specs.Prelude.{Ok, Option}
+use Rattle.listing_records.specs.Models.{places_in, ReadInto}
+use Rattle.listing_records.proofs.Lists.{counted}
 
 -- ---- number 5
 
@@ -47,6 +49,20 @@ module _ (s ps cs : List ℕ) (n m : ℕ) (fp : n ≤ length ps) (fc : m ≤ len
   unfolding ruled_places
   ruled_eq = rw (counted (D.block_at s) ps n fp, counted (D.instr_at s) cs m fc, empty_take (D.block_at s) n ps fp)
 
+  -- what the code asks of the blocks that it made
+  module _ (bs : List Block) (told : map block_of (take (length (take n ps)) bs) ≡ blocks) where
+    pub same_blocks : map block_of (take n bs) ≡ blocks
+    same_blocks = rw (length-take-le n ps fp) at told
+
+    long : length (take n bs) ≡ n
+    long = sym (length-map (take n bs) block_of) ∙ ap length same_blocks ∙ counted (D.block_at s) ps n fp
+
+    pub first_bad : (r : Option ℕ) → FirstOf (D.faulty_block m (map block_of (take n bs))) (length (take n bs)) r → FirstOf (D.faulty_block m blocks) n r
+    first_bad r h = rw (same_blocks, long) at h
+
+    pub first_lost : (r : Option ℕ) → FirstOf (D.stray_ret code (map block_of (take n bs))) m r → FirstOf (D.stray_ret code blocks) m r
+    first_lost r h = rw same_blocks at h
+
   pub ruled_none : n ≡ 0 → D.Listed.refused 5 (length s) ≡ ruled_places s all_places
   ruled_none h = rw (ruled_eq, eq-eqb n 0 h)
 
@@ -71,15 +87,10 @@ pub routine_eq : (ps qs : List Token) (l k r t : ℕ) (bs cs : List M.Block) (is
     (record { params = qs; locals = k; returns = t; blocks = cs; code = js })
 routine_eq ps qs l k r t bs cs is js a b c d e = λ i. record { params = a i; locals = b i; returns = c i; blocks = d i; code = e i }
 
-pub params_eq : (head ps : List ℕ) (n : ℕ) → n ≡ get_or head 0 0 → take n ps ≡ bytes_at head 2 n → map D.token_as (take n ps) ≡ D.params_of head
-params_eq head ps n e h =
-    ap (map D.token_as) h ∙ map_up_to D.token_as n (λ k. get_or head (2 + k) 0) ∙ ap (λ (j : ℕ). up_to j (λ k. D.token_as (get_or head (2 + k) 0))) e
+pub params_eq : (head : List ℕ) (ps : List Token) (n : ℕ) → n ≡ get_or head 0 0 → ps ≡ tokens_at head 2 n → ps ≡ D.params_of head
+params_eq head ps n e h = h ∙ ap (λ (j : ℕ). up_to j (λ k. D.token_as (get_or head (2 + k) 0))) e
 
 -- ---- what is known of the places
-
-pub places_number : (ps cs : List ℕ) (w : Places) → w.number ≡ 0 → places_of ps cs w ≡ D.Listed.read (places_in ps cs w)
-unfolding places_of
-places_number ps cs w e = rw (eq-eqb w.number 0 e)
 
 map_same : {A : Type 0} (p : ℕ → Bool) (f g : ℕ → A) → ((x : ℕ) → p x ≡ true → f x ≡ g x) → (xs : List ℕ) → all p xs ≡ true → map f xs ≡ map g xs
 map_same p f g h [] e = refl
@@ -105,9 +116,9 @@ decoded_same s p e =
 two_of : (s : List ℕ) (p : ℕ) → ok_block s p ≡ true → two_at s p ≡ true
 two_of s p e = let f = ok_block_lem s p e in le_leb (two_successors s (D.locals_of (D.body_at s 0)) p f.0 f.1)
 
-module _ (s ps cs : List ℕ) (w : Places) (number : w.number ≡ 0) (told : ReadInto (D.read_places s) s ps cs w) where
+module _ (s ps cs : List ℕ) (w : Places) (told : ReadInto (D.read_places s) s ps cs (Ok w)) where
   pub were_read : D.read_places s ≡ D.Listed.read (places_in ps cs w)
-  were_read = sym told.places ∙ places_number ps cs w number
+  were_read = sym told.places
 
   pub sound : 0 < length s → (head : List ℕ) → head ≡ D.body_at s 0 → Sound s head w ps cs
   sound some head h =
@@ -118,16 +129,12 @@ module _ (s ps cs : List ℕ) (w : Places) (number : w.number ≡ 0) (told : Rea
       let f = frame_limits s l 0 p (first_kind s l p) in
       record {
         first = h;
-        blocks = told.blocks;
-        code = told.code;
+        blocks = told.counts.blocks;
+        code = told.counts.code;
         all_blocks = told.all_blocks;
         all_code = told.all_code;
-        ret = told.ret;
+        ret = told.counts.ret;
         two = all_imp (ok_block s) (two_at s) (two_of s) (take w.block_count ps) g.blocks;
         same = map_same (ok_code s) (decoded_at s) (D.instr_at s) (decoded_same s) (take w.code_count cs) g.code;
         params = rw h (omega (arith, f.0, f.1));
       }
-
-pub places_stop : (ps cs : List ℕ) (w : Places) → (w.number ≡ 0 → ⊥) → places_of ps cs w ≡ D.Listed.refused w.number w.place
-unfolding places_of
-places_stop ps cs w h = rw (ne_eqb w.number 0 h)

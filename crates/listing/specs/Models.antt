@@ -1,5 +1,5 @@
 -- What the structs of the code mean in the definitions.
-use Rattle.std.specs.Prelude.{ℕ, ◌+◌, ◌*◌, ◌≤◌, ◌≡◌, Bool, true, false, ◌&&◌, ◌||◌, List, [], ◌∷◌, map, length, get_or, take, leb, eqb}
+use Rattle.std.specs.Prelude.{ℕ, ◌+◌, ◌*◌, ◌≤◌, ◌<◌, ◌≡◌, Bool, true, false, ◌&&◌, ◌||◌, List, [], ◌∷◌, map, length, get_or, take, leb, eqb, Option, Some, None, Result, Ok, Err, MatchOption, MatchResult, ⊤}
 use Rattle.meaning.specs.Limits.{max_locals, max_acquired, max_returns, max_instructions, max_blocks}
 use Rattle.meaning.specs.Lists.{all, any, up_to}
 use Rattle.meaning.specs.AbstractState.{Token}
@@ -8,6 +8,8 @@ use Rattle.meaning.specs.Loop as M
 use Rattle.meaning.specs.Blocks as Q
 use Rattle.meaning.specs.Listing as D
 use Rattle.file_format.specs.Models.{token_of}
+use Rattle.vm_status.specs.declared.Refused.{Refused}
+use Rattle.vm_status.specs.Models.{number_of}
 use Rattle.listing_records.specs.declared.Places.{Places}
 use Rattle.listing_records.specs.Models.{before_ret}
 use Rattle.listing.specs.declared.decode.Instruction.{Instruction}
@@ -15,14 +17,12 @@ use Rattle.listing.specs.declared.decode.Instruction.TheVariants.{Pop, CopyLoc, 
 use Rattle.listing.specs.declared.decode.Decoded.{Decoded}
 use Rattle.listing.specs.declared.Block.{Block}
 use Rattle.listing.specs.declared.Routine.{Routine}
-use Rattle.listing.specs.declared.Reading.{Reading}
-use Rattle.listing.specs.declared.Reading.TheVariants.{Read, Nothing, Refused}
-use Rattle.listing.specs.declared.Listed.{Listed}
 
 -- ---- instructions
 
-abbrev pub bytes_at : List ℕ → ℕ → ℕ → List ℕ
-bytes_at b i n = up_to n (λ k. get_or b (i + k) 0)
+-- the tokens of n bytes from a place on
+abbrev pub tokens_at : List ℕ → ℕ → ℕ → List Token
+tokens_at b i n = up_to n (λ k. D.token_as (get_or b (i + k) 0))
 
 abbrev pub with_parts : List ℕ → List Token → Instruction → I.Instr
 with_parts a t Pop = I.Instr.Pop
@@ -48,7 +48,7 @@ abbrev pub plain_of : Instruction → I.Instr
 plain_of i = with_parts [] [] i
 
 unfoldable pub decoded_of : Decoded → I.Instr
-decoded_of d = with_parts (take d.acquired_count d.acquired) (map D.token_as (take d.token_count d.tokens)) d.instruction
+decoded_of d = with_parts (take d.acquired_count d.acquired) (map token_of (take d.token_count d.tokens)) d.instruction
 
 abbrev pub pick_instr : Bool → I.Instr → I.Instr → I.Instr
 pick_instr true a b = a
@@ -90,13 +90,17 @@ pub record Sound (s head : List ℕ) (w : Places) (ps cs : List ℕ) : Type 0 wh
 unfoldable pub ruled_places : List ℕ → D.Places → D.Listed Q.Routine
 ruled_places s w = D.ruled (length s) w (D.routine_at s w)
 
+-- the first of the numbers below n that passes a test, if one does
+abbrev pub FirstOf : (ℕ → Bool) → ℕ → Option ℕ → Type 0
+FirstOf p n r = MatchOption r (D.first_of p 0 n ≡ n) (λ i. (i < n) × (D.first_of p 0 n ≡ i))
+
 abbrev pub faulty_successors : List M.Block → ℕ → M.Block → Bool
 faulty_successors bs i b = D.repeats b.successors || any (D.faulty_successor bs i b) b.successors
 
 -- a routine of the listing s, with the array cs that says where the record of each instruction starts
 abbrev pub routine_of : List ℕ → List ℕ → Routine → Q.Routine
 routine_of s cs r = record {
-  params = map D.token_as (take r.param_count r.params);
+  params = map token_of (take r.param_count r.params);
   locals = r.locals;
   returns = r.returns;
   blocks = blocks_in r.blocks r.block_count;
@@ -108,10 +112,22 @@ pub record Counted (r : Routine) : Type 0 where
   pub few : r.block_count ≤ max_blocks
   pub count : length (blocks_in r.blocks r.block_count) ≡ r.block_count
 
-abbrev pub reading_of : Q.Routine → Reading → D.Listed Q.Routine
-reading_of q Read = D.Listed.read q
-reading_of q Nothing = D.Listed.nothing
-reading_of q (Refused n at) = D.Listed.refused n at
+abbrev pub listed_of : List ℕ → List ℕ → Result (Option Routine) Refused → D.Listed Q.Routine
+listed_of s cs (Ok (Some r)) = D.Listed.read (routine_of s cs r)
+listed_of s cs (Ok None) = D.Listed.nothing
+listed_of s cs (Err e) = D.Listed.refused (number_of e.refusal) e.place
 
-unfoldable pub listed_of : List ℕ → List ℕ → Listed → D.Listed Q.Routine
-listed_of s cs r = reading_of (routine_of s cs r.routine) r.reading
+-- what is said of the routine, where there is one
+abbrev pub AllCounted : Result (Option Routine) Refused → Type 0
+AllCounted (Ok (Some r)) = Counted r
+AllCounted (Ok None) = ⊤
+AllCounted (Err e) = ⊤
+
+-- the answer for a listing that is read as x
+pub record Answers (s cs : List ℕ) (x : D.Listed Q.Routine) (r : Result (Option Routine) Refused) : Type 0 where
+  pub listed : listed_of s cs r ≡ x
+  pub counted : AllCounted r
+
+-- the same of records that were read
+abbrev pub Ruled : List ℕ → List ℕ → D.Listed Q.Routine → Result Routine Refused → Type 0
+Ruled s cs x r = MatchResult r (λ q. (D.Listed.read (routine_of s cs q) ≡ x) × Counted q) (λ e. D.Listed.refused (number_of e.refusal) e.place ≡ x)

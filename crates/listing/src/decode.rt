@@ -1,13 +1,14 @@
 // The instruction of a record.
-ghost use Rattle.std.specs.Prelude.{◌≡◌, ◌≤◌, ◌<◌, get_or, take};
+ghost use Rattle.std.specs.Prelude.{◌≡◌, ◌≤◌, ◌<◌, map, get_or, take};
 ghost use Rattle.file_format.specs.Models.{token_of};
 ghost use Rattle.meaning.specs.Limits.{max_locals};
 ghost use Rattle.meaning.specs.Listing.{token_as, flag_at, words_at, instr_of};
-ghost use Rattle.listing.specs.Models.{bytes_at, plain_of, decoded_of, decoded_at, call_for};
+ghost use Rattle.listing.specs.Models.{tokens_at, plain_of, decoded_of, decoded_at, call_for};
 
 use file_format::{LocalIndex, SignatureToken};
 use listing_records::{Cursor, body, byte_at, u16_at};
 use meaning::{MAX_ACQUIRED, MAX_RETURNS, ROOM};
+use std::array;
 
 // One variant for each kind of instruction record.
 #[derive(Clone, Copy)]
@@ -37,13 +38,13 @@ pub enum Instruction {
     BorrowElement(bool),
 }
 
-// An instruction, and for a call the numbers that it acquires and the tokens (0, 1, 2) of what it returns. Slots from a count on are free.
+// An instruction, and for a call the numbers that it acquires and the tokens of what it returns. Slots from a count on are free.
 #[derive(Clone, Copy)]
 pub struct Decoded {
     pub instruction: Instruction,
     pub acquired: [u16; ROOM],
     pub acquired_count: usize,
-    pub tokens: [u8; ROOM],
+    pub tokens: [SignatureToken; ROOM],
     pub token_count: usize,
 }
 
@@ -58,18 +59,18 @@ fn token_of(n: u8) -> SignatureToken
     }
 }
 
-// n bytes from a place on.
-pub(crate) fn bytes_at(b: &[u8], from: usize, n: usize) -> [u8; ROOM]
+// n tokens from a place on.
+pub(crate) fn tokens_at(b: &[u8], from: usize, n: usize) -> [SignatureToken; ROOM]
     requires { (n ≤ max_locals) × (from < 65536) }
-    ensures { take n result ≡ bytes_at b.now from n }
+    ensures { map token_of (take n result) ≡ tokens_at b.now from n }
 {
-    let mut out = [0u8; ROOM];
-    let mut i: usize = 0;
-    while i < n {
-        out[i] = byte_at(b, from + i);
-        i += 1;
-    }
-    out
+    array::from_fn(|i| {
+        if i < n {
+            token_at(b, from + i)
+        } else {
+            SignatureToken::Value
+        }
+    })
 }
 
 // n numbers from a place on.
@@ -77,13 +78,7 @@ fn words_at(b: &[u8], from: usize, n: usize) -> [u16; ROOM]
     requires { (n ≤ max_locals) × (from < 65536) }
     ensures { take n result ≡ words_at b.now from n }
 {
-    let mut out = [0u16; ROOM];
-    let mut i: usize = 0;
-    while i < n {
-        out[i] = u16_at(b, from + 2 * i);
-        i += 1;
-    }
-    out
+    array::from_fn(|i| if i < n { u16_at(b, from + 2 * i) } else { 0 })
 }
 
 fn flag_at(b: &[u8], i: usize) -> bool
@@ -137,7 +132,7 @@ fn alone(instruction: Instruction) -> Decoded
         instruction,
         acquired: [0u16; ROOM],
         acquired_count: 0,
-        tokens: [0u8; ROOM],
+        tokens: [SignatureToken::Value; ROOM],
         token_count: 0,
     }
 }
@@ -156,12 +151,11 @@ fn decode_call(b: &[u8]) -> Decoded
         return alone(Instruction::Pop);
     }
     let m = returns as usize;
-    let tokens = bytes_at(b, 3 + 2 * n, m);
     Decoded {
         instruction: Instruction::Call(byte_at(b, 0)),
         acquired: words_at(b, 2, n),
         acquired_count: n,
-        tokens,
+        tokens: tokens_at(b, 3 + 2 * n, m),
         token_count: m,
     }
 }

@@ -1,164 +1,121 @@
 // The rules on blocks and on Ret (refusal 5).
-ghost use Rattle.std.specs.Prelude.{◌≡◌, ◌≤◌, ◌<◌, map, length, take, drop};
-ghost use Rattle.meaning.specs.Limits.{max_blocks, max_instructions};
+ghost use Rattle.std.specs.Prelude.{◌≡◌, ◌≤◌, ◌<◌, map, length, take};
+ghost use Rattle.meaning.specs.Limits.{max_instructions};
 ghost use Rattle.meaning.specs.Lists.{any};
-ghost use Rattle.meaning.specs.Listing.{overlap, entry_in, ends_block, faulty_successor, faulty_block, first_of, stray_ret, instr_at};
+ghost use Rattle.meaning.specs.Listing.{overlap, entry_in, ends_block, faulty_successor, faulty_block, stray_ret, instr_at};
 ghost use Rattle.listing_records.specs.Models.{before_ret};
-ghost use Rattle.listing.specs.Models.{block_of, blocks_in, faulty_successors};
+ghost use Rattle.listing.specs.Models.{block_of, faulty_successors, FirstOf};
 
 use crate::Block;
 use file_format::CodeOffset;
 use listing_records::shapes::RET;
 use listing_records::{place, u16_at};
-use meaning::{MAX_BLOCKS, MAX_INSTRUCTIONS};
+use meaning::MAX_INSTRUCTIONS;
 
-// That a block listed at `from` or later has this entry.
-fn entry_from(blocks: [Block; MAX_BLOCKS], n: usize, from: usize, entry: CodeOffset) -> bool
-    requires { n ≤ max_blocks }
-    ensures { result ≡ entry_in (drop from (blocks_in blocks n)) entry.0 }
+// That one of these blocks has this entry.
+fn has_entry(blocks: &[Block], entry: CodeOffset) -> bool
+    ensures { result ≡ entry_in (map block_of blocks.now) entry.0 }
 {
-    let mut i = from;
-    while i < n {
-        let b = blocks[i];
-        if entry.0 == b.entry.0 {
-            return true;
-        }
-        i += 1;
-    }
-    false
+    blocks.iter().any(|b| entry == b.entry)
 }
 
-// That a block has an instruction of one of the n listed first.
-fn overlaps(blocks: [Block; MAX_BLOCKS], n: usize, b: Block) -> bool
-    requires { n ≤ max_blocks }
-    ensures { result ≡ any (overlap (block_of b)) (blocks_in blocks n) }
+// That a block has an instruction of one of these.
+fn overlaps(blocks: &[Block], b: Block) -> bool
+    ensures { result ≡ any (overlap (block_of b)) (map block_of blocks.now) }
 {
-    let mut i: usize = 0;
-    while i < n {
-        let c = blocks[i];
-        if (b.entry.0 <= c.exit.0) & (c.entry.0 <= b.exit.0) {
-            return true;
-        }
-        i += 1;
-    }
-    false
+    blocks
+        .iter()
+        .any(|c| (b.entry <= c.exit) & (c.entry <= b.exit))
 }
 
 // That a successor of the block at `i` is no block's entry, or above the block's own and not listed later.
-fn faulty_successor(
-    blocks: [Block; MAX_BLOCKS],
-    n: usize,
-    i: usize,
-    b: Block,
-    e: CodeOffset,
-) -> bool
-    requires { (n ≤ max_blocks) × (i < n) }
-    ensures { result ≡ faulty_successor (blocks_in blocks n) i (block_of b) e.0 }
+fn faulty_successor(blocks: &[Block], i: usize, b: Block, e: CodeOffset) -> bool
+    requires { i < length blocks.now }
+    ensures { result ≡ faulty_successor (map block_of blocks.now) i (block_of b) e.0 }
 {
-    if !entry_from(blocks, n, 0, e) {
-        return true;
-    }
-    if e.0 <= b.entry.0 {
-        return false;
-    }
-    !entry_from(blocks, n, i + 1, e)
+    !has_entry(blocks, e) || (b.entry < e && !has_entry(&blocks[i + 1..], e))
 }
 
-fn faulty_successors(blocks: [Block; MAX_BLOCKS], n: usize, i: usize, b: Block) -> bool
-    requires { (n ≤ max_blocks) × (i < n) }
-    ensures { result ≡ faulty_successors (blocks_in blocks n) i (block_of b) }
+fn faulty_successors(blocks: &[Block], i: usize, b: Block) -> bool
+    requires { i < length blocks.now }
+    ensures { result ≡ faulty_successors (map block_of blocks.now) i (block_of b) }
 {
     let count = b.count;
     if count == 0 {
         return false;
     }
     let e = b.first;
-    if faulty_successor(blocks, n, i, b, e) {
+    if faulty_successor(blocks, i, b, e) {
         return true;
     }
     if count == 1 {
         return false;
     }
     let f = b.second;
-    if e.0 == f.0 {
+    if e == f {
         return true;
     }
-    faulty_successor(blocks, n, i, b, f)
+    faulty_successor(blocks, i, b, f)
 }
 
 // That the block at `i`, in a routine of `code_count` instructions, breaks a rule.
-fn faulty_block(blocks: [Block; MAX_BLOCKS], n: usize, i: usize, code_count: usize) -> bool
-    requires { (n ≤ max_blocks) × (i < n) }
-    ensures { result ≡ faulty_block code_count (blocks_in blocks n) i }
+fn faulty_block(blocks: &[Block], i: usize, code_count: usize) -> bool
+    requires { i < length blocks.now }
+    ensures { result ≡ faulty_block code_count (map block_of blocks.now) i }
 {
     let b = blocks[i];
     if (i == 0) & (b.entry.0 != 0) {
         return true;
     }
-    if b.exit.0 < b.entry.0 {
+    if b.exit < b.entry {
         return true;
     }
-    if code_count <= b.exit.0 as usize {
+    if code_count <= place(b.exit.0) {
         return true;
     }
-    if overlaps(blocks, i, b) {
+    if overlaps(&blocks[..i], b) {
         return true;
     }
-    faulty_successors(blocks, n, i, b)
+    faulty_successors(blocks, i, b)
 }
 
-// The first block that breaks a rule; n, if none does.
-pub(crate) fn first_faulty(blocks: [Block; MAX_BLOCKS], n: usize, code_count: usize) -> usize
-    requires { n ≤ max_blocks }
-    ensures { result ≡ first_of (faulty_block code_count (blocks_in blocks n)) 0 n }
+// The first block that breaks a rule.
+pub(crate) fn first_faulty(blocks: &[Block], code_count: usize) -> Option<usize>
+    ensures { FirstOf (faulty_block code_count (map block_of blocks.now)) (length blocks.now) result }
 {
-    let mut i: usize = 0;
-    while i < n {
-        if faulty_block(blocks, n, i, code_count) {
-            return i;
+    for i in 0..blocks.len() {
+        if faulty_block(blocks, i, code_count) {
+            return Some(i);
         }
-        i += 1;
     }
-    n
+    None
 }
 
 // That an instruction is the exit of a block without successors.
-fn ends_block(blocks: [Block; MAX_BLOCKS], n: usize, k: CodeOffset) -> bool
-    requires { n ≤ max_blocks }
-    ensures { result ≡ ends_block (blocks_in blocks n) k.0 }
+fn ends_block(blocks: &[Block], k: CodeOffset) -> bool
+    ensures { result ≡ ends_block (map block_of blocks.now) k.0 }
 {
-    let mut i: usize = 0;
-    while i < n {
-        let b = blocks[i];
-        if (k.0 == b.exit.0) & (b.count == 0) {
-            return true;
-        }
-        i += 1;
-    }
-    false
+    blocks.iter().any(|b| (k == b.exit) & (b.count == 0))
 }
 
-// The first Ret that is not the exit of a block without successors; m, if there is none. No Ret stands before `first`.
+// The first of m instructions that is a Ret, and not the exit of a block without successors. No Ret stands before `first`.
 pub(crate) fn first_stray(
     s: &[u8],
     code: &[u16; MAX_INSTRUCTIONS],
     first: usize,
     m: usize,
-    blocks: [Block; MAX_BLOCKS],
-    n: usize,
-) -> usize
-    requires { (n ≤ max_blocks) × (m ≤ max_instructions) × (length code.now ≡ max_instructions) × (first ≡ before_ret s.now (take m code.now)) }
-    ensures { result ≡ first_of (stray_ret (map (instr_at s.now) (take m code.now)) (blocks_in blocks n)) 0 m }
+    blocks: &[Block],
+) -> Option<usize>
+    requires { (m ≤ max_instructions) × (first ≡ before_ret s.now (take m code.now)) }
+    ensures { FirstOf (stray_ret (map (instr_at s.now) (take m code.now)) (map block_of blocks.now)) m result }
 {
-    let mut k = first;
-    while k < m {
+    for k in first..m {
         let start = place(code[k]);
         if u16_at(s, start + 2) == RET {
-            if !ends_block(blocks, n, CodeOffset(k as u16)) {
-                return k;
+            if !ends_block(blocks, CodeOffset(k as u16)) {
+                return Some(k);
             }
         }
-        k += 1;
     }
-    m
+    None
 }

@@ -5,38 +5,15 @@
 ghost use Rattle.std.specs.Prelude.{◌≡◌};
 ghost use Rattle.meaning.specs.Listing.{body_at};
 ghost use Rattle.listing_records.specs.Models.{found_of, found_at};
-ghost use Rattle.listing_reader.specs.Models.{StepFor, onward};
+ghost use Rattle.listing_reader.specs.Models.{onward};
 
-use listing_records::{Cursor, Found, body, read};
+use listing_records::{Cursor, Record, body, read};
+use vm_status::Refusal;
 
 #[derive(Clone, Copy)]
 pub struct Reader<'a> {
     pub listing: &'a [u8],
     pub at: usize,
-}
-
-// What stands at a place, and where the next record starts: the same place, if no whole record stands there.
-#[derive(Clone, Copy)]
-struct Step {
-    found: Found,
-    at: usize,
-}
-
-fn step_at(listing: &[u8], at: usize) -> Step
-    ensures { StepFor listing.now at result }
-{
-    let found = read(listing, Cursor { at });
-    match found {
-        Found::Record { kind, next } => Step { found, at: next.at },
-        Found::Short => Step { found, at },
-        Found::End => Step { found, at },
-    }
-}
-
-fn body_at<'a>(listing: &'a [u8], at: usize) -> &'a [u8]
-    ensures { result.now ≡ body_at listing.now at }
-{
-    body(listing, Cursor { at })
 }
 
 impl<'a> Reader<'a> {
@@ -47,19 +24,21 @@ impl<'a> Reader<'a> {
     }
 
     // The next record; the reader moves on to the one after it, and stays where there is none.
-    pub fn next(&mut self) -> Found
+    pub fn next(&mut self) -> Result<Option<Record>, Refusal>
         ensures { (found_of self.old.at result ≡ found_at self.old.listing.now self.old.at) × (self.new ≡ onward self.old) }
     {
-        let s = step_at(self.listing, self.at);
-        self.at = s.at;
-        s.found
+        let found = read(self.listing, Cursor { at: self.at });
+        if let Ok(Some(record)) = found {
+            self.at = record.next.at;
+        }
+        found
     }
 
     // The next record's body, as a part of the caller's own bytes; none, if no whole record stands there.
     pub fn body(self) -> &'a [u8]
         ensures { result.now ≡ body_at self.entry.listing.now self.entry.at }
     {
-        body_at(self.listing, self.at)
+        body(self.listing, Cursor { at: self.at })
     }
 }
 

@@ -9,19 +9,19 @@ use native.Mathlib.Nat.{not-suc-le-zero}
 use native.Mathlib.Numerals.{add-one}
 use native.Mathlib.Omega.{arith}
 use lib.ListN.{length, take, drop, get_or, set, length-drop, get_or-eq_default}
-use lib.Seq.{drop-drop, take-suc-set, take_all, length-take-le}
+use lib.Seq.{take-suc-set, take_all, length-take-le}
 use lib.Dec.{leb, ltb, eqb}
 use borrow.Author.Tests.{lt-leb, lt-ltb, le-ltb, eq-eqb, ne_eqb, ltb-true, ltb-false, not-false}
 use Rattle.meaning.specs.Lists.{all, empty}
 use Rattle.meaning.proofs.Laws.Base.{decide, leb_le, leb_gt, le_leb, and_i, and_l, and_r, not_true}
 use Rattle.meaning.specs.Listing as D
 use Rattle.meaning.proofs.Laws.Listing.{places_step}
-use Rattle.listing_records.specs.declared.Cursor.{Cursor}
-use Rattle.listing_records.specs.declared.Found.{Found}
-use Rattle.listing_records.specs.declared.Found.TheVariants.{Record, Short, End}
-use Rattle.listing_records.specs.declared.Test.{Test}
-use Rattle.listing_records.specs.declared.Places.{Places}
-use Rattle.listing_records.specs.Models.{field_list, field_of, packed, limit_of, fault_of, Head, found_of, found_at, body_fault, Tested, place_fault, full_of, before_ret, places_of, ReadInto}
+use Rattle.std.specs.Prelude as Std
+use Rattle.std.specs.Prelude.{Result, Ok, Err, Some, None}
+use Rattle.vm_status.specs.declared.Refusal.{Refusal}
+use Rattle.vm_status.specs.Models.{number_of}
+use Rattle.listing_records.specs.declared.Record.{Record}
+use Rattle.listing_records.specs.Models.{field_list, field_of, packed, limit_of, Head, found_of, found_at, body_fault, place_fault, full_of}
 use Rattle.listing_records.proofs.Lists.{or_none, leb_iff}
 
 -- ---- fields
@@ -39,66 +39,62 @@ unused k (r ∷ rs) h =
     let w : (D.in_use k rs ≡ false) × (D.fields_in k rs ≡ []) = unused k rs (and_r (not (eqb k r.kind)) (all (λ x. not (eqb k x.kind)) rs) h) in
     (rw b w.0, rw b w.1)
 
--- ---- a body field by field: what is left from field k and byte i on gives the answer r
+-- ---- a body field by field: what is left of it gives the answer r
 
-module _ (l : ℕ) (fs gs : List D.Field) (b : List ℕ) (i w : ℕ) (f : D.Field) (here : fs ≡ f ∷ gs) (wide : w ≡ D.field_width f (drop i b)) where
-  pub fit_wide : (r : Bool) → D.fits_body l fs (drop i b) ≡ r → length (drop i b) < w → false ≡ r
+module _ (l : ℕ) (fs gs : List D.Field) (b : List ℕ) (w : ℕ) (f : D.Field) (here : fs ≡ f ∷ gs) (wide : w ≡ D.field_width f b) where
+  pub fit_wide : (r : Bool) → D.fits_body l fs b ≡ r → length b < w → false ≡ r
   unfolding D.fits_body
   fit_wide r e h =
-      let n : leb (D.field_width f (drop i b)) (length (drop i b)) ≡ false = lt-leb _ _ (rw wide at h) in
+      let n : leb (D.field_width f b) (length b) ≡ false = lt-leb _ _ (rw wide at h) in
       rw (here, n) at e
 
-  pub fit_wrong : (r : Bool) → D.fits_body l fs (drop i b) ≡ r → w ≤ length (drop i b) → D.field_right l f (drop i b) ≡ false → false ≡ r
+  pub fit_wrong : (r : Bool) → D.fits_body l fs b ≡ r → w ≤ length b → D.field_right l f b ≡ false → false ≡ r
   unfolding D.fits_body
   fit_wrong r e h q =
-      let n : leb (D.field_width f (drop i b)) (length (drop i b)) ≡ true = le_leb (rw wide at h) in
+      let n : leb (D.field_width f b) (length b) ≡ true = le_leb (rw wide at h) in
       rw (here, n, q) at e
 
-  pub fit_turn : (r : Bool) → D.fits_body l fs (drop i b) ≡ r → w ≤ length (drop i b) → D.field_right l f (drop i b) ≡ true
-      → D.fits_body l gs (drop (i + w) b) ≡ r
+  pub fit_turn : (r : Bool) → D.fits_body l fs b ≡ r → w ≤ length b → D.field_right l f b ≡ true → D.fits_body l gs (drop w b) ≡ r
   unfolding D.fits_body
   fit_turn r e h q =
-      let n : leb (D.field_width f (drop i b)) (length (drop i b)) ≡ true = le_leb (rw wide at h) in
-      let g : D.fits_body l gs (drop (D.field_width f (drop i b)) (drop i b)) ≡ r = rw (here, n, q) at e in
-      rw (← drop-drop w i b, wide) g
+      let n : leb (D.field_width f b) (length b) ≡ true = le_leb (rw wide at h) in
+      rw wide (rw (here, n, q) at e)
 
-  pub within_turn : (x y r : Bool) → (x && D.within_limits fs (drop i b)) ≡ r → y ≡ D.field_within f (drop i b)
-      → ((x && y) && D.within_limits gs (drop (i + w) b)) ≡ r
+  pub within_turn : (x y r : Bool) → (x && D.within_limits fs b) ≡ r → y ≡ D.field_within f b → ((x && y) && D.within_limits gs (drop w b)) ≡ r
   unfolding D.within_limits
   within_turn x y r e q =
-      let g : (x && (D.field_within f (drop i b) && D.within_limits gs (drop (D.field_width f (drop i b)) (drop i b)))) ≡ r = rw here at e in
-      rw (← drop-drop w i b, wide, q, and_assoc) g
+      let g : (x && (D.field_within f b && D.within_limits gs (drop (D.field_width f b) b))) ≡ r = rw here at e in
+      rw (wide, q, and_assoc) g
 
   -- the test of the code: the field runs past the end, or is not right
-  module _ (n : ℕ) (q : Bool) (left : n ≡ length (drop i b)) where
-    pub fit_stop : (r : Bool) → D.fits_body l fs (drop i b) ≡ r → (D.field_width f (drop i b) ≤ length (drop i b) → q ≡ D.field_right l f (drop i b))
-        → (ltb n w || not q) ≡ true → false ≡ r
+  module _ (q : Bool) where
+    pub fit_stop : (r : Bool) → D.fits_body l fs b ≡ r → (D.field_width f b ≤ length b → q ≡ D.field_right l f b)
+        → (ltb (length b) w || not q) ≡ true → false ≡ r
     fit_stop r e t h =
-        decide (ltb n w)
-        (λ y. fit_wide r e (rw left at (ltb-true n w y)))
-        (λ m. let a : w ≤ length (drop i b) = (rw left at (ltb-false n w m)) in let z : not q ≡ true = rw m at h in fit_wrong r e a (sym (t (rw wide at a)) ∙ not_true z))
+        decide (ltb (length b) w)
+        (λ y. fit_wide r e (ltb-true (length b) w y))
+        (λ m. let a : w ≤ length b = ltb-false (length b) w m in let z : not q ≡ true = rw m at h in fit_wrong r e a (sym (t (rw wide at a)) ∙ not_true z))
 
-    pub fit_go : (ltb n w || not q) ≡ false → (w ≤ length (drop i b)) × (q ≡ true)
+    pub fit_go : (ltb (length b) w || not q) ≡ false → (w ≤ length b) × (q ≡ true)
     fit_go h =
-        let v : (ltb n w ≡ false) × (not q ≡ false) = or_none (ltb n w) (not q) h in
-        (rw left at (ltb-false n w v.0), not-false q v.1)
+        let v : (ltb (length b) w ≡ false) × (not q ≡ false) = or_none (ltb (length b) w) (not q) h in
+        (ltb-false (length b) w v.0, not-false q v.1)
 
-module _ (l : ℕ) (fs : List D.Field) (b : List ℕ) (i : ℕ) (past : fs ≡ []) where
-  pub fit_over : (r : Bool) → D.fits_body l fs (drop i b) ≡ r → i < length b → false ≡ r
+module _ (l : ℕ) (fs : List D.Field) (b : List ℕ) (past : fs ≡ []) where
+  pub fit_over : (r : Bool) → D.fits_body l fs b ≡ r → 0 < length b → false ≡ r
   unfolding D.fits_body
   fit_over r e h =
-      let n : eqb (length (drop i b)) 0 ≡ false = ne_eqb _ 0 (λ (z : length (drop i b) ≡ 0). let d : length (drop i b) ≡ length b - i = length-drop i b in omega arith) in
+      let n : eqb (length b) 0 ≡ false = ne_eqb _ 0 (λ (z : length b ≡ 0). omega arith) in
       rw (past, n) at e
 
-  pub fit_done : (r : Bool) → D.fits_body l fs (drop i b) ≡ r → length b ≤ i → true ≡ r
+  pub fit_done : (r : Bool) → D.fits_body l fs b ≡ r → length b ≤ 0 → true ≡ r
   unfolding D.fits_body
   fit_done r e h =
-      let d : length (drop i b) ≡ length b - i = length-drop i b in
-      let z : length (drop i b) ≡ 0 = omega arith in
-      let n : eqb (length (drop i b)) 0 ≡ true = eq-eqb _ 0 z in
+      let z : length b ≡ 0 = omega arith in
+      let n : eqb (length b) 0 ≡ true = eq-eqb _ 0 z in
       rw (past, n) at e
 
-  pub within_done : (x r : Bool) → (x && D.within_limits fs (drop i b)) ≡ r → x ≡ r
+  pub within_done : (x r : Bool) → (x && D.within_limits fs b) ≡ r → x ≡ r
   unfolding D.within_limits
   within_done x r e = sym (and-true x) ∙ (rw past at e)
 
@@ -204,61 +200,52 @@ unused_kind k a b far = unused k D.shapes tests
 -- ---- the tests of a record
 
 -- where a record stands: a number ends the tests, and else those of the body follow
-place_stops : (a b : Bool) (k : Option ℕ) (n : ℕ) → fault_of n ≡ D.unless a 4 (D.unless b 33 none) → (n ≡ 0 → ⊥) → D.unless a 4 (D.unless b 33 k) ≡ fault_of n
-place_stops true true k zero e z = absurd (z refl)
-place_stops true true k (suc n) e z = let y : ◌≡◌ {A = ℕ} 0 1 = cc in absurd (omega arith)
-place_stops true false k n e z = sym e
-place_stops false b k n e z = sym e
+place_stops : (a b : Bool) (k : Option ℕ) (n : ℕ) → some n ≡ D.unless a 4 (D.unless b 33 none) → D.unless a 4 (D.unless b 33 k) ≡ some n
+place_stops true true k n e = cc
+place_stops true false k n e = sym e
+place_stops false b k n e = sym e
 
 place_goes : (a b : Bool) (k : Option ℕ) → none ≡ D.unless a 4 (D.unless b 33 none) → D.unless a 4 (D.unless b 33 k) ≡ k
 place_goes true true k e = refl
-place_goes true false k e = let y : ◌≡◌ {A = ℕ} 0 1 = cc in absurd (omega arith)
-place_goes false b k e = let y : ◌≡◌ {A = ℕ} 0 1 = cc in absurd (omega arith)
+place_goes true false k e = cc
+place_goes false b k e = cc
 
 -- what was found, known by its constructor
-module _ (s : List ℕ) (at : ℕ) (f : Found) (told : found_of at f ≡ found_at s at) where
+module _ (s : List ℕ) (at : ℕ) (f : Result (Std.Option Record) Refusal) (told : found_of at f ≡ found_at s at) where
   abbrev choice : Bool → Bool → D.Listed (Option Head)
   choice a w = cond a (D.Listed.read none) (D.if_not (not w) 1 at (D.Listed.read (some (record { kind = D.kind_at s at; next = D.next_at s at }))))
 
-  pub record_inv : (k : ℕ) (n : Cursor) → f ≡ Record k n → (D.whole_at s at ≡ true) × (k ≡ D.kind_at s at) × (n.at ≡ D.next_at s at)
+  pub record_inv : (r : Record) → f ≡ Ok (Some r) → (D.whole_at s at ≡ true) × (r.kind ≡ D.kind_at s at) × (r.next.at ≡ D.next_at s at)
   unfolding found_at
-  record_inv k n e = go (leb (length s) at) (D.whole_at s at) (sym (ap (found_of at) e) ∙ told)
+  record_inv r e = go (leb (length s) at) (D.whole_at s at) (sym (ap (found_of at) e) ∙ told)
     where
-      go : (a w : Bool) → D.Listed.read (some (record { kind = k; next = n.at })) ≡ choice a w → (w ≡ true) × (k ≡ D.kind_at s at) × (n.at ≡ D.next_at s at)
-      go true w q = let z : ◌≡◌ {A = ℕ} 0 1 = cc in absurd (omega arith)
+      go : (a w : Bool) → D.Listed.read (some (record { kind = r.kind; next = r.next.at })) ≡ choice a w → (w ≡ true) × (r.kind ≡ D.kind_at s at) × (r.next.at ≡ D.next_at s at)
+      go true w q = cc
       go false true q =
-          let h : ◌≡◌ {A = Head} (record { kind = k; next = n.at }) (record { kind = D.kind_at s at; next = D.next_at s at }) = cc in
+          let h : ◌≡◌ {A = Head} (record { kind = r.kind; next = r.next.at }) (record { kind = D.kind_at s at; next = D.next_at s at }) = cc in
           (refl, ap (λ (x : Head). x.kind) h, ap (λ (x : Head). x.next) h)
-      go false false q = let z : ◌≡◌ {A = ℕ} 0 1 = cc in absurd (omega arith)
+      go false false q = cc
 
-  pub short_inv : f ≡ Short → D.whole_at s at ≡ false
+  pub short_inv : (x : Refusal) → f ≡ Err x → (D.whole_at s at ≡ false) × (1 ≡ number_of x)
   unfolding found_at
-  short_inv e = go (leb (length s) at) (D.whole_at s at) (sym (ap (found_of at) e) ∙ told)
+  short_inv x e = go (leb (length s) at) (D.whole_at s at) (sym (ap (found_of at) e) ∙ told)
     where
-      go : (a w : Bool) → D.Listed.refused 1 at ≡ choice a w → w ≡ false
-      go true w q = let z : ◌≡◌ {A = ℕ} 0 1 = cc in absurd (omega arith)
-      go false true q = let z : ◌≡◌ {A = ℕ} 0 1 = cc in absurd (omega arith)
-      go false false q = refl
+      go : (a w : Bool) → D.Listed.refused (number_of x) at ≡ choice a w → (w ≡ false) × (1 ≡ number_of x)
+      go true w q = cc
+      go false true q = cc
+      go false false q = (refl, cc)
 
-  pub end_inv : f ≡ End → D.whole_at s at ≡ false
+  pub end_inv : f ≡ Ok None → D.whole_at s at ≡ false
   unfolding found_at D.whole_at
   end_inv e = go (leb (length s) at) refl (D.whole_at s at) (sym (ap (found_of at) e) ∙ told)
     where
       go : (a : Bool) → leb (length s) at ≡ a → (w : Bool) → D.Listed.read none ≡ choice a w → leb (at + 4 + D.u16_at s at) (length s) ≡ false
       go true h w q = let l : length s ≤ at = leb_le h in let d : length s < at + 4 + D.u16_at s at = omega arith in lt-leb _ _ d
-      go false h true q = let z : ◌≡◌ {A = ℕ} 0 1 = cc in absurd (omega arith)
-      go false h false q = let z : ◌≡◌ {A = ℕ} 0 1 = cc in absurd (omega arith)
+      go false h true q = cc
+      go false h false q = cc
 
 module _ (s : List ℕ) (at : ℕ) where
   module _ (l : ℕ) (coded : Bool) where
-    pub refused_test : (r : Test) (n : ℕ) → r.number ≡ n → (n ≡ 0 → ⊥) → D.fault_at s l coded at ≡ fault_of n → Tested s l coded at r
-    refused_test r n e z f = record {
-      number = ap fault_of e ∙ sym f;
-      kind = λ h. absurd (z (sym e ∙ h));
-      next = λ h. absurd (z (sym e ∙ h));
-      inside = λ h. absurd (z (sym e ∙ h));
-    }
-
     pub fault_1 : D.whole_at s at ≡ false → D.fault_at s l coded at ≡ some 1
     unfolding D.fault_at
     fault_1 w = rw w
@@ -268,11 +255,11 @@ module _ (s : List ℕ) (at : ℕ) where
     fault_2 w k = rw (w, k)
 
     module _ (whole : D.whole_at s at ≡ true) (used : D.kind_in_use (D.kind_at s at) ≡ true) where
-      pub fault_place : (n : ℕ) → fault_of n ≡ place_fault (D.kind_at s at) at coded → (n ≡ 0 → ⊥) → D.fault_at s l coded at ≡ fault_of n
+      pub fault_place : (n : ℕ) → some n ≡ place_fault (D.kind_at s at) at coded → D.fault_at s l coded at ≡ some n
       unfolding D.fault_at place_fault
-      fault_place n e z = rw (whole, used) (place_stops (beq (eqb (D.kind_at s at) 1) (eqb at 0)) (not (coded && eqb (D.kind_at s at) 2)) _ n e z)
+      fault_place n e = rw (whole, used) (place_stops (beq (eqb (D.kind_at s at) 1) (eqb at 0)) (not (coded && eqb (D.kind_at s at) 2)) _ n e)
 
-      pub fault_body : fault_of 0 ≡ place_fault (D.kind_at s at) at coded
+      pub fault_body : none ≡ place_fault (D.kind_at s at) at coded
           → D.fault_at s l coded at ≡ body_fault l (D.fields_of (D.kind_at s at)) (D.body_at s at)
       unfolding D.fault_at place_fault body_fault
       fault_body e = rw (whole, used) (place_goes (beq (eqb (D.kind_at s at) 1) (eqb at 0)) (not (coded && eqb (D.kind_at s at) 2)) _ e)
@@ -281,34 +268,10 @@ module _ (s : List ℕ) (at : ℕ) where
   unfolding D.whole_at
   inside w = leb_le w
 
-pub tail_part : (b : List ℕ) (i : ℕ) → take (length b - i) (drop i b) ≡ drop i b
+pub tail_part : {A : Type 0} (b : List A) (i : ℕ) → take (length b - i) (drop i b) ≡ drop i b
 tail_part b i = let d : length (drop i b) ≡ length b - i = length-drop i b in take_all (length b - i) (drop i b) (omega arith)
 
 -- ---- the records in turn
-
-pub places_refused : (bs cs : List ℕ) (r : Places) (n at : ℕ) → r.number ≡ n → r.place ≡ at → (n ≡ 0 → ⊥) → places_of bs cs r ≡ D.Listed.refused n at
-unfolding places_of
-places_refused bs cs r n at e p h =
-    let q : eqb r.number 0 ≡ false = rw e (ne_eqb n 0 h) in
-    rw (q, e, p)
-
--- a refusal, beside which nothing is said of the arrays but how long they are
-pub none_read : (p : D.Listed D.Places) (s bs cs : List ℕ) (r : Places) (n at : ℕ)
-    → (r.number ≡ n) × (r.place ≡ at) × (r.block_count ≡ 0) × (r.code_count ≡ 0) × (r.first_ret ≡ 0)
-    → (n ≡ 0 → ⊥) → length bs ≡ 16 → length cs ≡ 512 → D.Listed.refused n at ≡ p → ReadInto p s bs cs r
-unfolding before_ret
-none_read p s bs cs r n at e h fb fc q = record {
-  places = places_refused bs cs r n at e.0 e.1 h ∙ q;
-  blocks = rw e.2 (omega arith);
-  code = rw e.3 (omega arith);
-  ret = rw (e.3, e.4);
-  all_blocks = fb;
-  all_code = fc;
-}
-
-fine_not : {A : Type 0} (n at : ℕ) (k : D.Listed A) → (n ≡ 0 → ⊥) → D.if_fine (fault_of n) at k ≡ D.Listed.refused n at
-fine_not zero at k h = absurd (h refl)
-fine_not (suc n) at k h = refl
 
 -- room for a record that is taken in
 module _ (k nb nc : ℕ) (room : full_of k nb nc ≡ false) where
@@ -332,8 +295,8 @@ module _ (s bs cs : List ℕ) (nb nc at l : ℕ) (r : D.Listed D.Places) (here :
   opened : D.if_fine (D.fault_at s l (not (eqb nc 0)) at) at (D.if_not (D.full_for (D.kind_at s at) now) 6 at (D.places_from (length s) s (D.next_at s at) (D.put_at (D.kind_at s at) at now))) ≡ r
   opened = rw (locals, some_code_lem cs nc counted) (sym (places_step s at now here) ∙ inv)
 
-  pub stop_fault : (n : ℕ) → fault_of n ≡ D.fault_at s l (not (eqb nc 0)) at → (n ≡ 0 → ⊥) → D.Listed.refused n at ≡ r
-  stop_fault n e h = sym (fine_not n at (D.if_not (D.full_for (D.kind_at s at) now) 6 at (D.places_from (length s) s (D.next_at s at) (D.put_at (D.kind_at s at) at now))) h) ∙ (rw (← e) at opened)
+  pub stop_fault : (n : ℕ) → D.fault_at s l (not (eqb nc 0)) at ≡ some n → D.Listed.refused n at ≡ r
+  stop_fault n e = rw e at opened
 
   module _ (fine : D.fault_at s l (not (eqb nc 0)) at ≡ none) where
     open_fine : D.if_not (D.full_for (D.kind_at s at) now) 6 at (D.places_from (length s) s (D.next_at s at) (D.put_at (D.kind_at s at) at now)) ≡ r

@@ -7,8 +7,8 @@ use Prim.Native.Nat.{ℕ, zero, suc, ◌+◌, ◌-◌, ◌≤◌, ◌<◌}
 use native.Mathlib.Nat.{not-suc-le-zero, le_of_suc-le-suc}
 use native.Mathlib.Numerals.{add-one}
 use native.Mathlib.Omega.{arith}
-use lib.ListN.{length, take, get_or, set, length-take, length-map, get_or-map}
-use lib.Seq.{get_or-take, take-suc-set, take-suc}
+use lib.ListN.{length, take, get_or, set, length-take, length-map}
+use lib.Seq.{take-suc-set}
 use lib.Dec.{leb, eqb}
 use Rattle.meaning.specs.Lists.{all, up_to}
 use Rattle.meaning.proofs.Laws.Base.{both, decide, leb_le, le_leb, leb_gt, eqb_eq, eqb_ne, and_l, and_r}
@@ -34,22 +34,11 @@ pub map_append : {A B : Type 0} (f : A → B) (xs ys : List A) → map f (xs ++ 
 map_append f [] ys = refl
 map_append f (x ∷ xs) ys = ap (λ l. f x ∷ l) (map_append f xs ys)
 
-pub map_take : {A B : Type 0} (f : A → B) (n : ℕ) (xs : List A) → map f (take n xs) ≡ take n (map f xs)
-map_take f zero xs = refl
-map_take f (suc n) [] = refl
-map_take f (suc n) (x ∷ xs) = ap (λ l. f x ∷ l) (map_take f n xs)
-
 -- ---- an array of structs, the first n of them, each by what it stands for
 
 module _ {A B : Type 0} (f : A → B) (xs : List A) (n : ℕ) (fits : n ≤ length xs) where
   pub counted : length (map f (take n xs)) ≡ n
   counted = simp (length-map, length-take) (omega arith)
-
-  pub element : (d : A) (i : ℕ) → i < n → get_or (map f (take n xs)) i (f d) ≡ f (get_or xs i d)
-  element d i h = get_or-map f (take n xs) i d ∙ ap f (get_or-take n xs i d h)
-
-pub unmapped : (X Y : Type 0) (f : X → Y) (l : List X) (n : ℕ) → length (map f l) ≡ n → length l ≡ n
-unmapped X Y f l n e = sym (length-map l f) ∙ e
 
 -- ---- an array that is filled from the front
 
@@ -80,16 +69,6 @@ pub within_list : {A B : Type 0} (f : A → B) (d : A) (e : B) (xs : List A) (k 
 within_list f d e [] k h = absurd (not-suc-le-zero h)
 within_list f d e (x ∷ xs) zero h = refl
 within_list f d e (x ∷ xs) (suc k) h = within_list f d e xs k (le_of_suc-le-suc h)
-
-pub map_filled : {A B : Type 0} (g : A → B) (f : ℕ → B) (out : List A) (ps : List ℕ) (i : ℕ) (v : A) → i < length out → i < length ps
-    → map g (take i out) ≡ map f (take i ps) → g v ≡ f (get_or ps i 0) → map g (take (i + 1) (set out i v)) ≡ map f (take (i + 1) ps)
-map_filled g f out ps i v h l e w = rw (add-one, take-suc-set out i v, take-suc ps i 0 l, map_append, map_append, e, w)
-
-pub all_get : (p : ℕ → Bool) (n : ℕ) (xs : List ℕ) (i : ℕ) → i < n → i < length xs → all p (take n xs) ≡ true → p (get_or xs i 0) ≡ true
-all_get p zero xs i h l e = absurd (not-suc-le-zero h)
-all_get p (suc n) [] i h l e = absurd (not-suc-le-zero l)
-all_get p (suc n) (x ∷ xs) zero h l e = and_l (p x) (all p (take n xs)) e
-all_get p (suc n) (x ∷ xs) (suc i) h l e = all_get p n xs i (le_of_suc-le-suc h) (le_of_suc-le-suc l) (and_r (p x) (all p (take n xs)) e)
 
 -- ---- what holds of each number below n, shown one by one
 

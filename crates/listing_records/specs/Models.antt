@@ -1,15 +1,16 @@
 -- What the structs of the code mean in the definitions.
-use Rattle.std.specs.Prelude.{ℕ, zero, suc, ◌+◌, ◌/◌, ◌%◌, ◌≤◌, min, ◌≡◌, Bool, true, false, cond, not, ◌&&◌, List, [], ◌∷◌, ◌++◌, length, get_or, take, leb, ltb, eqb}
+use Rattle.std.specs.Prelude as Std
+use Rattle.std.specs.Prelude.{ℕ, zero, suc, ◌+◌, ◌/◌, ◌%◌, ◌≤◌, min, ◌≡◌, Bool, true, false, cond, not, ◌&&◌, List, [], ◌∷◌, ◌++◌, length, get_or, take, leb, ltb, eqb, Result, Ok, Err, Some, None, MatchOption, IfOk}
 use Rattle.std.specs.Bool.{beq}
 use Rattle.std.proofs.Math.Option.{Option, none, some}
 use Rattle.meaning.specs.Limits.{max_parameters, max_acquired, max_returns, max_instructions, max_blocks}
 use Rattle.meaning.specs.Lists.{up_to}
 use Rattle.meaning.specs.Listing as D
-use Rattle.listing_records.specs.declared.shapes.Shape.{Shape}
+use Rattle.vm_status.specs.declared.Refusal.{Refusal}
+use Rattle.vm_status.specs.declared.Refused.{Refused}
+use Rattle.vm_status.specs.Models.{number_of}
 use Rattle.listing_records.specs.declared.Field.{Field}
-use Rattle.listing_records.specs.declared.Found.{Found}
-use Rattle.listing_records.specs.declared.Found.TheVariants.{Record, Short, End}
-use Rattle.listing_records.specs.declared.Test.{Test}
+use Rattle.listing_records.specs.declared.Record.{Record}
 use Rattle.listing_records.specs.declared.Places.{Places}
 
 -- ---- shapes
@@ -36,12 +37,9 @@ unfoldable pub packed : ℕ → ℕ → List D.Field
 packed zero x = []
 packed (suc n) x = cond (eqb x 0) [] (field_of (x % 16) ∷ packed n (x / 16))
 
-abbrev pub fields_in : Shape → List D.Field
-fields_in r = packed 4 r.fields
-
-pub record ShapeFor (kind : ℕ) (r : Shape) : Type 0 where
-  pub known : r.known ≡ D.kind_in_use kind
-  pub fields : fields_in r ≡ D.fields_of kind
+-- a kind that is in use, by its fields
+abbrev pub ShapeFor : ℕ → Std.Option ℕ → Type 0
+ShapeFor kind r = MatchOption r (D.kind_in_use kind ≡ false) (λ x. (D.kind_in_use kind ≡ true) × (packed 4 x ≡ D.fields_of kind))
 
 -- the least number that a field of a fixed width may not start with
 abbrev pub limit_of : ℕ → ℕ → ℕ
@@ -95,10 +93,10 @@ pub record FieldFor (l : ℕ) (f : D.Field) (b : List ℕ) (r : Field) : Type 0 
 
 -- ---- records
 
--- a refusal's number in the code; 0 stands for none
-abbrev pub fault_of : ℕ → Option ℕ
-fault_of zero = none
-fault_of (suc n) = some (suc n)
+-- the number of the test that failed, if one did
+abbrev pub fault_of : {A : Type 0} → Result A Refusal → Option ℕ
+fault_of (Ok a) = none
+fault_of (Err e) = some (number_of e)
 
 -- a whole record: its kind, and where the next one starts
 pub record Head : Type 0 where
@@ -106,10 +104,10 @@ pub record Head : Type 0 where
   pub next : ℕ
 
 -- What was found at a place, in the numbers of document 01: a record; refusal 1, "input .. ends within a record"; no byte is left.
-abbrev pub found_of : ℕ → Found → D.Listed (Option Head)
-found_of at (Record k n) = D.Listed.read (some (record { kind = k; next = n.at }))
-found_of at Short = D.Listed.refused 1 at
-found_of at End = D.Listed.read none
+abbrev pub found_of : ℕ → Result (Std.Option Record) Refusal → D.Listed (Option Head)
+found_of at (Ok (Some r)) = D.Listed.read (some (record { kind = r.kind; next = r.next.at }))
+found_of at (Ok None) = D.Listed.read none
+found_of at (Err e) = D.Listed.refused (number_of e) at
 
 unfoldable pub found_at : List ℕ → ℕ → D.Listed (Option Head)
 found_at s at =
@@ -125,19 +123,21 @@ place_fault k at coded = D.unless (beq (eqb k 1) (eqb at 0)) 4 (D.unless (not (c
 unfoldable pub body_fault : ℕ → List D.Field → List ℕ → Option ℕ
 body_fault l fs b = D.unless (D.fits_body l fs b) 3 (D.unless (D.within_limits fs b) 6 none)
 
-pub record Tested (s : List ℕ) (l : ℕ) (coded : Bool) (at : ℕ) (r : Test) : Type 0 where
-  pub number : fault_of r.number ≡ D.fault_at s l coded at
-  pub kind : r.number ≡ 0 → r.kind ≡ D.kind_at s at
-  pub next : r.number ≡ 0 → r.next ≡ D.next_at s at
-  pub inside : r.number ≡ 0 → r.next ≤ length s
+-- no test of the record at a place fails, and it is this one
+pub record Passed (s : List ℕ) (l : ℕ) (coded : Bool) (at : ℕ) (r : Record) : Type 0 where
+  pub fine : D.fault_at s l coded at ≡ none
+  pub kind : r.kind ≡ D.kind_at s at
+  pub next : r.next.at ≡ D.next_at s at
+  pub inside : r.next.at ≤ length s
+
+-- what the tests of the record at a place say: that it passed, or the number of the first that fails
+abbrev pub Tested : List ℕ → ℕ → Bool → ℕ → Result Record Refusal → Type 0
+Tested s l coded at (Ok r) = Passed s l coded at r
+Tested s l coded at (Err e) = D.fault_at s l coded at ≡ some (number_of e)
 
 -- that there is no room for a record of this kind, after so many blocks and instructions
 abbrev pub full_of : ℕ → ℕ → ℕ → Bool
 full_of k blocks code = cond (eqb k 1) false (cond (eqb k 2) (leb max_blocks blocks) (leb max_instructions code))
-
-abbrev pub pick_places : Bool → D.Places → ℕ → ℕ → D.Listed D.Places
-pick_places true w n at = D.Listed.read w
-pick_places false w n at = D.Listed.refused n at
 
 -- how many instructions stand before the first Ret, of those whose records start at these places
 unfoldable pub before_ret : List ℕ → List ℕ → ℕ
@@ -152,14 +152,19 @@ one_more k first n = cond (eqb first n && not (eqb k 23)) (n + 1) first
 abbrev pub places_in : List ℕ → List ℕ → Places → D.Places
 places_in bs cs r = record { blocks = take r.block_count bs; code = take r.code_count cs }
 
-unfoldable pub places_of : List ℕ → List ℕ → Places → D.Listed D.Places
-places_of bs cs r = pick_places (eqb r.number 0) (places_in bs cs r) r.number r.place
+abbrev pub places_of : List ℕ → List ℕ → Result Places Refused → D.Listed D.Places
+places_of bs cs (Ok w) = D.Listed.read (places_in bs cs w)
+places_of bs cs (Err e) = D.Listed.refused (number_of e.refusal) e.place
+
+-- the counts are within the limits, and the last one is that of the instructions before the first Ret
+pub record Counts (s cs : List ℕ) (w : Places) : Type 0 where
+  pub blocks : w.block_count ≤ max_blocks
+  pub code : w.code_count ≤ max_instructions
+  pub ret : w.first_ret ≡ before_ret s (take w.code_count cs)
 
 -- What the reading of s answers, and what it leaves in the two arrays: the places p, or their refusal.
-pub record ReadInto (p : D.Listed D.Places) (s bs cs : List ℕ) (r : Places) : Type 0 where
+pub record ReadInto (p : D.Listed D.Places) (s bs cs : List ℕ) (r : Result Places Refused) : Type 0 where
   pub places : places_of bs cs r ≡ p
-  pub blocks : r.block_count ≤ max_blocks
-  pub code : r.code_count ≤ max_instructions
-  pub ret : r.first_ret ≡ before_ret s (take r.code_count cs)
+  pub counts : IfOk r (λ w. Counts s cs w)
   pub all_blocks : length bs ≡ max_blocks
   pub all_code : length cs ≡ max_instructions

@@ -7,27 +7,24 @@ ghost use Rattle.std.specs.Prelude.{◌≡◌, ◌+◌, ◌≤◌, ◌<◌, [], 
 ghost use Rattle.meaning.specs.Limits.{max_bytes, max_instructions, max_blocks};
 ghost use Rattle.meaning.specs.Lists.{all};
 ghost use Rattle.meaning.specs.Listing.{u16_at, whole_at, body_at, locals_of, is_token, no_places, places_from, read_places};
-ghost use Rattle.listing_records.specs.Models.{found_of, found_at, field_of, fields_in, limit_of, FieldFor, fault_of, place_fault, body_fault, Tested, limit_rows, keeps_to, full_of, one_more, ReadInto};
+ghost use Rattle.listing_records.specs.Models.{found_of, found_at, field_of, packed, limit_of, FieldFor, fault_of, place_fault, body_fault, Tested, limit_rows, keeps_to, full_of, one_more, ReadInto};
 
 use meaning::{
     MAX_ACQUIRED, MAX_BLOCKS, MAX_BYTES, MAX_INSTRUCTIONS, MAX_LOCALS, MAX_PARAMETERS, MAX_RETURNS,
 };
-use shapes::{ACQUIRED, FLAG, LOCAL, PARAMETERS, RET, RETURNS, SUCCESSORS, Shape, TOKEN, WORD};
+use shapes::{ACQUIRED, LOCAL, PARAMETERS, RET, RETURNS, SUCCESSORS, WORD};
+use vm_status::{Refusal, Refused};
 
 #[derive(Clone, Copy)]
 pub struct Cursor {
     pub at: usize,
 }
 
-// What stands at a cursor; `found_of` gives each case's number and values.
+// A whole record: its kind, and where the next one starts.
 #[derive(Clone, Copy)]
-pub enum Found {
-    // A whole record; the next one starts at `next`.
-    Record { kind: u16, next: Cursor },
-    // A record that ends too early: refusal 1.
-    Short,
-    // No byte is left.
-    End,
+pub struct Record {
+    pub kind: u16,
+    pub next: Cursor,
 }
 
 // A byte, 0 past the end.
@@ -86,24 +83,23 @@ fn whole_at(s: &[u8], at: usize) -> bool
     4 + len <= left
 }
 
-// What stands at a cursor.
-pub fn read(s: &[u8], c: Cursor) -> Found
+// What stands at a cursor: None where no byte is left, refusal 1 where a record ends too early.
+pub fn read(s: &[u8], c: Cursor) -> Result<Option<Record>, Refusal>
     ensures { found_of c.at result ≡ found_at s.now c.at }
 {
     let at = c.at;
     if s.len() <= at {
-        return Found::End;
+        return Ok(None);
     }
-    if whole_at(s, at) {
-        let kind = u16_in(s, at + 2);
-        let next = at + 4 + u16_in(s, at) as usize;
-        Found::Record {
-            kind,
-            next: Cursor { at: next },
-        }
-    } else {
-        Found::Short
+    if !whole_at(s, at) {
+        return Err(Refusal::Short);
     }
+    let kind = u16_in(s, at + 2);
+    let next = at + 4 + u16_in(s, at) as usize;
+    Ok(Some(Record {
+        kind,
+        next: Cursor { at: next },
+    }))
 }
 
 // The body of the record at a cursor, as a part of the caller's bytes; none, if no whole record stands there.
@@ -125,14 +121,7 @@ pub fn body<'a>(s: &'a [u8], c: Cursor) -> &'a [u8]
 fn tokens_only(b: &[u8]) -> bool
     ensures { result ≡ all is_token b.now }
 {
-    let mut i = 0;
-    while i < b.len() {
-        if 2 < b[i] {
-            return false;
-        }
-        i += 1;
-    }
-    true
+    b.iter().all(|x| *x <= 2)
 }
 
 // That the n bytes from a place on are there, and are tokens.
@@ -207,89 +196,60 @@ fn test_field(b: &[u8], f: u16, locals: u8) -> Field
     }
 }
 
-// A body against its shape: 3, 6, or 0.
-fn test_body(b: &[u8], shape: Shape, locals: u8) -> u8
-    ensures { fault_of result ≡ body_fault locals (fields_in shape) b.now }
+// A body against its fields, packed as in `shapes`: refusal 3, or 6.
+fn test_body(b: &[u8], shape: u16, locals: u8) -> Result<(), Refusal>
+    ensures { fault_of result ≡ body_fault locals (packed 4 shape) b.now }
 {
-    let mut fields = shape.fields;
+    let mut fields = shape;
+    let mut rest = b;
     let mut within = true;
-    let mut i = 0;
+    // A field says itself how much of the body is left after it: no iterator says that plainer.
     while fields != 0 {
-        let rest = &b[i..];
         if rest.len() == 0 {
-            return 3;
+            return Err(Refusal::BadBody);
         }
         let t = test_field(rest, fields % 16, locals);
         if (rest.len() < t.width) | !t.right {
-            return 3;
+            return Err(Refusal::BadBody);
         }
         within = within & t.within;
-        i += t.width;
+        rest = &rest[t.width..];
         fields = fields / 16;
     }
-    if i < b.len() {
-        return 3;
+    if 0 < rest.len() {
+        return Err(Refusal::BadBody);
     }
-    if within { 0 } else { 6 }
+    if within {
+        Ok(())
+    } else {
+        Err(Refusal::PastLimit)
+    }
 }
 
 // ---- the tests of a record
 
-// `number` is 1, 2, 4, 33, 3, 6, or 0 where none of these tests fails; then `kind` and `next` are the record's. Beside another number they
-// are free, and nothing is said of them.
-#[derive(Clone, Copy)]
-struct Test {
-    number: u8,
-    kind: u16,
-    next: usize,
-}
-
-fn failed(number: u8) -> Test
-    ensures { result.number ≡ number }
-{
-    Test {
-        number,
-        kind: 0,
-        next: 0,
-    }
-}
-
-// Where a record may stand: 4, unless the first one and no other is of kind 1; 33, if a block stands behind an instruction; else 0.
-fn misplaced(kind: u16, at: usize, coded: bool) -> u8
+// Where a record may stand: refusal 4, unless the first one and no other is of kind 1; 33, if a block stands behind an instruction.
+fn test_place(kind: u16, at: usize, coded: bool) -> Result<(), Refusal>
     ensures { fault_of result ≡ place_fault kind at coded }
 {
     if (kind == 1) != (at == 0) {
-        return 4;
+        return Err(Refusal::MisplacedFunction);
     }
     if coded & (kind == 2) {
-        return 33;
+        return Err(Refusal::LateBlock);
     }
-    0
+    Ok(())
 }
 
-// The first test of the record at a place that fails; `coded`: an instruction stands before it.
-fn test_record(s: &[u8], at: usize, locals: u8, coded: bool) -> Test
+// The record at a place, or the first of its tests that fails; `coded`: an instruction stands before it.
+fn test_record(s: &[u8], at: usize, locals: u8, coded: bool) -> Result<Record, Refusal>
     ensures { Tested s.now locals coded at result }
 {
-    match read(s, Cursor { at }) {
-        Found::Record { kind, next } => {
-            let shape = shapes::shape_of(kind);
-            if !shape.known {
-                return failed(2);
-            }
-            let number = misplaced(kind, at, coded);
-            if number != 0 {
-                return failed(number);
-            }
-            Test {
-                number: test_body(body(s, Cursor { at }), shape, locals),
-                kind,
-                next: next.at,
-            }
-        }
-        Found::Short => failed(1),
-        Found::End => failed(1),
-    }
+    let record = read(s, Cursor { at })?.ok_or(Refusal::Short)?;
+    let shape = shapes::shape_of(record.kind).ok_or(Refusal::UnknownKind)?;
+    test_place(record.kind, at, coded)?;
+    test_body(body(s, Cursor { at }), shape, locals)?;
+    Ok(record)
 }
 
 // That a byte is below a limit.
@@ -316,7 +276,13 @@ fn keeps_to_row(s: &[u8], at: usize, n: u16, row: &[u16; 6]) -> bool
 }
 
 // What `test_record` says. Where the record keeps to its row no test fails, and it is not asked; the kinds 10 to 27 have rows.
-fn test_by_row(s: &[u8], at: usize, locals: u8, coded: bool, rows: &[[u16; 6]; 18]) -> Test
+fn test_by_row(
+    s: &[u8],
+    at: usize,
+    locals: u8,
+    coded: bool,
+    rows: &[[u16; 6]; 18],
+) -> Result<Record, Refusal>
     requires { (at < length s.now) × (rows.now ≡ limit_rows locals) }
     ensures { Tested s.now locals coded at result }
 {
@@ -326,11 +292,11 @@ fn test_by_row(s: &[u8], at: usize, locals: u8, coded: bool, rows: &[[u16; 6]; 1
         let kind = u16_in(s, at + 2);
         if (10 <= kind) & (kind < 28) {
             if keeps_to_row(s, at, n, &rows[kind as usize - 10]) {
-                return Test {
-                    number: 0,
+                let next = at + 4 + n as usize;
+                return Ok(Record {
                     kind,
-                    next: at + 4 + n as usize,
-                };
+                    next: Cursor { at: next },
+                });
             }
         }
     }
@@ -339,27 +305,12 @@ fn test_by_row(s: &[u8], at: usize, locals: u8, coded: bool, rows: &[[u16; 6]; 1
 
 // ---- all records
 
-// How the reading ended: a refusal with its number and place (number 0: none), how many block records and instruction records there are, and
-// how many instructions stand before the first Ret. Beside a refusal the counts are free: every choice is within the limits.
+// How many block records and instruction records there are, and how many instructions stand before the first Ret.
 #[derive(Clone, Copy)]
 pub struct Places {
-    pub number: u8,
-    pub place: usize,
     pub block_count: usize,
     pub code_count: usize,
     pub first_ret: usize,
-}
-
-fn refused_at(number: u8, place: usize) -> Places
-    ensures { (result.number ≡ number) × (result.place ≡ place) × (result.block_count ≡ 0) × (result.code_count ≡ 0) × (result.first_ret ≡ 0) }
-{
-    Places {
-        number,
-        place,
-        block_count: 0,
-        code_count: 0,
-        first_ret: 0,
-    }
 }
 
 // That a record of this kind would be one block or one instruction too many.
@@ -385,13 +336,14 @@ fn before_ret(kind: u16, first_ret: usize, code_count: usize) -> usize
     }
 }
 
+// The cursor moves on by what each record says of its length, and the record is put into one of two arrays: no iterator says it plainer.
 fn read_records(
     s: &[u8],
     locals: u8,
     blocks: &mut [u16; MAX_BLOCKS],
     code: &mut [u16; MAX_INSTRUCTIONS],
-) -> Places
-    requires { (length s.now ≤ max_bytes) × (locals ≡ locals_of (body_at s.now 0)) × (length blocks.old ≡ max_blocks) × (length code.old ≡ max_instructions) }
+) -> Result<Places, Refused>
+    requires { (length s.now ≤ max_bytes) × (locals ≡ locals_of (body_at s.now 0)) }
     ensures { ReadInto (places_from (length s.now) s.now 0 no_places) s.now blocks.new code.new result }
 {
     let rows = shapes::limit_rows(locals);
@@ -400,36 +352,33 @@ fn read_records(
     let mut first_ret: usize = 0;
     let mut at: usize = 0;
     while at < s.len() {
-        let t = test_by_row(s, at, locals, code_count != 0, &rows);
-        if t.number != 0 {
-            return refused_at(t.number, at);
+        let r = test_by_row(s, at, locals, code_count != 0, &rows).map_err(|refusal| Refused {
+            refusal,
+            place: at,
+        })?;
+        let kind = r.kind;
+        if is_full(kind, block_count, code_count) {
+            return Err(Refused {
+                refusal: Refusal::PastLimit,
+                place: at,
+            });
         }
-        if is_full(t.kind, block_count, code_count) {
-            return refused_at(6, at);
-        }
-        if t.kind == 2 {
+        if kind == 2 {
             blocks[block_count] = at as u16;
             block_count += 1;
-        } else if t.kind != 1 {
-            first_ret = before_ret(t.kind, first_ret, code_count);
+        } else if kind != 1 {
+            first_ret = before_ret(kind, first_ret, code_count);
             code[code_count] = at as u16;
             code_count += 1;
         }
-        at = t.next;
+        at = r.next.at;
     }
-    Places {
-        number: 0,
-        place: 0,
+    Ok(Places {
         block_count,
         code_count,
         first_ret,
-    }
+    })
 }
-
-// How long a lent array is, is known only of a copy. The copies are dead, and compiled to nothing.
-fn whole(blocks: [u16; MAX_BLOCKS], code: [u16; MAX_INSTRUCTIONS])
-    ensures { (length blocks ≡ max_blocks) × (length code ≡ max_instructions) }
-{}
 
 // Every byte string gets the places of its records, or the refusal and the place of document 01: its length, then record by record.
 // The places are put into the lent arrays; their slots from a count on are free, and beside a refusal all of them.
@@ -437,14 +386,14 @@ pub fn read_places(
     s: &[u8],
     blocks: &mut [u16; MAX_BLOCKS],
     code: &mut [u16; MAX_INSTRUCTIONS],
-) -> Places
+) -> Result<Places, Refused>
     ensures { ReadInto (read_places s.now) s.now blocks.new code.new result }
 {
-    let b = *blocks;
-    let c = *code;
-    whole(b, c);
     if MAX_BYTES < s.len() {
-        return refused_at(6, MAX_BYTES);
+        return Err(Refused {
+            refusal: Refusal::PastLimit,
+            place: MAX_BYTES,
+        });
     }
     let head = body(s, Cursor { at: 0 });
     read_records(s, byte_at(head, 1), blocks, code)

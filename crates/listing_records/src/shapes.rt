@@ -3,6 +3,8 @@ ghost use Rattle.std.specs.Prelude.{◌≡◌, ◌≤◌};
 ghost use Rattle.meaning.specs.Listing.{kind_in_use, fields_of};
 ghost use Rattle.listing_records.specs.Models.{packed, ShapeFor, limit_row, limit_rows};
 
+// Fields and kinds are numbers and no enums: the fields of a body are packed into one number, and a kind picks a row (request A6, below).
+
 // The fields; those of a fixed width first. A range that is passed is refusal 3, a limit that is passed is refusal 6.
 pub const FLAG: u16 = 1; // u8: 0 or 1
 
@@ -24,14 +26,6 @@ pub const FRAME: u16 = 9; // P u8, L u8, P tokens; P at most L, L at most 16
 
 // The kind of the instruction Ret.
 pub const RET: u16 = 23;
-
-// A kind's body, field by field: the first field is the last hexadecimal digit, and so on up to a digit 0. A kind that is not known has
-// no fields.
-#[derive(Clone, Copy)]
-pub struct Shape {
-    pub known: bool,
-    pub fields: u16,
-}
 
 // Request A6: a decision over the kind number yields the shapes and the rows, and no table of them stands in read-only memory. The decision has
 // this form because the compiler makes a table again of other ones: of a `match` with all kinds in it, of rows that are handed back, and of ten
@@ -59,7 +53,7 @@ const VALUES: u16 = WORD + 16 * WORD + 256 * TOKEN;
 
 const VECTOR: u16 = TOKEN + 16 * FLAG + 256 * FLAG + 4096 * TOKEN;
 
-// The fields of a kind.
+// The fields of a kind, field by field: the first one is the last hexadecimal digit, and so on up to a digit 0. A kind that is not in use has none.
 fn fields_of(kind: u16) -> u16
     ensures { packed 4 result ≡ fields_of kind }
 {
@@ -85,13 +79,14 @@ fn fields_of(kind: u16) -> u16
     }
 }
 
-// The shape of a kind; `known` is false where no kind in use has this number.
-pub fn shape_of(kind: u16) -> Shape
+// The fields of a kind, packed; None where no kind in use has this number.
+pub fn shape_of(kind: u16) -> Option<u16>
     ensures { ShapeFor kind result }
 {
-    Shape {
-        known: in_use(kind),
-        fields: fields_of(kind),
+    if in_use(kind) {
+        Some(fields_of(kind))
+    } else {
+        None
     }
 }
 

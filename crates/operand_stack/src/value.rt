@@ -1,44 +1,24 @@
-// push and pop by value: the stack with its depth is taken and handed back. Refused, it is as it was, the free part of its array too, and the
-// value is free.
+// push and pop by value: the stack is taken and, with one operand more or less, handed back.
 ghost use Rattle.std.specs.Prelude.{◌≡◌, [], ◌∷◌};
-ghost use Rattle.abstract_state.specs.Models.{operand_of, halted};
-ghost use Rattle.operand_stack.specs.Models.{stack_of, pop_one, push_each, Keeps};
+ghost use Rattle.abstract_state.specs.Models.{operand_of};
+ghost use Rattle.operand_stack.specs.Models.{stack_of, answered, took, pop_one, push_each};
 
+use crate::OperandStack;
 use abstract_state::state::{AbstractValue, Operands};
+use vm_status::Refusal;
 
-#[derive(Clone, Copy)]
-pub struct Pushed {
-    pub refusal: u8,
-    pub stack: Operands,
-}
-
-#[derive(Clone, Copy)]
-pub struct TakenOff {
-    pub refusal: u8,
-    pub value: AbstractValue,
-    pub stack: Operands,
-}
-
-pub fn push(stack: Operands, value: AbstractValue) -> Pushed
-    ensures { (halted 0 0 0 result.refusal (stack_of result.stack) ≡ push_each (stack_of stack) (operand_of value ∷ [])) × Keeps result.refusal stack result.stack }
+pub fn push(stack: Operands, value: AbstractValue) -> Result<Operands, Refusal>
+    ensures { answered stack_of result ≡ push_each (stack_of stack) (operand_of value ∷ []) }
 {
-    let mut list = stack.list;
-    let r = crate::push(&mut list, stack.len, value);
-    Pushed {
-        refusal: r.refusal,
-        stack: Operands { list, len: r.depth },
-    }
+    let mut s = OperandStack { operands: stack };
+    s.push(value)?;
+    Ok(s.operands)
 }
 
-pub fn pop(stack: Operands) -> TakenOff
-    ensures { (halted 0 0 0 result.refusal (record { what = operand_of result.value; rest = stack_of result.stack }) ≡ pop_one (stack_of stack)) × Keeps result.refusal stack result.stack }
+pub fn pop(stack: Operands) -> Result<(AbstractValue, Operands), Refusal>
+    ensures { answered (λ (p : AbstractValue × Operands). took (operand_of p.0) p.1) result ≡ pop_one (stack_of stack) }
 {
-    let list = stack.list;
-    let p = crate::pop(&list, stack.len);
-    let value = p.value;
-    TakenOff {
-        refusal: p.refusal,
-        value,
-        stack: Operands { list, len: p.depth },
-    }
+    let mut s = OperandStack { operands: stack };
+    let value = s.pop()?;
+    Ok((value, s.operands))
 }

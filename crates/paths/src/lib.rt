@@ -2,33 +2,26 @@
 //
 //   here       the Rust
 //   Label      abstract_state.rs 53 `Label`, the one label type
-//   Ordering   the derived order of `Vec`, references.rs 186
 //
 // A path is the labels of a row (`references`): paths.rs 7 `leq`, 11 `factor` and 17 `append` are `starts_with`, `factor` and `splice` there.
 #![tactic(auto)]
 
-ghost use Rattle.std.specs.Prelude.{◌≡◌};
+ghost use Rattle.std.specs.Prelude.{◌≡◌, ◌<◌};
 ghost use Rattle.meaning.specs.Labels.{number_of};
 ghost use Rattle.paths.specs.Models.{label_of};
 
 // Document 01's label. Its number puts the kind before the index, so that labels stand in the order of their numbers.
-#[derive(Clone, Copy)]
+#[derive(Clone, Copy, PartialEq, Eq)]
 pub enum Label {
     Local(u16),
     Global(u16),
     Field(u16),
 }
 
-#[derive(Clone, Copy)]
-pub enum Ordering {
-    Less,
-    Equal,
-    Greater,
-}
-
 impl Label {
+    // Below 262,144, four times 65,536.
     pub fn number(self) -> u32
-        ensures { result ≡ number_of (label_of self) }
+        ensures { (result ≡ number_of (label_of self)) × (result < 262144) }
     {
         match self {
             Label::Local(i) => i as u32,

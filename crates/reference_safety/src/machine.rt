@@ -1,119 +1,90 @@
-// The state and the depth of the operand stack that the steps of a block go through, beside their arrays, and the pushes of a step. Where each
-// stands in the Rust (mod.rs):
+// The state and the operand stack that the steps of a block go through, beside their arrays, and the pushes of a step. Where each stands in the
+// Rust (mod.rs):
 //
-//   here           the Rust
-//   pushed         the push of an entry point's value, as at 147
-//   push_results   the loop of `call`, 95
-//   push_new       the pushes of `value_for`, 286 to 315, and of NonReference, 113 in `pack` and 120 in `unpack`
-ghost use Rattle.std.specs.Prelude.{ℕ, List};
+//   here          the Rust
+//   push_answer   the push of an entry point's value, as at 147
+//   push_new      the pushes of `value_for`, 286 to 315, and of NonReference, 113 in `pack` and 120 in `unpack`
+ghost use Rattle.std.specs.Prelude.{◌≡◌, ℕ, ◌&&◌, List, ◌==◌};
+ghost use Rattle.meaning.specs.Answers.{done};
+ghost use Rattle.meaning.specs.Blocks.{machine_at};
 ghost use Rattle.meaning.specs.EntryPoints.{value_for};
 ghost use Rattle.meaning.specs.Steps as T;
 ghost use Rattle.file_format.specs.Models.{token_of};
-ghost use Rattle.abstract_state.specs.Models.{operands_of, words};
-ghost use Rattle.operand_stack.specs.Models.{stack_in};
-ghost use Rattle.reference_safety.specs.Models.{board, Steps, Runs, Pushed};
+ghost use Rattle.abstract_state.specs.Models.{words};
+ghost use Rattle.operand_stack.specs.Models.{held};
+ghost use Rattle.reference_safety.specs.Models.{board, heeding, Steps, StepsTo, Runs, Pushed};
 
 use abstract_state::basic_calls::refuse;
-use abstract_state::state::{AbstractState, Operands};
+use abstract_state::state::AbstractState;
 use abstract_state_steps::value_for;
-use file_format::SignatureToken;
-use meaning::{MAX_NAMES, MAX_OPERANDS};
-use operand_stack::{push, push_all, push_values};
+use file_format::{CodeOffset, SignatureToken};
+use meaning::MAX_NAMES;
+use operand_stack::OperandStack;
+use vm_status::Refusal;
 
 // It has stopped where the state has.
 #[derive(Clone, Copy)]
 pub struct Machine {
     pub state: AbstractState,
-    pub depth: usize,
+    pub stack: OperandStack,
 }
 
-// What the last step answered is pushed.
-pub(crate) fn pushed(stack: &mut [u32; MAX_OPERANDS], m: Machine) -> Machine
-    ensures { (ls ns : List ℕ) (es : List (List ℕ)) → Pushed (words ls ns es m.state) stack.old m.depth (board ls ns es stack.new result) }
-{
-    let state = m.state;
-    let v = state.value;
-    let p = push(stack, m.depth, v);
-    let s = refuse(state, p.refusal);
-    Machine {
-        state: s,
-        depth: p.depth,
+impl Machine {
+    pub(crate) fn goes_on(&self) -> bool
+        ensures { result ≡ (self.now.state.violation == 0 && self.now.state.refusal == 0) }
+    {
+        (self.state.violation == 0) & (self.state.refusal == 0)
     }
-}
 
-// Operands that are given, the first one first.
-pub(crate) fn push_results(stack: &mut [u32; MAX_OPERANDS], m: Machine, values: Operands) -> Machine
-    ensures { (ls ns : List ℕ) (es : List (List ℕ)) → Runs (T.push_all (stack_in stack.old m.depth) (operands_of values)) (words ls ns es m.state) stack.old (board ls ns es stack.new result) }
-{
-    let state = m.state;
-    let p = push_all(stack, m.depth, values);
-    let s = refuse(state, p.refusal);
-    Machine {
-        state: s,
-        depth: p.depth,
+    // The instruction at this offset is next.
+    pub(crate) fn at_offset(&mut self, offset: CodeOffset)
+        ensures { (ls ns : List ℕ) (es : List (List ℕ)) → Steps (λ q. done (machine_at offset.0 q)) (board ls ns es self.old) (board ls ns es self.new) }
+    {
+        self.state.offset = offset;
     }
-}
 
-// n values or new references.
-pub(crate) fn push_new(
-    names: &mut [u32; MAX_NAMES],
-    stack: &mut [u32; MAX_OPERANDS],
-    m: Machine,
-    n: u16,
-    token: SignatureToken,
-) -> Machine
-    ensures { (ls : List ℕ) (es : List (List ℕ)) → Runs (T.push_new n (token_of token) (stack_in stack.old m.depth)) (words ls names.old es m.state) stack.old (board ls names.new es stack.new result) }
-{
-    if let SignatureToken::Value = token {
-        let state = m.state;
-        let p = push_values(stack, m.depth, n);
-        let s = refuse(state, p.refusal);
-        return Machine {
-            state: s,
-            depth: p.depth,
-        };
+    // A step's refusal stops the state, unless it has stopped.
+    pub(crate) fn heed(&mut self, answer: Result<(), Refusal>)
+        ensures { (ls ns : List ℕ) (es : List (List ℕ)) → Steps (heeding answer) (board ls ns es self.old) (board ls ns es self.new) }
+    {
+        if let Err(r) = answer {
+            self.state = refuse(self.state, r);
+        }
     }
-    push_each(names, stack, m, n, token)
+
+    // What the last step answered is pushed.
+    pub(crate) fn push_answer(&mut self) -> Result<(), Refusal>
+        ensures { (ls ns : List ℕ) (es : List (List ℕ)) → Pushed (words ls ns es self.old.state) (held self.old.stack) result (board ls ns es self.new) }
+    {
+        self.stack.push(self.state.value)
+    }
 }
 
 fn push_one(
     names: &mut [u32; MAX_NAMES],
-    stack: &mut [u32; MAX_OPERANDS],
-    m: Machine,
+    m: &mut Machine,
     token: SignatureToken,
-) -> Machine
-    ensures { (ls : List ℕ) (es : List (List ℕ)) → Steps (λ x. T.pushed x.stack (value_for (token_of token) x.state)) (board ls names.old es stack.old m) (board ls names.new es stack.new result) }
+) -> Result<(), Refusal>
+    ensures { (ls : List ℕ) (es : List (List ℕ)) → StepsTo (λ x. T.pushed x.stack (value_for (token_of token) x.state)) (board ls names.old es m.old) result (board ls names.new es m.new) }
 {
-    let state = m.state;
-    let s = value_for(names, state, token);
-    pushed(
-        stack,
-        Machine {
-            state: s,
-            depth: m.depth,
-        },
-    )
+    m.state = value_for(names, m.state, token);
+    m.push_answer()
 }
 
-// At most seventeen turns, since the stack fills.
-fn push_each(
+// n values or new references. At most seventeen turns, since the stack fills.
+pub(crate) fn push_new(
     names: &mut [u32; MAX_NAMES],
-    stack: &mut [u32; MAX_OPERANDS],
-    m: Machine,
+    m: &mut Machine,
     n: u16,
     token: SignatureToken,
-) -> Machine
-    ensures { (ls : List ℕ) (es : List (List ℕ)) → Steps (λ x. T.push_new n (token_of token) x.stack x.state) (board ls names.old es stack.old m) (board ls names.new es stack.new result) }
+) -> Result<(), Refusal>
+    ensures { (ls : List ℕ) (es : List (List ℕ)) → Runs (T.push_new n (token_of token) (held m.old.stack)) (words ls names.old es m.old.state) result (board ls names.new es m.new) }
 {
-    let mut out = m;
-    let mut left = n;
-    while 0 < left {
-        if (out.state.violation == 0) & (out.state.refusal == 0) {
-            out = push_one(names, stack, out, token);
-            left -= 1;
-        } else {
-            return out;
-        }
+    if let SignatureToken::Value = token {
+        return m.stack.push_values(n);
     }
-    out
+    for i in 0..n {
+        push_one(names, m, token)?;
+    }
+    Ok(())
 }

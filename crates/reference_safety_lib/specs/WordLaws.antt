@@ -1,6 +1,6 @@
--- Words written one by one.
-use Rattle.std.specs.Prelude.{ℕ, ◌≤◌, ◌<◌, ◌≡◌, refl, List, [], ◌∷◌, true, false, length, drop, set}
-use Rattle.std.proofs.Common.{arith, sym, ◌∙◌, true≢false, le-leb}
+-- The answer and the area after a call, with room for the words or without.
+use Rattle.std.specs.Prelude.{ℕ, ◌≤◌, ◌<◌, ◌≡◌, refl, List, true, false, length}
+use Rattle.std.proofs.Common.{sym, ◌∙◌, true≢false, le-leb}
 use Rattle.std.proofs.lemmas.Bool.{lt-leb}
 use Rattle.meaning.specs.Area.{cleared}
 use Rattle.meaning.specs.Verify.{Answered}
@@ -20,14 +20,3 @@ module _ (a : Answered) (ws s area : List ℕ) where
 
   pub room_kept : (ws' area' : List ℕ) → answer_words ≤ length ws → ws' ≡ put_words (words_of a) ws → Left s area area' → (true ≡ fits ws) × (ws' ≡ written a ws) × Kept ws s area area'
   room_kept ws' area' h e z = (sym (le-leb answer_words (length ws) h), (room a ws area ws' (cleared area) h e refl).1, record { left = λ f. z; same = λ f. absurd (true≢false (sym (le-leb answer_words (length ws) h) ∙ f)) })
-
-pub put_words_lem : (ws : List ℕ) (a b c d e f g : ℕ) → answer_words ≤ length ws
-    → set (set (set (set (set (set (set ws 0 a) 1 b) 2 c) 3 d) 4 e) 5 f) 6 g ≡ a ∷ b ∷ c ∷ d ∷ e ∷ f ∷ g ∷ drop answer_words ws
-put_words_lem [] a b c d e f g h = absurd (omega (arith, h))
-put_words_lem (t ∷ []) a b c d e f g h = absurd (omega (arith, h))
-put_words_lem (t ∷ u ∷ []) a b c d e f g h = absurd (omega (arith, h))
-put_words_lem (t ∷ u ∷ v ∷ []) a b c d e f g h = absurd (omega (arith, h))
-put_words_lem (t ∷ u ∷ v ∷ w ∷ []) a b c d e f g h = absurd (omega (arith, h))
-put_words_lem (t ∷ u ∷ v ∷ w ∷ x ∷ []) a b c d e f g h = absurd (omega (arith, h))
-put_words_lem (t ∷ u ∷ v ∷ w ∷ x ∷ y ∷ []) a b c d e f g h = absurd (omega (arith, h))
-put_words_lem (t ∷ u ∷ v ∷ w ∷ x ∷ y ∷ z ∷ ws) a b c d e f g h = refl

@@ -8,7 +8,6 @@ ghost use Rattle.meaning.specs.Laws.Answer.{Low};
 ghost use Rattle.meaning.specs.Verify as Whole;
 ghost use Rattle.absint.specs.Models.{ruling_of, verdict_of};
 ghost use Rattle.reference_safety_lib.specs.Words.{answer_words, fits, written, area_after, put_words, words_of};
-ghost use Rattle.reference_safety_lib.specs.Models.{words_in};
 
 use absint::{Ruling, Verdict, verify};
 
@@ -16,17 +15,6 @@ pub(crate) const ANSWER_WORDS: usize = 7;
 
 // The numbers that a word holds.
 const WORD_END: u64 = 4294967296;
-
-#[derive(Clone, Copy)]
-struct Words {
-    kind: u32,
-    number: u32,
-    place: u32,
-    visits: u32,
-    low: u32,
-    high: u32,
-    borrowed_at: u32,
-}
 
 // The answer's first seven words: 0 accepted, 1 violation, 2 refused, 3 an empty cell; the code or number; the offset or place; the visits; the number
 // of sets blurred, its low word and its high word; and, after a violation, where what it fails on was borrowed, else 0. False, and nothing is done,
@@ -37,67 +25,32 @@ pub fn reference_safety_verify(listing: &[u8], area: &mut [u32], answer: &mut [u
     if answer.len() < ANSWER_WORDS {
         return false;
     }
-    let v = verify(listing, area);
-    put_words(verdict_words(v), answer);
+    put_verdict(verify(listing, area), answer);
     true
 }
 
-pub(crate) fn verdict_words(v: Verdict) -> Words
-    requires { Low (ruling_of v.ruling) }
-    ensures { words_in result ≡ words_of (verdict_of v) }
+// The words of a verdict, put at the start of an answer that has room for them.
+pub(crate) fn put_verdict(v: Verdict, answer: &mut [u32])
+    requires low { Low (ruling_of v.ruling) }
+    requires room { answer_words ≤ length answer.old }
+    ensures { answer.new ≡ put_words (words_of (verdict_of v)) answer.old }
 {
-    let ruling = v.ruling;
-    let low = (v.blurred % WORD_END) as u32;
-    let high = (v.blurred / WORD_END) as u32;
-    match ruling {
-        Ruling::Accept => Words {
-            kind: 0,
-            number: 0,
-            place: 0,
-            visits: v.visits,
-            low,
-            high,
-            borrowed_at: 0,
-        },
-        Ruling::Violation(code, offset, borrowed_at) => Words {
-            kind: 1,
-            number: code as u32,
-            place: offset.0 as u32,
-            visits: v.visits,
-            low,
-            high,
-            borrowed_at: borrowed_at.0 as u32,
-        },
-        Ruling::Refused(number, place) => Words {
-            kind: 2,
-            number: number as u32,
-            place: place as u32,
-            visits: v.visits,
-            low,
-            high,
-            borrowed_at: 0,
-        },
-        Ruling::Empty => Words {
-            kind: 3,
-            number: 0,
-            place: 0,
-            visits: v.visits,
-            low,
-            high,
-            borrowed_at: 0,
-        },
-    }
+    answer[..ANSWER_WORDS].copy_from_slice(&verdict_words(v));
 }
 
-pub(crate) fn put_words(w: Words, answer: &mut [u32])
-    requires { answer_words ≤ length answer.old }
-    ensures { answer.new ≡ put_words (words_in w) answer.old }
+fn verdict_words(v: Verdict) -> [u32; ANSWER_WORDS]
+    requires { Low (ruling_of v.ruling) }
+    ensures { result ≡ words_of (verdict_of v) }
 {
-    answer[0] = w.kind;
-    answer[1] = w.number;
-    answer[2] = w.place;
-    answer[3] = w.visits;
-    answer[4] = w.low;
-    answer[5] = w.high;
-    answer[6] = w.borrowed_at;
+    let (kind, number, place, borrowed_at) = match v.ruling {
+        Ruling::Accept => (0, 0, 0, 0),
+        Ruling::Violation(code, offset, borrowed_at) => {
+            (1, code as u32, offset.0 as u32, borrowed_at.0 as u32)
+        }
+        Ruling::Refused(number, place) => (2, number as u32, place as u32, 0),
+        Ruling::Empty => (3, 0, 0, 0),
+    };
+    let low = (v.blurred % WORD_END) as u32;
+    let high = (v.blurred / WORD_END) as u32;
+    [kind, number, place, v.visits, low, high, borrowed_at]
 }

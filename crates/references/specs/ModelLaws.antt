@@ -1,17 +1,16 @@
 -- The models read and written one element at a time.
 use Rattle.std.specs.Prelude.{◌≡◌, Bool, true, false, cond, List, [], ◌∷◌, ◌++◌, map, ℕ, ◌+◌, ◌≤◌, ◌<◌, min, eqb, length, take, drop, get_or, set}
 use Rattle.std.proofs.Math.Path.{refl}
-use Rattle.std.proofs.Common.{sym, ap, ◌∙◌, not-suc-le-zero, arith, eq-eqb, ne_eqb, drop_of_length-le, length-take}
+use Rattle.std.proofs.Common.{sym, ap, ◌∙◌, not-suc-le-zero, arith, eq-eqb, ne_eqb, drop_of_length-le, length-take, add-one, drop-cons}
 use Rattle.std.proofs.lemmas.List.{length-map}
 use Rattle.meaning.specs.Answers.{Ans, ok, refuse, and_then, leaves}
-use Rattle.meaning.specs.References.{Edge, EdgeSet, fits, too_long, weakest, blur}
+use Rattle.meaning.specs.References.{Edge, EdgeSet, weakest, blur}
 use Rattle.meaning.specs.BorrowGraph.{Name, GEdge}
 use Rattle.meaning.specs.Area.{name_in}
 use Rattle.meaning.specs.Refinement.Pairs.{or21}
-use Rattle.meaning.proofs.Laws.Place.{offset_of}
-use Rattle.meaning.proofs.Laws.Array.{front_map_step, front_take, front_all, push_map, drop_set}
-use Rattle.references.specs.Models.{row_of, edges_in, names_in, set_edges, set_in, candidate_of, told}
-use Rattle.references.specs.declared.rows.Candidate.{Candidate}
+use Rattle.meaning.proofs.Laws.Array.{front_map_step, front_take, push_map, drop_set, map_step}
+use Rattle.references.specs.Models.{row_of, edges_in, names_in, edge_in, set_edges, set_of, told}
+use Rattle.references.specs.declared.set.BorrowEdgeSet.{BorrowEdgeSet}
 
 -- ---- names: the first n words of an array
 
@@ -107,64 +106,35 @@ module _ (rows : List (List ℕ)) (r : List ℕ) where
   unfolding edges_in
   edges_past j k m h = drop_set row_of rows j k m r h
 
--- ---- the edges of a set: the first n rows, without ends and marks
+-- ---- the edges of a set, without ends and marks
 
-abbrev pub edge_in : List ℕ → Edge
-edge_in r = (row_of r).edge
-
-module _ (rows : List (List ℕ)) (n : ℕ) where
-  pub set_step : (d : List ℕ) (i : ℕ) → i < length (set_edges rows n) → drop i (set_edges rows n) ≡ edge_in (get_or rows i d) ∷ drop (i + 1) (set_edges rows n)
+module _ (s : BorrowEdgeSet) where
+  pub set_size : length (set_of s).edges ≡ s.len
   unfolding set_edges
-  set_step d i h = front_map_step edge_in n rows d i h
+  set_size = simp (length-map, length-take) (omega (arith, s.room, s.few))
 
-  pub set_end : (i : ℕ) → length (set_edges rows n) ≤ i → drop i (set_edges rows n) ≡ []
-  set_end i h = drop_of_length-le (set_edges rows n) h
+  pub set_few : length (set_of s).edges ≤ 10
+  set_few = omega (arith, set_size, s.few)
 
-  pub set_front : (k : ℕ) → k ≤ length (set_edges rows n) → set_edges rows k ≡ take k (set_edges rows n)
-  unfolding set_edges
-  set_front k h = front_take edge_in n k rows h
+-- a walk along the rows whose edges are es
+module _ (rows : List (List ℕ)) (es : List Edge) (e : map edge_in rows ≡ es) where
+  pub rows_count : length rows ≡ length es
+  rows_count = sym (length-map rows edge_in) ∙ ap length e
 
-  pub set_few : length rows ≡ 10 → length (set_edges rows n) ≤ 10
-  unfolding set_edges
-  set_few e = simp (length-map, length-take) (omega arith)
+  pub rows_step : (d : List ℕ) (i : ℕ) → i < length rows → drop i es ≡ edge_in (get_or rows i d) ∷ drop (i + 1) es
+  rows_step d i h =
+      let row : drop i rows ≡ get_or rows i d ∷ drop (i + 1) rows = rw add-one (drop-cons rows i d h) in
+      sym (ap (drop i) e) ∙ map_step edge_in rows i (get_or rows i d) row ∙ ap (λ (l : List Edge). edge_in (get_or rows i d) ∷ drop (i + 1) l) e
 
-  pub set_count : length rows ≡ 10 → length (set_edges rows n) ≡ min n 10
-  unfolding set_edges
-  set_count e = simp (length-map, length-take) (omega arith)
-
-  pub set_made : set_edges rows n ≡ map edge_in (take n rows)
-  unfolding set_edges
-  set_made = refl
-
-module _ (rows : List (List ℕ)) (r : List ℕ) where
-  pub set_push : (j j' : ℕ) (ys : List Edge) → j' ≡ j + 1 → j < length rows → set_edges (set rows j r) j' ++ ys ≡ set_edges rows j ++ edge_in r ∷ ys
-  unfolding set_edges
-  set_push j j' ys e h = push_map edge_in rows j j' r ys e h
-
-  pub set_past : (j k n : ℕ) → j < k → drop k (set_edges (set rows j r) n) ≡ drop k (set_edges rows n)
-  unfolding set_edges
-  set_past j k n h = drop_set edge_in rows j k n r h
-
--- the offset of what is offered, too long or not
-pub offered : (x : Candidate) → offset_of (candidate_of x) ≡ (row_of x.row).edge.offset
-offered x = go x.fits
-  where
-    go : (b : Bool) → offset_of (cond b (fits (row_of x.row).edge) (too_long (row_of x.row).edge.offset)) ≡ (row_of x.row).edge.offset
-    go true = refl
-    go false = refl
+  pub rows_end : (i : ℕ) → length rows ≤ i → drop i es ≡ []
+  rows_end i h = drop_of_length-le es (omega (arith, rows_count))
 
 -- what too many edges become
 pub set_blurred : (rows : List (List ℕ)) (x : List ℕ) (o : ℕ) → 0 < length rows → (row_of x).edge ≡ weakest o
-    → set_in (set rows 0 x) (record { len = 1; overflown = true }) ≡ blur o
+    → record { edges = set_edges (set rows 0 x) 1; blurred = true } ≡ blur o
 unfolding set_edges
 set_blurred [] x o h e = absurd (not-suc-le-zero h)
 set_blurred (r ∷ rows) x o h e = ap {B = EdgeSet} (λ (d : Edge). record { edges = d ∷ []; blurred = true }) e
-
-pub set_cut : (rows : List (List ℕ)) (n : ℕ) → length rows ≡ 10 → set_edges rows (min n 10) ≡ set_edges rows n
-unfolding set_edges
-set_cut rows n e =
-    let m : min n 10 ≡ length (take n rows) = simp length-take (omega arith) in
-    ap (λ (i : ℕ). map edge_in (take i rows)) m ∙ ap (map edge_in) (front_all n rows)
 
 -- ---- an answer as a number and a value
 

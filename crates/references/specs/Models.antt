@@ -1,5 +1,6 @@
 -- What words and rows of the code stand for in the definitions. A count beyond an array's length reads as the length.
-use Rattle.std.specs.Prelude.{ℕ, ◌+◌, cond, List, [], ◌∷◌, map, eqb, take, get_or}
+use Rattle.std.specs.Prelude as P
+use Rattle.std.specs.Prelude.{Some, None, ℕ, ◌+◌, cond, List, [], ◌∷◌, map, eqb, take, get_or}
 use Rattle.std.proofs.Math.Option.{Option, none, some}
 use Rattle.meaning.specs.Answers.{Ans, ok, refuse}
 use Rattle.meaning.specs.Labels.{number_of}
@@ -7,11 +8,10 @@ use Rattle.meaning.specs.References.{Edge, EdgeSet, Offered, fits, too_long, Rep
 use Rattle.meaning.specs.BorrowGraph.{Name, GEdge}
 use Rattle.meaning.specs.Area.{name_in, label_in, edge_of}
 use Rattle.paths.specs.Models.{label_of}
-use Rattle.references.specs.declared.rows.LabelFilter.{LabelFilter}
-use Rattle.references.specs.declared.rows.LabelFilter.TheVariants.{Any, At}
+use Rattle.paths.specs.declared.Label.{Label}
 use Rattle.references.specs.declared.rows.Candidate.{Candidate}
+use Rattle.references.specs.declared.rows.Candidate.TheVariants.{Fits, TooLong}
 use Rattle.references.specs.declared.set.BorrowEdgeSet.{BorrowEdgeSet}
-use Rattle.references.specs.declared.set.Inserted.{Inserted}
 use Rattle.references.specs.declared.set.Report as D
 use Rattle.references.specs.declared.set.Report.TheVariants.{Added, AlreadyThere, BlurredNow, BlurredBefore}
 
@@ -28,36 +28,43 @@ unfoldable pub names_in : List ℕ → ℕ → List Name
 names_in ws n = map name_in (take n ws)
 
 -- a filter as a path, and as a label that counts
-abbrev pub path_at : LabelFilter → List ℕ
-path_at Any = []
-path_at (At l) = number_of (label_of l) ∷ []
+abbrev pub path_at : P.Option Label → List ℕ
+path_at None = []
+path_at (Some l) = number_of (label_of l) ∷ []
 
-abbrev pub filter_of : LabelFilter → Option ℕ
-filter_of Any = none
-filter_of (At l) = some (number_of (label_of l))
+abbrev pub filter_of : P.Option Label → Option ℕ
+filter_of None = none
+filter_of (Some l) = some (number_of (label_of l))
 
 -- a refusal has its number of document 01; 0 is none
 abbrev pub told : {A : Type 0} → ℕ → A → Ans A
 told n a = cond (eqb n 0) (ok a) (refuse n)
 
+-- an edge that is offered, where it is from, and what its row satisfies if it fits
 abbrev pub candidate_of : Candidate → Offered
-candidate_of c = cond c.fits (fits (row_of c.row).edge) (too_long (row_of c.row).edge.offset)
+candidate_of (Fits r) = fits (row_of r).edge
+candidate_of (TooLong o) = too_long o.0
+
+abbrev pub offset_at : Candidate → ℕ
+offset_at (Fits r) = (row_of r).edge.offset
+offset_at (TooLong o) = o.0
+
+abbrev pub IfFits : (GEdge → Type 0) → Candidate → Type 0
+IfFits P (Fits r) = P (row_of r)
+IfFits P (TooLong o) = Unit {0}
 
 -- the edges of a set's rows, without ends and marks
+abbrev pub edge_in : List ℕ → Edge
+edge_in r = (row_of r).edge
+
 unfoldable pub set_edges : List (List ℕ) → ℕ → List Edge
-set_edges rows n = map (λ r. (row_of r).edge) (take n rows)
+set_edges rows n = map edge_in (take n rows)
 
-abbrev pub set_in : List (List ℕ) → BorrowEdgeSet → EdgeSet
-set_in rows s = record { edges = set_edges rows s.len; blurred = s.overflown }
-
-abbrev pub inserted_in : List (List ℕ) → Inserted → Ans EdgeSet
-inserted_in rows r = told r.refusal (set_in rows r.set)
+abbrev pub set_of : BorrowEdgeSet → EdgeSet
+set_of s = record { edges = set_edges s.rows s.len; blurred = s.overflown }
 
 abbrev pub report_of : D.Report → Report
 report_of Added = added
 report_of AlreadyThere = already_there
 report_of BlurredNow = blurred_now
 report_of BlurredBefore = blurred_before
-
-abbrev pub report_in : Inserted → Ans Report
-report_in r = told r.refusal (report_of r.report)

@@ -8,5 +8,5 @@ pub mod set;
 pub mod words;
 
 // A reference's name (references.rs 21 `RefID`; its field stands for 25 `new` and 30 `number`).
-#[derive(Clone, Copy)]
+#[derive(Clone, Copy, PartialEq, Eq, PartialOrd, Ord)]
 pub struct RefID(pub u16);

@@ -53,5 +53,5 @@ pub(crate) fn offset_in(w: u32) -> CodeOffset
 pub(crate) fn bit_of(b: bool) -> u32
     ensures { (result ≡ bit b) × (result ≤ 1) }
 {
-    if b { 1 } else { 0 }
+    u32::from(b)
 }

@@ -1,4 +1,5 @@
-use mathlib.Core.Path.{sym, ◌∙◌}
+use mathlib.Core.Path.{sym, ap, ◌∙◌}
+use Rattle.std.specs.Prelude.{Ok, Some, None}
 use lib.ListN.{length}
 use Rattle.meaning.proofs.Laws.Listing.{accepted_promised, accepted_block}
 use Rattle.meaning.proofs.Laws.Verify.{verify_short}
@@ -14,53 +15,54 @@ returns-then-area-lt-AREA_WORDS c =
 
 pub analyze_function-t-requires : goal.analyze_function-t-requires
 analyze_function-t-requires c =
-    let r = c.read_listing-l in
-    let if1 = c.if-area-lt-AREA_WORDS in
+    let r = c.read_listing in
     let a = c.args in
-    let e = reading_is a.listing.now _ r.result _ _ r.ensures.0 c.in-Read.is in (
+    let w = c.in-Ok-Some in
+    let n = rw w.field-0-is at w.ensures.counted in
+    let e = reading_is r.result (Ok (Some w.q)) r.ensures (w.is ∙ ap Ok w.field-0-is) in (
       record {
         promise = accepted_promised a.listing.now _ e;
-        blocks = r.ensures.1.few;
-        count = r.ensures.1.count;
+        blocks = n.few;
+        count = n.count;
         some = accepted_block a.listing.now _ e;
       },
-      if1.false,
+      c.if-area-lt-AREA_WORDS.false,
     )
 
 pub verdict_of-requires : goal.verdict_of-requires
-verdict_of-requires c = c.read_listing-l.ensures.1.few
+verdict_of-requires c = (rw c.in-Ok-Some.field-0-is at c.in-Ok-Some.ensures.counted).few
 
-pub returns-in-Read : goal.returns-in-Read
-returns-in-Read c =
+pub returns-in-Ok-Some : goal.returns-in-Ok-Some
+returns-in-Ok-Some c =
     let v = c.verdict_of in
     let f = c.analyze_function-t in
-    let r = c.read_listing-l in
+    let r = c.read_listing in
+    let q = c.in-Ok-Some in
     let if1 = c.if-area-lt-AREA_WORDS in
     let a = c.args in
-    let e = reading_is a.listing.now _ r.result _ _ r.ensures.0 c.in-Read.is in (
+    let n = rw q.field-0-is at q.ensures.counted in
+    let e = reading_is r.result (Ok (Some q.q)) r.ensures (q.is ∙ ap Ok q.field-0-is) in (
       Law.verify_read (length a.area.now) a.listing.now if1.false _ (ruling_of v.result) f.result.visits f.result.blurred e
-          (v.ensures.0 ∙ Law.ruled a.listing.now _ r.result.routine a.area.now _ f.result v.ensures.1 r.ensures.1.few
-          r.ensures.1.count f.ensures) f.ensures.end.visited f.ensures.end.blurred,
-      Law.left_read a.listing.now _ r.result.routine a.area.now _ f.result if1.false e f.ensures,
+          (v.ensures.0 ∙ Law.ruled a.listing.now _ q.q a.area.now _ f.result v.ensures.1 n.few
+          n.count f.ensures) f.ensures.end.visited f.ensures.end.blurred,
+      Law.left_read a.listing.now _ q.q a.area.now _ f.result if1.false e f.ensures,
     )
 
-pub returns-in-Nothing : goal.returns-in-Nothing
-returns-in-Nothing c =
+pub returns-in-Ok-None : goal.returns-in-Ok-None
+returns-in-Ok-None c =
     let empty = c.empty_cell in
-    let r = c.read_listing-l in
     let if1 = c.if-area-lt-AREA_WORDS in
     let a = c.args in
-    let e = reading_is a.listing.now _ r.result _ _ r.ensures.0 c.in-Nothing.is in (
+    let e = reading_is c.read_listing.result (Ok None) c.read_listing.ensures (c.in-Ok-None.is ∙ ap Ok c.in-Ok-None.field-0-is) in (
       empty.ensures.0 ∙ Law.verify_as (length a.area.now) a.listing.now if1.false _ e,
       Law.left_nothing a.listing.now a.area.now _ if1.false e empty.ensures.1,
     )
 
-pub returns-in-Refused : goal.returns-in-Refused
-returns-in-Refused c =
-    let r = c.read_listing-l in
+pub returns-in-Err : goal.returns-in-Err
+returns-in-Err c =
     let if1 = c.if-area-lt-AREA_WORDS in
     let a = c.args in
-    let e = reading_is a.listing.now _ r.result _ _ r.ensures.0 c.in-Refused.is in (
-      c.refused-in-Refused.ensures ∙ Law.verify_as (length a.area.now) a.listing.now if1.false _ e,
+    let e = reading_is c.read_listing.result _ c.read_listing.ensures c.in-Err.is in (
+      rw c.from.ensures at c.refused-in-Err.ensures ∙ Law.verify_as (length a.area.now) a.listing.now if1.false _ e,
       Law.left_refused a.listing.now a.area.now _ _ e,
     )

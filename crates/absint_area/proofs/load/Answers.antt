@@ -16,11 +16,8 @@ get_kept-requires c =
 
 pub returns-then-has_block : goal.returns-then-has_block
 returns-then-has_block c =
-    let get-kept = c.get_kept in (
-      get-kept.ensures.0,
-      get-kept.ensures.1,
-      λ hl hn he. let k = get-kept.ensures.2 hl hn he in (k.0 ∙ sym (kept_in _ _ _ (sym c.has_block.ensures ∙ c.if-has_block.true)), k.1, k.2, k.3),
-    )
+    let e = c.get_kept.ensures in
+    (e.0, λ hl hn he. let k = e.1 hl hn he in (k.0 ∙ sym (kept_in _ _ _ (sym c.has_block.ensures ∙ c.if-has_block.true)), k.1, k.2, k.3))
 
 pub returns : goal.returns
-returns c = (omega arith, omega arith, λ hl hn he. (sym (kept_out _ _ _ (sym c.has_block.ensures ∙ c.if-has_block.false)), hl, hn, he))
+returns c = (tt, λ hl hn he. (sym (kept_out _ _ _ (sym c.has_block.ensures ∙ c.if-has_block.false)), hl, hn, he))

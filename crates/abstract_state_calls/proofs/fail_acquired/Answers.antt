@@ -1,31 +1,25 @@
-use Rattle.std.specs.Prelude.{◌≡◌, ℕ, [], ◌∷◌, take}
-use mathlib.Core.Path.{refl, sym, ap, ◌∙◌}
-use mathlib.Core.Option.{Option, none, some}
-use borrow.Author.Tests.{lt-ltb, le-ltb}
-use Rattle.meaning.specs.Limits.{u16_end}
-use Rattle.borrow_graph.specs.Models.{low_in}
+use Rattle.std.specs.Prelude.{[], ◌∷◌}
+use mathlib.Core.Path.{ap, ◌∙◌}
+use mathlib.Core.Option.{Option}
+use Rattle.std.specs.Prelude.{ℕ}
 use Rattle.abstract_state.specs.Models.{words, running_of}
 use Rattle.abstract_state.specs.ModelLaws.{does_as}
 use Rattle.abstract_state_calls.specs.Models.{acquiring}
 use Rattle.abstract_state_calls.specs.AcquireLaws.{alone, acquire_lowest}
 use Rattle.abstract_state_calls.proofs.fail_acquired.Goals as goal
 
-pub returns-then-low-lt-NO_RESOURCE : goal.returns-then-low-lt-NO_RESOURCE
-returns-then-low-lt-NO_RESOURCE c =
+pub returns-in-Some : goal.returns-in-Some
+returns-in-Some c =
     let a = c.args in
-    let low = c.lowest_borrowed-low in
-    let e : low_in low.result ≡ some low.result = rw (lt-ltb low.result u16_end c.if-low-lt-NO_RESOURCE.true) refl in
     λ ls. let w = words ls a.names.now a.edges.now a.state in
-    does_as (acquiring (low.result ∷ [])) (acquiring (take a.count a.acquired)) w _
-    (λ h. ap (λ (l : Option ℕ). acquiring (alone l) (running_of w)) (sym e ∙ low.ensures ls h) ∙ acquire_lowest (running_of w) (take a.count a.acquired))
+    does_as (acquiring (c.in-Some.low ∷ [])) (acquiring a.acquired.now) w _
+    (λ h. ap (λ (l : Option ℕ). acquiring (alone l) (running_of w)) (c.in-Some.ensures ls h) ∙ acquire_lowest (running_of w) a.acquired.now)
     (c.fail_global.ensures ls)
 
-pub returns : goal.returns
-returns c =
+pub returns-in-None : goal.returns-in-None
+returns-in-None c =
     let a = c.args in
-    let low = c.lowest_borrowed-low in
-    let e : low_in low.result ≡ none = rw (le-ltb low.result u16_end c.if-low-lt-NO_RESOURCE.false) refl in
     λ ls. let w = words ls a.names.now a.edges.now a.state in
-    does_as (acquiring []) (acquiring (take a.count a.acquired)) w _
-    (λ h. ap (λ (l : Option ℕ). acquiring (alone l) (running_of w)) (sym e ∙ low.ensures ls h) ∙ acquire_lowest (running_of w) (take a.count a.acquired))
+    does_as (acquiring []) (acquiring a.acquired.now) w _
+    (λ h. ap (λ (l : Option ℕ). acquiring (alone l) (running_of w)) (c.in-None.ensures ls h) ∙ acquire_lowest (running_of w) a.acquired.now)
     (c.ask_root.ensures ls _)

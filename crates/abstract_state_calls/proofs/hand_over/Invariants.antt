@@ -1,11 +1,10 @@
-use Rattle.std.specs.Prelude.{ℕ, ◌-◌, List, drop}
-use Rattle.abstract_state.specs.Models.{operands_of, words}
+use Rattle.std.specs.Prelude.{ℕ, List, map, drop}
+use Rattle.vm_status.specs.Models.{code_of}
+use Rattle.abstract_state.specs.Models.{operand_in, words}
 use Rattle.abstract_state_calls.specs.Models.{handing}
 use Rattle.abstract_state_calls.specs.LoopLaws.{Left}
 use Rattle.abstract_state_calls.proofs.hand_over.Given as goal
 
-abbrev pub invariant-loop-i : goal.invariant-loop-i
-invariant-loop-i l = (ls : List ℕ) → Left (handing l.code (operands_of l.values)) (handing l.code (drop l.i (operands_of l.values))) (words ls l.names l.edges l.initial.s) (words ls l.names l.edges l.s)
-
-abbrev pub decreases-loop-i : goal.decreases-loop-i
-decreases-loop-i l = l.n - l.i
+abbrev pub invariant-loop-w : goal.invariant-loop-w
+invariant-loop-w l =
+    (ls : List ℕ) → Left (handing (code_of l.code) (map operand_in l.words)) (handing (code_of l.code) (drop l.w-index (map operand_in l.words))) (words ls l.names l.edges l.initial.s) (words ls l.names l.edges l.s)

@@ -7,4 +7,4 @@ pub returns : goal.returns
 returns c =
     let fresh = c.fresh-id in
     let a = c.args in
-    λ ls. calls_ref a.mutable (ids_of a.parents) fresh.result.0 (words ls a.names.now a.edges.now a.state) _ _ _ fresh.ensures (c.new_ref-s.ensures ls _) (c.lend_all-t.ensures ls) (c.give.ensures ls _ _)
+    λ ls. calls_ref a.mutable (ids_of a.parents.now) fresh.result.0 (words ls a.names.now a.edges.now a.state) _ _ _ fresh.ensures (c.new_ref-s.ensures ls _) (c.lend_all-t.ensures ls) (c.give.ensures ls _ _)

@@ -1,62 +1,34 @@
-use Rattle.std.specs.Prelude.{◌≡◌, ℕ, ◌<◌, ◌≤◌, min, List, map, length, take}
-use mathlib.Core.Path.{refl, subst}
-use lib.ListN.{length-set, drop_of_length-le}
-use Rattle.meaning.proofs.Laws.Array.{front_map_step}
-use Rattle.meaning.specs.AbstractState.{Token}
-use Rattle.meaning.specs.Listing.{token_as}
-use Rattle.meaning.specs.EntryPoints.{return_values}
-use Rattle.abstract_state.specs.Models.{operand_of, operands_in, words}
-use Rattle.abstract_state_calls.specs.Models.{ids_of, Calls}
-use Rattle.abstract_state_calls.specs.ModelLaws.{front_count, operands_none, operands_push}
+use Rattle.std.specs.Prelude.{◌≡◌, ◌<◌, ℕ, List, map, length, take}
+use Rattle.std.proofs.Common.{refl, ap, ◌∙◌, arith, length-take, length-set}
+use Rattle.std.proofs.lemmas.List.{take_min}
+use Rattle.meaning.specs.Limits.{max_operands}
+use Rattle.file_format.specs.declared.SignatureToken.{SignatureToken}
+use Rattle.file_format.specs.declared.SignatureToken.TheVariants.{Value}
+use Rattle.file_format.specs.Models.{token_of}
+use Rattle.abstract_state.specs.Models.{operands_in}
+use Rattle.abstract_state_calls.specs.ModelLaws.{map_step, map_end, operands_none, operands_push}
 use Rattle.abstract_state_calls.specs.CallLaws.{pending_all, pending_turn, pending_none}
-use native.Mathlib.Omega.{arith}
-use borrow.Author.Rules.{rules}
 use Rattle.abstract_state_calls.proofs.return_values.Goals as goal
 
 pub loop-i-init : goal.loop-i-init
-loop-i-init c = (omega arith, refl, λ ls. pending_all _ _ _ _ _ (operands_none _))
-
-pub bounds-tokens-i : goal.bounds-tokens-i
-bounds-tokens-i c = omega (arith, c.loop-i-test.true, c.lesser-n.ensures)
-
-pub offset_bounds-list-i : goal.offset_bounds-list-i
-offset_bounds-list-i c = omega arith
-
-pub bounds-list-i : goal.bounds-list-i
-bounds-list-i c = omega (arith, c.loop-i-test.true, c.lesser-n.ensures, c.loop-i.invariant.1)
-
-pub overflow_add-i : goal.overflow_add-i
-overflow_add-i c = omega arith
-
-pub loop-i-smaller : goal.loop-i-smaller
-loop-i-smaller c = omega arith
+loop-i-init c = record { long = refl; left = λ ls. pending_all _ _ _ _ _ (operands_none _) }
 
 pub loop-i-preserved : goal.loop-i-preserved
 loop-i-preserved c =
-    let a = c.args in
-    let ts : List Token = map token_as (take a.count a.tokens) in
     let l = c.loop-i in
-    let r = c.return_value-s.result in
-    let z : length a.tokens ≡ 16 = search (rules, c.well_formed.1.1.1.0) in
-    let k : length ts ≡ min a.count 16 = front_count token_as a.count a.tokens z in
-    let h : l.i < length ts = omega (arith, c.loop-i-test.true, c.lesser-n.ensures) in
-    let b : l.i < length l.list = omega (arith, c.loop-i-test.true, c.lesser-n.ensures, l.invariant.1) in (
-      omega (arith, c.loop-i-test.true),
-      simp length-set l.invariant.1,
-      λ ls. pending_turn (ids_of a.mutable) (ids_of a.all) ts l.i _ (operand_of r.value) _ (words ls l.names l.edges l.s) _ (operands_in l.list l.i) _
-          (front_map_step token_as a.count a.tokens 0 l.i h) (operands_push l.list l.i c.value_word.result (operand_of r.value) c.value_word.ensures.0 b) (c.return_value-s.ensures ls) (l.invariant.2 ls),
-    )
+    let n = c.lesser-n.result in
+    let ts : List SignatureToken = c.args.tokens.now in
+    let room : l.i < length l.list = omega (arith, length-take n ts, c.loop-i-test.true, c.lesser-n.ensures, l.invariant.long) in
+    record {
+      long = simp length-set l.invariant.long;
+      left = λ ls. pending_turn _ _ (map token_of (take n ts)) l.i _ _ _ _ _ (operands_in l.list l.i) _ (map_step token_of (take n ts) l.i Value c.loop-i-test.true) (operands_push l.list l.i _ _ c.value_word.ensures.0 room) (c.return_value-s.ensures ls) (l.invariant.left ls);
+    }
 
 pub returns : goal.returns
 returns c =
-    let a = c.args in
-    let ts : List Token = map token_as (take a.count a.tokens) in
     let l = c.loop-i in
-    let z : length a.tokens ≡ 16 = search rules in
-    let k : length ts ≡ min a.count 16 = front_count token_as a.count a.tokens z in
-    let e : l.i ≡ c.lesser-n.result = omega (arith, c.loop-i-test.false, l.invariant.0) in
-    let h : length ts ≤ l.i = omega (arith, c.loop-i-test.false, c.lesser-n.ensures) in
-    λ ls. let w = words ls a.names.now a.edges.now a.state in
-    let v = words ls l.names l.edges l.s in
-    subst (λ (j : ℕ). Calls (return_values ts (ids_of a.mutable) (ids_of a.all)) w v (operands_in l.list j)) e
-    (pending_none (ids_of a.mutable) (ids_of a.all) ts l.i w v (operands_in l.list l.i) (drop_of_length-le ts h) (l.invariant.2 ls))
+    let n = c.lesser-n.result in
+    let ts : List SignatureToken = c.args.tokens.now in
+    let read : take n ts ≡ take max_operands ts = ap (λ (m : ℕ). take m ts) c.lesser-n.ensures ∙ take_min max_operands ts in
+    let end : l.i ≡ n = omega (arith, length-take n ts, c.loop-i-test.false, c.lesser-n.ensures) in
+    λ ls. rw (← read) (rw end at (pending_none _ _ (map token_of (take n ts)) l.i _ _ (operands_in l.list l.i) (map_end token_of (take n ts) l.i c.loop-i-test.false) (l.invariant.left ls)))

@@ -4,10 +4,9 @@ use mathlib.Core.Option.{none, some}
 use Rattle.meaning.specs.Labels.{local_label}
 use Rattle.meaning.specs.BorrowGraph.{of_name, borrows_mutably, lowest_of}
 use Rattle.meaning.proofs.Laws.Lowest.{lowest_guard}
-use Rattle.references.specs.Models.{told}
-use Rattle.borrow_graph.specs.Models.{low_in}
+use Rattle.borrow_graph.specs.Models.{low_of}
 use Rattle.abstract_state.specs.Models.{words, running_of}
-use Rattle.abstract_state.specs.ModelLaws.{gives_as, gives_then, told_map}
+use Rattle.abstract_state.specs.ModelLaws.{gives_as, gives_then, asked_map}
 use Rattle.abstract_state_steps.specs.EntryLaws as E
 use Rattle.abstract_state_steps.proofs.borrow_loc.Goals as goal
 
@@ -22,9 +21,8 @@ returns c =
     let p = borrows_mutably r.graph r.root (some (local_label a.i.0)) in
     gives_as _ _ w _
     (λ h. E.borrow_loc_at r c.fresh-new.result.0 c.fresh-new.ensures a.mutable a.i.0 _
-    ((λ i. told (o.ensures.0 i) (o.ensures.1 i))
-    ∙ told_map r.graph r.root b.refusal (low_in b.offset) (lowest_of p r.graph.edges) (λ l. cond (not a.mutable) l none)
-    (c.is_local_mutably_borrowed-b.ensures ls h)
+    (o.ensures
+    ∙ asked_map r.graph r.root (λ l. cond (not a.mutable) l none) (low_of b) (lowest_of p r.graph.edges) (c.is_local_mutably_borrowed-b.ensures ls h)
     ∙ ap (of_name r.graph r.root) (sym (lowest_guard (not a.mutable) p r.graph.edges))))
     (gives_then _ _ _ _ _ (c.violate_if-s.ensures ls _ _)
     (gives_then _ _ _ _ _ (c.new_ref-t.ensures ls _)

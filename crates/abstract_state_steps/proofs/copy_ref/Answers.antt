@@ -10,9 +10,9 @@ returns c =
     let w = words ls a.names.now a.edges.now a.state in
     let m = c.is_mutable-m.result in
     gives_as _ _ w _
-    (λ h. E.copy_at (running_of w) c.fresh-new.result.0 c.fresh-new.ensures a.id.0 m.refusal m.yes
+    (λ h. E.copy_at (running_of w) c.fresh-new.result.0 c.fresh-new.ensures a.id.0 m
     (c.is_mutable-m.ensures ls _ h))
     (gives_then _ _ _ _ _ (c.pass_refusal-s.ensures ls _ _)
-    (gives_then _ _ _ _ _ (c.new_ref-t.ensures ls _)
+    (gives_then _ _ _ _ _ (rw c.unwrap_or.ensures at (c.new_ref-t.ensures ls a.edges.now))
     (gives_then _ _ _ _ _ (c.add_copy-u.ensures ls)
     (c.give.ensures ls _ _))))

@@ -1,14 +1,16 @@
-use mathlib.Core.Path.{sym, ap}
-use borrow.Author.Rules.{rules}
+use Rattle.std.proofs.Common.{◌≡◌, refl, sym, ap, ◌∙◌, List, ℕ, Option, Some, None, Ok}
+use Rattle.listing.specs.declared.Routine.{Routine}
+use Rattle.listing.specs.Models.{listed_of}
 use Rattle.listing.specs.ModelLaws.{reading_is}
 use Rattle.bench_listing.specs.Number.{number_of}
 use Rattle.bench_listing.proofs.listing_number.Goals as goal
 
-pub returns-in-Read : goal.returns-in-Read
-returns-in-Read c = let r = c.read_listing-r in sym (ap number_of (reading_is _ _ r.result _ _ r.ensures.0 c.in-Read.is))
+none_for : (s cs : List ℕ) (o : Option Routine) → number_of (listed_of s cs (Ok o)) ≡ 0
+none_for s cs (Some r) = refl
+none_for s cs None = refl
 
-pub returns-in-Nothing : goal.returns-in-Nothing
-returns-in-Nothing c = let r = c.read_listing-r in sym (ap number_of (reading_is _ _ r.result _ _ r.ensures.0 c.in-Nothing.is))
+pub returns-in-Ok : goal.returns-in-Ok
+returns-in-Ok c = let r = c.read_listing in sym (ap number_of (reading_is r.result _ r.ensures c.in-Ok.is) ∙ none_for _ _ c.in-Ok.field-0)
 
-pub returns-in-Refused : goal.returns-in-Refused
-returns-in-Refused c = let r = c.read_listing-r in sym (ap number_of (reading_is _ _ r.result _ _ r.ensures.0 c.in-Refused.is))
+pub returns-in-Err : goal.returns-in-Err
+returns-in-Err c = let r = c.read_listing in c.from.ensures ∙ sym (ap number_of (reading_is r.result _ r.ensures c.in-Err.is))

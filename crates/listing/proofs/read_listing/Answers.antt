@@ -1,41 +1,39 @@
-use mathlib.Core.Path.{sym, ap, ◌∙◌}
-use native.Mathlib.Omega.{arith}
+use Rattle.std.proofs.Common.{sym, ap, ◌∙◌, arith}
+use Rattle.std.proofs.lemmas.Result.{err_from_is_err_and}
 use Rattle.meaning.specs.Listing.{after_records}
 use Rattle.meaning.proofs.Laws.Listing.{no_bytes, some_bytes}
 use Rattle.listing.specs.Models.{ruled_places}
-use Rattle.listing.specs.ModelLaws.{listed_as}
-use Rattle.listing.proofs.ReadLaws.{places_stop, sound, were_read}
+use Rattle.listing.proofs.ReadLaws.{sound, were_read}
 use Rattle.listing.proofs.read_listing.Goals as goal
 
 pub returns-then-s-eq0 : goal.returns-then-s-eq0
-returns-then-s-eq0 c =
-    let s = c.args.s.now in
-    (listed_as s _ c.unread.result _ c.unread.ensures.0 ∙ sym (no_bytes s c.if-s-eq0.true), c.unread.ensures.1)
+returns-then-s-eq0 c = record { listed = sym (no_bytes c.args.s.now c.if-s-eq0.true); counted = tt }
 
-pub returns-then-w-ne0 : goal.returns-then-w-ne0
-returns-then-w-ne0 c =
-    let w = c.read_places-w in
-    let if1 = c.if-s-eq0 in
-    let s = c.args.s.now in (
-      listed_as s _ c.unread-then-w-ne0.result _ c.unread-then-w-ne0.ensures.0
-          ∙ sym (some_bytes s if1.false ∙ ap (after_records s) (sym w.ensures.places ∙ places_stop _ _ w.result c.if-w-ne0.true)),
-      c.unread-then-w-ne0.ensures.1,
-    )
+pub returns-in_err-w : goal.returns-in_err-w
+returns-in_err-w c =
+    let s = c.args.s.now in
+    let p = err_from_is_err_and c.from_residual.result c.from_residual.ensures.1 in
+    let e = c.in_err-w.ensures in
+    rw (p.1, p.2) (record { listed = sym (some_bytes s c.if-s-eq0.false ∙ ap (after_records s) (sym e.places)); counted = tt })
 
 pub ruled-requires : goal.ruled-requires
-ruled-requires c =
-    let w = c.read_places-w in
-    let if1 = c.if-s-eq0 in
+ruled-requires c = sound c.args.s.now _ _ c.in_ok-w.w c.in_ok-w.ensures (omega arith) c.head.result.now c.head.ensures
+
+pub returns-in_err-routine : goal.returns-in_err-routine
+unfolding ruled_places
+returns-in_err-routine c =
     let s = c.args.s.now in
-    sound s _ _ w.result c.if-w-ne0.false w.ensures (omega (arith, if1.false)) c.head.result.now c.head.ensures
+    let p = err_from_is_err_and c.from_residual-in_err-routine.result c.from_residual-in_err-routine.ensures.1 in
+    rw (p.1, p.2) (record {
+      listed = c.in_err-routine.ensures ∙ sym (some_bytes s c.if-s-eq0.false ∙ ap (after_records s) (were_read s _ _ c.in_ok-w.w c.in_ok-w.ensures));
+      counted = tt;
+    })
 
 pub returns : goal.returns
 unfolding ruled_places
 returns c =
-    let w = c.read_places-w in
-    let if1 = c.if-s-eq0 in
-    let s = c.args.s.now in (
-      c.ruled.ensures.0
-          ∙ sym (some_bytes s if1.false ∙ ap (after_records s) (were_read s _ _ w.result c.if-w-ne0.false w.ensures)),
-      c.ruled.ensures.1,
-    )
+    let s = c.args.s.now in
+    record {
+      listed = c.in_ok-routine.ensures.0 ∙ sym (some_bytes s c.if-s-eq0.false ∙ ap (after_records s) (were_read s _ _ c.in_ok-w.w c.in_ok-w.ensures));
+      counted = c.in_ok-routine.ensures.1;
+    }

@@ -1,104 +1,64 @@
-use mathlib.Core.Path.{◌≡◌, ap, ◌∙◌}
-use Prim.Native.Nat.{ℕ, ◌+◌}
-use mathlib.Core.List.{List, map}
-use lib.ListN.{take, get_or}
-use Rattle.meaning.specs.Loop.{Block}
-use Rattle.meaning.specs.Listing.{Listed, body_at, params_of, locals_of, returns_of, first_of, faulty_block, stray_ret, instr_at}
-use Rattle.listing.specs.Models.{listed_of}
-use Rattle.listing.specs.ModelLaws.{listed_as}
-use Rattle.listing.proofs.ReadLaws.{ruled_none, ruled_block, ruled_ret, ruled_read, routine_eq, params_eq, counted_at}
-use native.Mathlib.Omega.{arith}
+use Rattle.std.proofs.Common.{◌≡◌, ◌≤◌, ap, sym, ◌∙◌, ℕ, ◌+◌, length, get_or, None, Some, arith}
+use Rattle.meaning.specs.Listing.{Listed, body_at, params_of, locals_of, returns_of}
+use Rattle.listing.specs.Models.{blocks_in}
+use Rattle.listing.proofs.ReadLaws.{same_blocks, first_bad, first_lost, ruled_none, ruled_block, ruled_ret, ruled_read, routine_eq, params_eq, counted_at}
 use Rattle.listing.proofs.ruled.Goals as goal
 
 pub returns-then-n-eq0 : goal.returns-then-n-eq0
 returns-then-n-eq0 c =
     let a = c.args in
-    let p = c.requires in (
-      listed_as a.s.now a.code.now c.unread.result _ c.unread.ensures.0
-          ∙ ruled_none a.s.now a.places a.code.now a.w.block_count a.w.code_count (omega (arith, p.blocks, p.all_blocks))
-          (omega (arith, p.code, p.all_code)) c.if-n-eq0.true,
-      c.unread.ensures.1,
-    )
+    let p = c.requires in
+    rw c.bad_blocks.ensures
+    (ruled_none a.s.now a.places.now a.code.now a.w.block_count a.w.code_count (omega (arith, p.blocks, p.all_blocks)) (omega (arith, p.code, p.all_code)) c.if-n-eq0.true)
 
-pub blocks_at-blocks-requires : goal.blocks_at-blocks-requires
-blocks_at-blocks-requires c = (c.requires.blocks, c.requires.two)
-
-pub first_faulty-bad-requires : goal.first_faulty-bad-requires
-first_faulty-bad-requires c = c.requires.blocks
-
-pub offset_bounds-places-bad : goal.offset_bounds-places-bad
-offset_bounds-places-bad c = omega (arith, c.requires.blocks)
-
-pub bounds-places-bad : goal.bounds-places-bad
-bounds-places-bad c = omega (arith, c.requires.blocks)
-
-pub returns-then-bad-n : goal.returns-then-bad-n
-returns-then-bad-n c =
+pub returns-in-Some : goal.returns-in-Some
+returns-in-Some c =
     let a = c.args in
     let p = c.requires in
-    let ff = c.first_faulty-bad in (
-      listed_as a.s.now a.code.now c.unread-then-bad-n.result _ c.unread-then-bad-n.ensures.0
-          ∙ ap (Listed.refused 5) c.place.ensures.0 ∙ ruled_block a.s.now a.places a.code.now
-          a.w.block_count a.w.code_count (omega (arith, p.blocks, p.all_blocks)) (omega (arith, p.code, p.all_code))
-          c.if-n-eq0.false ff.result
-          (ff.ensures ∙ ap (λ (l : List Block). first_of (faulty_block a.w.code_count l) 0 a.w.block_count) c.blocks_at-blocks.ensures) c.if-bad-n.true,
-      c.unread-then-bad-n.ensures.1,
-    )
+    let f : a.w.block_count ≤ length a.places.now = omega (arith, p.blocks, p.all_blocks) in
+    let g : a.w.code_count ≤ length a.code.now = omega (arith, p.code, p.all_code) in
+    let h = first_bad a.s.now a.places.now a.code.now a.w.block_count a.w.code_count f g c.blocks_at-blocks.result c.blocks_at-blocks.ensures (Some c.in-Some.bad) c.in-Some.ensures in
+    rw (c.bad_blocks-in-Some.ensures, c.place.ensures.0)
+    (ruled_block a.s.now a.places.now a.code.now a.w.block_count a.w.code_count f g c.if-n-eq0.false c.in-Some.bad (sym h.1) h.0)
 
-pub first_stray-stray-requires : goal.first_stray-stray-requires
-first_stray-stray-requires c = (c.requires.blocks, c.requires.code, c.requires.all_code, c.requires.ret)
-
-pub offset_bounds-code-stray : goal.offset_bounds-code-stray
-offset_bounds-code-stray c = omega (arith, c.requires.code)
-
-pub bounds-code-stray : goal.bounds-code-stray
-bounds-code-stray c = omega (arith, c.requires.code)
-
-pub returns-then-stray-m : goal.returns-then-stray-m
-returns-then-stray-m c =
+pub returns-in-Some-first_stray : goal.returns-in-Some-first_stray
+returns-in-Some-first_stray c =
     let a = c.args in
     let p = c.requires in
-    let ba = c.blocks_at-blocks in
-    let ff = c.first_faulty-bad in
-    let fs = c.first_stray-stray in (
-      listed_as a.s.now a.code.now c.unread-then-stray-m.result _ c.unread-then-stray-m.ensures.0
-          ∙ ap (Listed.refused 5) c.place-then-stray-m.ensures.0 ∙ ruled_ret a.s.now a.places a.code.now
-          a.w.block_count a.w.code_count (omega (arith, p.blocks, p.all_blocks)) (omega (arith, p.code, p.all_code))
-          c.if-n-eq0.false ff.result
-          (ff.ensures ∙ ap (λ (l : List Block). first_of (faulty_block a.w.code_count l) 0 a.w.block_count) ba.ensures)
-          c.if-bad-n.false fs.result
-          (fs.ensures ∙ ap (λ (l : List Block). first_of (stray_ret (map (instr_at a.s.now) (take a.w.code_count a.code.now)) l) 0
-          a.w.code_count) ba.ensures) c.if-stray-m.true,
-      c.unread-then-stray-m.ensures.1,
-    )
-
-pub bytes_at-params-requires : goal.bytes_at-params-requires
-bytes_at-params-requires c = (omega (arith, c.byte_at-param_count.ensures, c.requires.params), omega arith)
-
-pub overflow_add-param_count : goal.overflow_add-param_count
-overflow_add-param_count c = omega (arith, c.byte_at-param_count.ensures, c.requires.params)
+    let n = a.w.block_count in
+    let m = a.w.code_count in
+    let b = c.blocks_at-blocks in
+    let f : n ≤ length a.places.now = omega (arith, p.blocks, p.all_blocks) in
+    let g : m ≤ length a.code.now = omega (arith, p.code, p.all_code) in
+    let z : c.first_faulty.result ≡ None = grind arith in
+    let h = first_bad a.s.now a.places.now a.code.now n m f g b.result b.ensures None (rw z at c.first_faulty.ensures) in
+    let k = first_lost a.s.now a.places.now a.code.now n m f g b.result b.ensures (Some c.in-Some-first_stray.stray) c.in-Some-first_stray.ensures in
+    rw (c.bad_blocks-in-Some-first_stray.ensures, c.place-in-Some-first_stray.ensures.0)
+    (ruled_ret a.s.now a.places.now a.code.now n m f g c.if-n-eq0.false n (sym h) (omega arith) c.in-Some-first_stray.stray (sym k.1) k.0)
 
 pub returns : goal.returns
-unfolding listed_of
+unfolding blocks_in
 returns c =
     let a = c.args in
     let p = c.requires in
-    let ba = c.blocks_at-blocks in
-    let ff = c.first_faulty-bad in
-    let fs = c.first_stray-stray in
-    let n = c.byte_at-param_count in
-    let ps = c.bytes_at-params in
-    let e : a.head.now ≡ body_at a.s.now 0 = p.first in (
+    let n = a.w.block_count in
+    let m = a.w.code_count in
+    let b = c.blocks_at-blocks in
+    let f : n ≤ length a.places.now = omega (arith, p.blocks, p.all_blocks) in
+    let g : m ≤ length a.code.now = omega (arith, p.code, p.all_code) in
+    let y : c.first_faulty.result ≡ None = grind arith in
+    let z : c.first_stray.result ≡ None = grind arith in
+    let h = first_bad a.s.now a.places.now a.code.now n m f g b.result b.ensures None (rw y at c.first_faulty.ensures) in
+    let k = first_lost a.s.now a.places.now a.code.now n m f g b.result b.ensures None (rw z at c.first_stray.ensures) in
+    let q = c.byte_at-param_count in
+    let ps = c.tokens_at in
+    let e : a.head.now ≡ body_at a.s.now 0 = p.first in
+    let bs = same_blocks a.s.now a.places.now a.code.now n m f g b.result b.ensures in (
       ap Listed.read (routine_eq _ _ _ _ _ _ _ _ _ _
-          (params_eq a.head.now ps.result n.result n.ensures ps.ensures ∙ ap params_of e)
+          (params_eq a.head.now _ q.result q.ensures ps.ensures ∙ ap params_of e)
           (c.byte_at.ensures ∙ ap locals_of e)
-          (c.byte_at-2.ensures ∙ ap (λ (n : ℕ). get_or a.head.now (2 + n) 0) n.ensures ∙ ap returns_of e)
-          ba.ensures p.same)
-          ∙ ruled_read a.s.now a.places a.code.now a.w.block_count a.w.code_count (omega (arith, p.blocks, p.all_blocks))
-          (omega (arith, p.code, p.all_code)) c.if-n-eq0.false ff.result
-          (ff.ensures ∙ ap (λ (l : List Block). first_of (faulty_block a.w.code_count l) 0 a.w.block_count) ba.ensures)
-          c.if-bad-n.false fs.result
-          (fs.ensures ∙ ap (λ (l : List Block). first_of (stray_ret (map (instr_at a.s.now) (take a.w.code_count a.code.now)) l) 0
-          a.w.code_count) ba.ensures) c.if-stray-m.false,
-      record { few = p.blocks; count = counted_at a.s.now a.places a.w.block_count (omega (arith, p.blocks, p.all_blocks)) _ ba.ensures },
+          (c.byte_at-2.ensures ∙ ap (λ (j : ℕ). get_or a.head.now (2 + j) 0) q.ensures ∙ ap returns_of e)
+          bs p.same)
+          ∙ ruled_read a.s.now a.places.now a.code.now n m f g c.if-n-eq0.false n (sym h) (omega arith) m (sym k) (omega arith),
+      record { few = p.blocks; count = counted_at a.s.now a.places.now n f _ bs },
     )

@@ -17,26 +17,26 @@ pub u16_in-kind-requires : goal.u16_in-kind-requires
 unfolding whole_at
 u16_in-kind-requires c =
     let a = c.args in
-    let w : a.c.at + 4 + u16_at a.s.now a.c.at ≤ length a.s.now = leb-true _ _ (sym c.whole_at.ensures ∙ c.if-whole_at.true) in
+    let w : a.c.at + 4 + u16_at a.s.now a.c.at ≤ length a.s.now = leb-true _ _ (sym c.whole_at.ensures ∙ c.if-not-whole_at.false) in
     omega arith
 
 pub u16_in-requires : goal.u16_in-requires
 unfolding whole_at
 u16_in-requires c =
     let a = c.args in
-    let w : a.c.at + 4 + u16_at a.s.now a.c.at ≤ length a.s.now = leb-true _ _ (sym c.whole_at.ensures ∙ c.if-whole_at.true) in
+    let w : a.c.at + 4 + u16_at a.s.now a.c.at ≤ length a.s.now = leb-true _ _ (sym c.whole_at.ensures ∙ c.if-not-whole_at.false) in
     omega arith
 
-pub returns-then-whole_at : goal.returns-then-whole_at
+pub returns : goal.returns
 unfolding found_at
-returns-then-whole_at c = let a = c.args in
-    let w : whole_at a.s.now a.c.at ≡ true = sym c.whole_at.ensures ∙ c.if-whole_at.true in
+returns c = let a = c.args in
+    let w : whole_at a.s.now a.c.at ≡ true = sym c.whole_at.ensures ∙ c.if-not-whole_at.false in
     let f : leb (length a.s.now) a.c.at ≡ false = lt-leb _ _ c.if-s-at.false in
     rw (f, w, c.u16_in.ensures, c.u16_in-kind.ensures)
 
-pub returns-else-whole_at : goal.returns-else-whole_at
+pub returns-then-not-whole_at : goal.returns-then-not-whole_at
 unfolding found_at
-returns-else-whole_at c = let a = c.args in
-    let w : whole_at a.s.now a.c.at ≡ false = sym c.whole_at.ensures ∙ c.if-whole_at.false in
+returns-then-not-whole_at c = let a = c.args in
+    let w : whole_at a.s.now a.c.at ≡ false = sym c.whole_at.ensures ∙ c.if-not-whole_at.true in
     let f : leb (length a.s.now) a.c.at ≡ false = lt-leb _ _ c.if-s-at.false in
     rw (f, w)

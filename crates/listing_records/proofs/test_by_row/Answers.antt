@@ -47,11 +47,11 @@ bounds-rows-kind c = omega (arith, (kinds c.before).0, (kinds c.before).1)
 pub keeps_to_row-requires : goal.keeps_to_row-requires
 keeps_to_row-requires c = (nine c.before.before.before.before).0
 
-pub overflow_add-result : goal.overflow_add-result
-overflow_add-result c = omega (arith, (nine c.before.before.before.before.before.before).0)
+pub overflow_add-next : goal.overflow_add-next
+overflow_add-next c = omega (arith, (nine c.before.before.before.before.before.before).0)
 
-pub overflow_add-result-then-keeps_to_row : goal.overflow_add-result-then-keeps_to_row
-overflow_add-result-then-keeps_to_row c = omega (arith, (nine c.before.before.before.before.before.before).0)
+pub overflow_add-next-then-keeps_to_row : goal.overflow_add-next-then-keeps_to_row
+overflow_add-next-then-keeps_to_row c = omega (arith, (nine c.before.before.before.before.before.before).0)
 
 pub returns-then-keeps_to_row : goal.returns-then-keeps_to_row
 returns-then-keeps_to_row c = let a = c.args in
@@ -62,8 +62,8 @@ returns-then-keeps_to_row c = let a = c.args in
     let h : keeps_to (get_or (limit_rows a.locals) row []) (u16_at a.s.now a.at) a.s.now a.at ≡ true =
     rw (← c.u16_in-n.ensures, ← c.requires.1) (sym c.keeps_to_row.ensures ∙ c.if-keeps_to_row.true) in
     record {
-      number = sym (keeps_fine a.s.now a.locals a.at row n.0 (omega (arith, k.1)) e h a.coded n.1);
-      kind = λ z. c.u16_in-kind.ensures;
-      next = λ z. ap (λ (m : ℕ). a.at + 4 + m) c.u16_in-n.ensures;
-      inside = λ z. rw c.u16_in-n.ensures (keeps_inside a.s.now a.locals a.at row n.0 (omega (arith, k.1)) e h);
+      fine = keeps_fine a.s.now a.locals a.at row n.0 (omega (arith, k.1)) e h a.coded n.1;
+      kind = c.u16_in-kind.ensures;
+      next = ap (λ (m : ℕ). a.at + 4 + m) c.u16_in-n.ensures;
+      inside = rw c.u16_in-n.ensures (keeps_inside a.s.now a.locals a.at row n.0 (omega (arith, k.1)) e h);
     }

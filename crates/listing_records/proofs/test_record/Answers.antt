@@ -1,53 +1,74 @@
-use mathlib.Core.Path.{◌≡◌, sym, ap, ◌∙◌}
-use borrow.Author.Tests.{not-true, not-false}
-use mathlib.Core.Bool.{true, false}
-use Rattle.meaning.specs.Listing.{kind_in_use, kind_at, fields_of, fault_at}
-use Rattle.listing_records.specs.Models.{fields_in, fault_of, place_fault}
-use Rattle.listing_records.proofs.Laws.{record_inv, short_inv, end_inv, refused_test, fault_1, fault_2, fault_place, fault_body, inside}
-use native.Mathlib.Omega.{arith}
+use Rattle.std.proofs.Common.{◌≡◌, true, false, sym, ap, ◌∙◌, Ok, Some, None, arith}
+use Rattle.std.proofs.lemmas.Result.{err_from_is_err_and}
+use mathlib.Core.Option.{some}
+use Rattle.vm_status.specs.declared.Refusal.TheVariants as Refusal
+use Rattle.vm_status.specs.Models.{number_of}
+use Rattle.meaning.specs.Listing.{kind_in_use, kind_at, fields_of}
+use Rattle.listing_records.specs.Models.{packed}
+use Rattle.listing_records.proofs.Laws.{record_inv, short_inv, end_inv, fault_1, fault_2, fault_place, fault_body, inside}
 use Rattle.listing_records.proofs.test_record.Goals as goal
 
-pub returns-then-not-shape : goal.returns-then-not-shape
-returns-then-not-shape c =
+pub returns-in_err-read : goal.returns-in_err-read
+returns-in_err-read c =
     let a = c.args in
-    let r = c.read in
-    let v = record_inv a.s.now a.at r.result r.ensures c.in-Record.kind c.in-Record.next c.in-Record.is in
-    let k : kind_in_use (kind_at a.s.now a.at) ≡ false = rw v.1 at (sym c.shape_of-shape.ensures.known ∙ not-true _ c.if-not-shape.true) in
-    refused_test a.s.now a.at a.locals a.coded c.failed.result 2 c.failed.ensures (λ z. omega arith) (fault_2 a.s.now a.at a.locals a.coded v.0 k)
+    let p = err_from_is_err_and c.from_residual.result c.from_residual.ensures.1 in
+    let v = short_inv a.s.now a.at c.read.result c.read.ensures _ c.in_err-read.was in
+    rw (p.1, p.2) (fault_1 a.s.now a.at a.locals a.coded v.0 ∙ ap some v.1)
 
-pub returns-then-number-ne0 : goal.returns-then-number-ne0
-returns-then-number-ne0 c =
+pub returns-in_err-record : goal.returns-in_err-record
+returns-in_err-record c =
     let a = c.args in
-    let r = c.read in
-    let v = record_inv a.s.now a.at r.result r.ensures c.in-Record.kind c.in-Record.next c.in-Record.is in
-    let k : kind_in_use (kind_at a.s.now a.at) ≡ true = rw v.1 at (sym c.shape_of-shape.ensures.known ∙ not-false _ c.if-not-shape.false) in
-    let m = c.misplaced-number in
-    let f = fault_place a.s.now a.at a.locals a.coded v.0 k m.result (rw v.1 at m.ensures) c.if-number-ne0.true in
-    refused_test a.s.now a.at a.locals a.coded c.failed-then-number-ne0.result m.result c.failed-then-number-ne0.ensures c.if-number-ne0.true f
+    let p = err_from_is_err_and c.from_residual-in_err-record.result c.from_residual-in_err-record.ensures.1 in
+    let n : c.in_ok-read.field-0 ≡ None = grind arith in
+    let e : Refusal.Short ≡ c.in_err-record.field-0.0 = grind arith in
+    let w = end_inv a.s.now a.at c.read.result c.read.ensures (c.in_ok-read.was ∙ ap Ok n) in
+    rw (p.1, p.2) (fault_1 a.s.now a.at a.locals a.coded w ∙ ap (λ x. some (number_of x)) e)
 
-pub returns-else-number-ne0 : goal.returns-else-number-ne0
-returns-else-number-ne0 c =
+pub returns-in_err-shape : goal.returns-in_err-shape
+returns-in_err-shape c =
     let a = c.args in
-    let r = c.read in
-    let so = c.shape_of-shape in
-    let v = record_inv a.s.now a.at r.result r.ensures c.in-Record.kind c.in-Record.next c.in-Record.is in
-    let k : kind_in_use (kind_at a.s.now a.at) ≡ true = rw v.1 at (sym so.ensures.known ∙ not-false _ c.if-not-shape.false) in
-    let m = c.misplaced-number in
-    let b : fault_of 0 ≡ place_fault (kind_at a.s.now a.at) a.at a.coded = sym (ap fault_of c.if-number-ne0.false) ∙ (rw v.1 at m.ensures) in
-    let f : fields_in so.result ≡ fields_of (kind_at a.s.now a.at) = so.ensures.fields ∙ ap fields_of v.1 in
-    let n : fault_of c.test_body.result ≡ fault_at a.s.now a.locals a.coded a.at = c.test_body.ensures ∙ (rw (f, c.body.ensures) (sym (fault_body a.s.now a.at a.locals a.coded v.0 k b))) in
-    record { number = n; kind = λ h. v.1; next = λ h. v.2; inside = λ h. rw v.2 (inside a.s.now a.at v.0) }
+    let p = err_from_is_err_and c.from_residual-in_err-shape.result c.from_residual-in_err-shape.ensures.1 in
+    let r : c.in_ok-read.field-0 ≡ Some c.in_ok-record.record = grind arith in
+    let v = record_inv a.s.now a.at c.read.result c.read.ensures _ (c.in_ok-read.was ∙ ap Ok r) in
+    let n : c.shape_of.result ≡ None = grind arith in
+    let e : Refusal.UnknownKind ≡ c.in_err-shape.field-0.0 = grind arith in
+    let k : kind_in_use (kind_at a.s.now a.at) ≡ false = rw v.1 at (rw n at c.shape_of.ensures) in
+    rw (p.1, p.2) (fault_2 a.s.now a.at a.locals a.coded v.0 k ∙ ap (λ x. some (number_of x)) e)
 
-pub returns-in-Short : goal.returns-in-Short
-returns-in-Short c =
+pub returns-in_err-test_place : goal.returns-in_err-test_place
+returns-in_err-test_place c =
     let a = c.args in
-    let r = c.read in
-    refused_test a.s.now a.at a.locals a.coded c.failed-in-Short.result 1 c.failed-in-Short.ensures (λ z. omega arith)
-    (fault_1 a.s.now a.at a.locals a.coded (short_inv a.s.now a.at r.result r.ensures c.in-Short.is))
+    let p = err_from_is_err_and c.from_residual-in_err-test_place.result c.from_residual-in_err-test_place.ensures.1 in
+    let r : c.in_ok-read.field-0 ≡ Some c.in_ok-record.record = grind arith in
+    let v = record_inv a.s.now a.at c.read.result c.read.ensures _ (c.in_ok-read.was ∙ ap Ok r) in
+    let n : c.shape_of.result ≡ Some c.in_ok-shape.shape = grind arith in
+    let k : kind_in_use (kind_at a.s.now a.at) ≡ true = rw v.1 at (rw n at c.shape_of.ensures).0 in
+    rw (p.1, p.2) (fault_place a.s.now a.at a.locals a.coded v.0 k _ (rw v.1 at c.in_err-test_place.ensures))
 
-pub returns-in-End : goal.returns-in-End
-returns-in-End c =
+pub returns-in_err-test_body : goal.returns-in_err-test_body
+returns-in_err-test_body c =
     let a = c.args in
-    let r = c.read in
-    refused_test a.s.now a.at a.locals a.coded c.failed-in-End.result 1 c.failed-in-End.ensures (λ z. omega arith)
-    (fault_1 a.s.now a.at a.locals a.coded (end_inv a.s.now a.at r.result r.ensures c.in-End.is))
+    let p = err_from_is_err_and c.from_residual-in_err-test_body.result c.from_residual-in_err-test_body.ensures.1 in
+    let r : c.in_ok-read.field-0 ≡ Some c.in_ok-record.record = grind arith in
+    let v = record_inv a.s.now a.at c.read.result c.read.ensures _ (c.in_ok-read.was ∙ ap Ok r) in
+    let n : c.shape_of.result ≡ Some c.in_ok-shape.shape = grind arith in
+    let s = rw n at c.shape_of.ensures in
+    let k : kind_in_use (kind_at a.s.now a.at) ≡ true = rw v.1 at s.0 in
+    let f : packed 4 c.in_ok-shape.shape ≡ fields_of (kind_at a.s.now a.at) = s.1 ∙ ap fields_of v.1 in
+    rw (p.1, p.2) (fault_body a.s.now a.at a.locals a.coded v.0 k (rw v.1 at c.in_ok-test_place.ensures) ∙ sym (rw (f, c.body.ensures) at c.in_err-test_body.ensures))
+
+pub returns : goal.returns
+returns c =
+    let a = c.args in
+    let r : c.in_ok-read.field-0 ≡ Some c.in_ok-record.record = grind arith in
+    let v = record_inv a.s.now a.at c.read.result c.read.ensures _ (c.in_ok-read.was ∙ ap Ok r) in
+    let n : c.shape_of.result ≡ Some c.in_ok-shape.shape = grind arith in
+    let s = rw n at c.shape_of.ensures in
+    let k : kind_in_use (kind_at a.s.now a.at) ≡ true = rw v.1 at s.0 in
+    let f : packed 4 c.in_ok-shape.shape ≡ fields_of (kind_at a.s.now a.at) = s.1 ∙ ap fields_of v.1 in
+    record {
+      fine = fault_body a.s.now a.at a.locals a.coded v.0 k (rw v.1 at c.in_ok-test_place.ensures) ∙ sym (rw (f, c.body.ensures) at c.in_ok-test_body.ensures);
+      kind = v.1;
+      next = v.2;
+      inside = rw v.2 (inside a.s.now a.at v.0);
+    }

@@ -146,3 +146,9 @@ module _ {B S : Type 0} (step : S → B → S) (xs : List B) (r : S) where
 
   pub fold_done : (i : ℕ) (s : S) → drop i xs ≡ [] → foldl step s (drop i xs) ≡ r → s ≡ r
   fold_done i s e h = sym (ap (λ (l : List B). foldl step s l) e) ∙ h
+
+-- one more at place k, by what they stand for
+pub map_put : {A B : Type 0} (f : A → B) (x : A) (k : ℕ) (xs : List A) → map f (take k xs ++ (x ∷ drop k xs)) ≡ take k (map f xs) ++ (f x ∷ drop k (map f xs))
+map_put f x zero xs = refl
+map_put f x (suc k) [] = refl
+map_put {A} {B} f x (suc k) (a ∷ xs) = ap (λ (r : List B). f a ∷ r) (map_put f x k xs)

@@ -1,8 +1,10 @@
 -- A search through a list, element by element: what the elements from i on give is the answer r. `P` is what is asked of the list, as
 -- whether all or any of it passes a test, or where the first one stands.
-use Rattle.std.specs.Prelude.{ℕ, ◌+◌, ◌≤◌, ◌<◌, Bool, true, false, ◌||◌, List, [], ◌∷◌, map, ◌≡◌, length, take, drop, get_or}
+use Rattle.std.specs.Prelude.{ℕ, ◌+◌, ◌≤◌, ◌<◌, Bool, true, false, ◌&&◌, ◌||◌, List, [], ◌∷◌, map, ◌≡◌, length, take, drop, get_or}
 use Rattle.std.proofs.Common.{add-one, arith, ap, sym, ◌∙◌, length-take, drop_of_length-le, drop-cons}
 use Rattle.std.proofs.lemmas.List.{length-map}
+use Rattle.std.proofs.Math.Path.{refl}
+use Rattle.std.specs.List.{list_all, list_any}
 use Rattle.meaning.specs.Lists.{all, any}
 use Rattle.meaning.proofs.Laws.Array.{front_map_step}
 
@@ -28,6 +30,16 @@ module _ {A : Type 0} (p : A → Bool) (x : A) (xs ys : List A) (r : Bool) (step
 
 pub any_none : {A : Type 0} (p : A → Bool) (ys : List A) (r : Bool) → ys ≡ [] → any p ys ≡ r → false ≡ r
 any_none p ys r e left = sym (ap (any p) e) ∙ left
+
+-- std's tests of a list, by what its elements stand for
+module _ {A B : Type 0} (p : B → Bool) (f : A → B) where
+  pub list_any_of : (xs : List A) → list_any (λ x. p (f x)) xs ≡ any p (map f xs)
+  list_any_of [] = refl
+  list_any_of (x ∷ xs) = ap (λ (t : Bool). p (f x) || t) (list_any_of xs)
+
+  pub list_all_of : (xs : List A) → list_all (λ x. p (f x)) xs ≡ all p (map f xs)
+  list_all_of [] = refl
+  list_all_of (x ∷ xs) = ap (λ (t : Bool). p (f x) && t) (list_all_of xs)
 
 -- a test that all of them pass
 module _ {A : Type 0} (p : A → Bool) (d : A) (xs : List A) (r : Bool) (i : ℕ) (here : i < length xs) where

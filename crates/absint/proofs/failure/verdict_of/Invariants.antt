@@ -1,6 +1,5 @@
 use mathlib.Core.Path.{◌≡◌}
 use mathlib.Core.Option.{none}
-use Prim.Native.Nat.{◌-◌}
 use lib.ListN.{drop}
 use Rattle.meaning.specs.Laws.Fit.{lowest_by}
 use Rattle.listing.specs.Models.{blocks_in}
@@ -8,7 +7,4 @@ use Rattle.absint.specs.Models.{statuses_of, failure_of}
 use Rattle.absint.proofs.failure.verdict_of.Given as goal
 
 abbrev pub invariant-loop-i : goal.invariant-loop-i
-invariant-loop-i l = lowest_by (drop l.i (blocks_in l.blocks l.n)) (drop l.i (statuses_of l.t)) (failure_of l.l) ≡ lowest_by (blocks_in l.blocks l.n) (statuses_of l.t) none
-
-abbrev pub decreases-loop-i : goal.decreases-loop-i
-decreases-loop-i l = l.n - l.i
+invariant-loop-i l = lowest_by (drop l.i (blocks_in l.blocks l.n)) (drop l.i (statuses_of l.t)) (failure_of l.lowest) ≡ lowest_by (blocks_in l.blocks l.n) (statuses_of l.t) none

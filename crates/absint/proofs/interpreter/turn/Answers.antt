@@ -5,14 +5,11 @@ use Rattle.absint.specs.TurnLaws as Law
 use native.Mathlib.Omega.{arith}
 use Rattle.absint.proofs.interpreter.turn.Goals as goal
 
-pub start_from-k-requires : goal.start_from-k-requires
-start_from-k-requires c = λ k e. (c.requires.sound _ k e).form.formed
+pub start_from-requires : goal.start_from-requires
+start_from-requires c = λ k e. (c.requires.sound _ k e).form.formed
 
 pub visit-requires : goal.visit-requires
-visit-requires c = (c.requires, (c.start_from-k.ensures refl refl refl).there c.if-k.true)
-
-pub returns-then-k : goal.returns-then-k
-returns-then-k c = c.visit.ensures
+visit-requires c = (c.requires, c.in-Some.ensures refl refl refl)
 
 pub onward-requires : goal.onward-requires
 onward-requires c =
@@ -21,8 +18,8 @@ onward-requires c =
     let k = p.blocks in
     (omega (arith, h, k), p.few)
 
-pub returns : goal.returns
-returns c =
+pub returns-in-None : goal.returns-in-None
+returns-in-None c =
     let o = c.onward in
     Law.turned_over c.args.listing.now c.args.code.now c.args.routine c.args.area.now c.args.t c.requires o.result
-    ((c.start_from-k.ensures refl refl refl).absent c.if-k.false) o.ensures.1 (o.ensures.0 c.requires.going ∙ ap at (add-one c.args.t.next)) o.ensures.2 o.ensures.3 o.ensures.4
+    (c.in-None.ensures refl refl refl) o.ensures.1 (o.ensures.0 c.requires.going ∙ ap at (add-one c.args.t.next)) o.ensures.2 o.ensures.3 o.ensures.4

@@ -16,6 +16,7 @@ use Rattle.absint.specs.Models.{statuses_of, next_of, Sound, Propagated}
 use Rattle.absint.specs.PropagateLaws.{take_some}
 use Rattle.absint.specs.TurnLaws as Law
 use native.Mathlib.Omega.{arith}
+use Rattle.std.proofs.Common.{length-take}
 use Rattle.absint.proofs.interpreter.visit.Goals as goal
 use Rattle.absint.proofs.interpreter.visit.Lts as lts
 use Rattle.absint.proofs.interpreter.visit.Reads as reads
@@ -186,30 +187,31 @@ returns-then-b-eq0 c =
 pub propagate-requires : goal.propagate-requires
 propagate-requires c =
     let p = c.requires.0 in
-    let l = c.with_locals-e.ensures.0 in (
-      p.blocks,
+    let l = c.with_locals-e.ensures.0 in
+    let k = p.blocks in (
+      omega (arith, k, length-take c.args.routine.block_count c.args.routine.blocks),
       p.area,
       record {
-        fits = fit c.before.before;
-        sound = subst (λ (n : ℕ). Sound n (its-start c.before.before).args.area.now) (sym l) p.sound;
-        strong = subst (λ (n : ℕ). Strong n (state_of (sent c.before.before))) (sym l) (subst (Strong (its-start c.before.before).args.routine.locals) (sym (same_state c.before.before)) (strong c.before.before));
+        fits = fit c.before.before.before;
+        sound = subst (λ (n : ℕ). Sound n (its-start c.before.before.before).args.area.now) (sym l) p.sound;
+        strong = subst (λ (n : ℕ). Strong n (state_of (sent c.before.before.before))) (sym l) (subst (Strong (its-start c.before.before.before).args.routine.locals) (sym (same_state c.before.before.before)) (strong c.before.before.before));
       },
       Law.positive _ c.if-b-eq0.false,
       (let h = p.few in let k = p.small in let b = c.clear-v.ensures.2.blurred in let a = c.plus-2.ensures.0 in let f = c.plus-2.ensures.1 in omega (arith, h, k, b, a, f)),
     )
 
 pub returns : goal.returns
-unfolding statuses_of
+unfolding statuses_of blocks_in
 returns c =
     let b = c.block_at-b in
     let clear = c.clear-v in
     Law.turned_ended c.args.listing.now c.args.code.now c.args.routine c.args.area.now c.args.t c.requires.0
-    (state_of (first c.before.before.before.before.before.before.before.before.before.before.before.before.before.before.before.before.before.before.before.before.before.before.before.before.before.before)) c.requires.1.kept (counted c.before.before.before.before.before.before.before.before.before.before.before.before.before.before.before clear.ensures.3)
-    c.run_block-r.result.state.blurred (state_of (sent c.before.before.before.before.before)) (block c.before.before.before.before.before.before.before.before.before.before.before.before.before.before.before.before.before.before) c.propagate.new.area clear.result c.propagate.result
-    (ended_some c.before.before.before.before.before.before.before.before.before.before.before.before.before.before.before.before.before.before c.if-s-ne0.false
+    (state_of (first c.before.before.before.before.before.before.before.before.before.before.before.before.before.before.before.before.before.before.before.before.before.before.before.before.before.before.before)) c.requires.1.kept (counted c.before.before.before.before.before.before.before.before.before.before.before.before.before.before.before.before clear.ensures.3)
+    c.run_block-r.result.state.blurred (state_of (sent c.before.before.before.before.before.before)) (block c.before.before.before.before.before.before.before.before.before.before.before.before.before.before.before.before.before.before.before) c.propagate.new.area clear.result c.propagate.result
+    (ended_some c.before.before.before.before.before.before.before.before.before.before.before.before.before.before.before.before.before.before.before c.if-s-ne0.false
     c.if-s-ne0-2.false c.if-b-eq0.false
-    ∙ ap {B = Result State} (Result.ended c.run_block-r.result.state.blurred) (sym (same_state c.before.before.before.before.before)))
-    b.ensures (clear.ensures.1 ∙ marked c.before.before.before.before.before.before.before.before.before.before.before.before.before.before.before fine) (clear.ensures.0 ∙ after c.before.before.before.before.before.before.before.before.before.before.before.before.before.before.before) (clear.ensures.2.visits ∙ add-one c.args.t.visits) (clear.ensures.2.turns ∙ c.onward-u.ensures.3)
+    ∙ ap {B = Result State} (Result.ended c.run_block-r.result.state.blurred) (sym (same_state c.before.before.before.before.before.before)))
+    b.ensures (clear.ensures.1 ∙ marked c.before.before.before.before.before.before.before.before.before.before.before.before.before.before.before.before fine) (clear.ensures.0 ∙ after c.before.before.before.before.before.before.before.before.before.before.before.before.before.before.before.before) (clear.ensures.2.visits ∙ add-one c.args.t.visits) (clear.ensures.2.turns ∙ c.onward-u.ensures.3)
     (clear.ensures.2.blurred ∙ c.plus-2.ensures.0) c.plus-2.ensures.1
-    (subst (λ (n : ℕ). Propagated (blocks_in c.args.routine.blocks c.args.routine.block_count) n (block c.before.before.before.before.before.before.before.before.before.before.before.before.before.before.before.before.before.before) (state_of (sent c.before.before.before.before.before)) c.args.area.now c.propagate.new.area clear.result c.propagate.result)
+    (subst (λ (n : ℕ). Propagated (blocks_in c.args.routine.blocks c.args.routine.block_count) n (block c.before.before.before.before.before.before.before.before.before.before.before.before.before.before.before.before.before.before.before) (state_of (sent c.before.before.before.before.before.before)) c.args.area.now c.propagate.new.area clear.result c.propagate.result)
     c.with_locals-e.ensures.0 c.propagate.ensures)

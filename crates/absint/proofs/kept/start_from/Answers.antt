@@ -1,37 +1,25 @@
-use mathlib.Core.Path.{◌≡◌, refl, sym, ap, ◌∙◌}
-use mathlib.Core.Bool.{Bool, true, cond}
-use mathlib.Core.Option.{Option, none, some}
-use Rattle.meaning.specs.AbstractState.{State}
+use mathlib.Core.Path.{refl, sym, subst}
+use Rattle.std.specs.Prelude.{Option}
 use Rattle.meaning.specs.Area.{kept_of}
-use Rattle.references.specs.Models.{names_in, edges_in}
-use Rattle.abstract_state.specs.Models.{locals_in}
+use Rattle.abstract_state.specs.declared.state.AbstractState.{AbstractState}
+use Rattle.absint.specs.Models.{StartsFrom}
 use Rattle.absint.proofs.kept.start_from.Goals as goal
 
-pub returns : goal.returns
-returns c =
-    λ x y z.
+pub returns-in_err-k : goal.returns-in_err-k
+returns-in_err-k c hl hn he =
     let a = c.args in
-    let e = c.load-k.ensures.2 x y z in
-    let s : State = record {
-      locals = locals_in c.load-k.new.locals a.num_locals;
-      graph = record { names = names_in c.load-k.new.names c.load-k.result.refs; edges = edges_in c.load-k.new.edges c.load-k.result.edges };
-    } in
-    let held : c.load-k.result.present ≡ true → kept_of a.num_locals a.area.now a.b ≡ some s =
-    λ h. sym e.0 ∙ ap {B = Option State} (λ (b : Bool). cond b (some s) none) h in
+    subst (λ (r : Option AbstractState). StartsFrom (kept_of a.num_locals a.area.now a.b) a.num_locals c.load.new.locals c.load.new.names c.load.new.edges r) (sym c.from_residual.ensures)
+    (sym ((c.in_err-k.ensures).1 hl hn he).0)
+
+pub returns : goal.returns
+returns c hl hn he =
+    let p = c.in_ok-k.ensures in
+    let e = p.1 hl hn he in
     record {
-      there = λ h. record {
-        fits = record {
-          locals = e.1;
-          tells = record {
-            words = e.2;
-            rows = e.3;
-            refs = c.load-k.ensures.0;
-            edges = c.load-k.ensures.1;
-            formed = sym (c.requires s (held h));
-          };
-        };
-        kept = held h;
-        locals = refl;
+      fits = record {
+        locals = e.1;
+        tells = record { words = e.2; rows = e.3; refs = p.0.0; edges = p.0.1; formed = sym (c.requires _ (sym e.0)) };
       };
-      absent = λ h. sym e.0 ∙ ap {B = Option State} (λ (b : Bool). cond b (some s) none) h;
+      kept = sym e.0;
+      locals = refl;
     }

@@ -8,28 +8,16 @@ use Rattle.absint_area.proofs.write.put_absent.Goals as goal
 
 pub loop-b-init : goal.loop-b-init
 unfolding unkept
-loop-b-init c = (omega arith, refl)
-
-pub overflow_mul-ws : goal.overflow_mul-ws
-overflow_mul-ws c = omega arith
-
-pub offset_bounds-ws-b : goal.offset_bounds-ws-b
-offset_bounds-ws-b c = omega arith
+loop-b-init c = refl
 
 pub bounds-ws-b : goal.bounds-ws-b
-bounds-ws-b c = omega (arith, ap length c.loop-b.invariant.1 ∙ unkept_length c.loop-b.b _)
-
-pub overflow_add-b : goal.overflow_add-b
-overflow_add-b c = omega arith
-
-pub loop-b-smaller : goal.loop-b-smaller
-loop-b-smaller c = omega arith
+bounds-ws-b c = omega (arith, ap length c.loop-b.invariant ∙ unkept_length c.loop-b.b _)
 
 pub loop-b-preserved : goal.loop-b-preserved
-loop-b-preserved c = (omega arith, unkept_one c.loop-b.b _ c.loop-b.ws c.loop-b.invariant.1)
+loop-b-preserved c = unkept_one c.loop-b.b _ c.loop-b.ws c.loop-b.invariant
 
 pub shape_of-ws : goal.shape_of-ws
-shape_of-ws c = ap length c.loop-b.invariant.1 ∙ unkept_length c.loop-b.b _
+shape_of-ws c = ap length c.loop-b.invariant ∙ unkept_length c.loop-b.b _
 
 pub returns : goal.returns
-returns c = unkept_all c.loop-b.b _ c.loop-b.ws (omega arith) c.loop-b.invariant.1
+returns c = unkept_all c.loop-b.b _ c.loop-b.ws (omega arith) c.loop-b.invariant

@@ -1,37 +1,11 @@
-use mathlib.Core.Path.{refl}
-use Rattle.meaning.proofs.Laws.Area.{written_none, written_one, written_all}
-use native.Mathlib.Omega.{arith}
+use Rattle.std.proofs.Common.{ap, ◌∙◌, ℕ, List, get_or, length, arith, rules, length-take}
+use Rattle.std.proofs.lemmas.List.{places}
+use Rattle.meaning.specs.Area.{name_in}
+use Rattle.absint_area.specs.ModelLaws.{copied_to}
 use Rattle.absint_area.proofs.write.put_refs.Goals as goal
 
-pub loop-i-init : goal.loop-i-init
-loop-i-init c = (omega arith, written_none _ _ _ _)
-
-pub offset_bounds-names-i : goal.offset_bounds-names-i
-offset_bounds-names-i c = omega arith
-
-pub bounds-names-i : goal.bounds-names-i
-bounds-names-i c = omega arith
-
-pub overflow_add-ws : goal.overflow_add-ws
-overflow_add-ws c = omega arith
-
-pub offset_bounds-ws-at : goal.offset_bounds-ws-at
-offset_bounds-ws-at c = omega arith
-
-pub bounds-ws-at : goal.bounds-ws-at
-bounds-ws-at c = omega (arith, c.loop-i.invariant.1.frame.size)
-
-pub overflow_add-i : goal.overflow_add-i
-overflow_add-i c = omega arith
-
-pub loop-i-smaller : goal.loop-i-smaller
-loop-i-smaller c = omega arith
-
-pub loop-i-preserved : goal.loop-i-preserved
-loop-i-preserved c = (omega arith, written_one _ _ _ _ c.loop-i.i _ c.loop-i.ws (omega arith) (omega (arith, c.loop-i.invariant.1.frame.size)) refl c.loop-i.invariant.1)
-
-pub shape_of-ws : goal.shape_of-ws
-shape_of-ws c = c.loop-i.invariant.1.frame.size
-
 pub returns : goal.returns
-returns c = written_all _ _ _ _ c.loop-i.i _ _ (omega arith) c.loop-i.invariant.1
+returns c =
+    let e = c.copy_from_slice.ensures.after in
+    let p = copied_to 48 c.args.n c.args.at c.args.ws.now _ (omega arith) (omega arith) (ap length e ∙ length-take c.args.n c.args.names.now ∙ omega arith) in
+    record { frame = p.frame; within = λ j k. ap name_in (p.within j k ∙ ap (λ (zs : List ℕ). get_or zs j 0) e ∙ search (rules, places)) }

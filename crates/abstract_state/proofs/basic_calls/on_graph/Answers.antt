@@ -1,39 +1,56 @@
 use mathlib.Core.Path.{ap, ◌∙◌}
 use Rattle.std.specs.Prelude.{ℕ}
-use Rattle.meaning.specs.Answers.{Outcome, done, then, lift}
+use Rattle.meaning.specs.Answers.{Outcome, done, refused}
 use Rattle.meaning.specs.EntryPoints.{Running, on_graph}
-use Rattle.references.specs.Models.{told}
 use Rattle.borrow_graph.specs.Models.{graph_in}
-use Rattle.abstract_state.specs.Models.{running_of, words, halted}
-use Rattle.abstract_state.specs.ModelLaws.{answered, counted, passed_up_lem, here, stays}
+use Rattle.vm_status.specs.Models.{number_of}
+use Rattle.abstract_state.specs.Models.{running_of, words}
+use Rattle.abstract_state.specs.ModelLaws.{does_as, does_then, goes, going, stays, halted_then, passed_up}
 use Rattle.abstract_state.proofs.basic_calls.on_graph.Goals as goal
 
 pub returns-then-state : goal.returns-then-state
 returns-then-state c =
     λ ls ns ns' es es' f q.
     let a = c.args in
-    let v = a.state.violation in
-    let o = a.state.borrowed_at.0 in
-    let n = a.state.refusal in
-    let r = running_of (words ls ns es a.state) in
-    let g = graph_in ns' es' a.a.graph in
+    let s = a.state in
+    let r = running_of (words ls ns es s) in
+    let g = graph_in ns' es' a.g in
     record {
       fits = λ h. record { locals = h.locals; tells = (q h.tells).answers.tells };
       does = λ h.
-          ap {B = Outcome Running} (λ (b : ℕ). halted b v o a.a.refusal (record { locals = r.locals; graph = g; next = r.next; root = r.root; blurs = b; offset = r.offset })) c.count_on.ensures
-          ∙ answered _ a.state.blurred v o n r a.a.refusal g (counted a.a.blurred) c.if-state.true
-          ∙ here a.state.blurred v o n r (λ s. then (lift (told a.a.refusal g)) (λ k. done (counted a.a.blurred s k))) (λ s. on_graph s (f s.graph))
-          (passed_up_lem r a.a.refusal a.a.blurred g (f r.graph) (q h.tells).answers.answer (q h.tells).blurs);
+          going _ s.violation s.borrowed_at.0 s.refusal _ c.if-state.true
+          ∙ ap {B = Outcome Running} (λ (b : ℕ). done (record { locals = r.locals; graph = g; next = r.next; root = r.root; blurs = b; offset = r.offset })) c.count_on.ensures
+          ∙ passed_up r c.in-Ok.blurred g (f r.graph) (rw c.in-Ok.is at (q h.tells).answers.answer) (rw c.in-Ok.is at (q h.tells).blurs)
+          ∙ goes s.blurred s.violation s.borrowed_at.0 s.refusal r (λ k. on_graph k (f k.graph)) c.if-state.true;
     }
 
 pub returns-else-state : goal.returns-else-state
 returns-else-state c =
     λ ls ns ns' es es' f q.
     let a = c.args in
-    let r = running_of (words ls ns es a.state) in
+    let s = a.state in
+    let r = running_of (words ls ns es s) in
     record {
       fits = λ h. record { locals = h.locals; tells = (q h.tells).answers.tells };
       does = λ h.
-          stays a.state.blurred a.state.violation a.state.borrowed_at.0 a.state.refusal r (record { locals = r.locals; graph = graph_in ns' es' a.a.graph; next = r.next; root = r.root; blurs = r.blurs; offset = r.offset })
-          (λ s. on_graph s (f s.graph)) c.if-state.false;
+          stays s.blurred s.violation s.borrowed_at.0 s.refusal r (record { locals = r.locals; graph = graph_in ns' es' a.g; next = r.next; root = r.root; blurs = r.blurs; offset = r.offset })
+          (λ k. on_graph k (f k.graph)) c.if-state.false;
     }
+
+pub returns-in-Err : goal.returns-in-Err
+returns-in-Err c =
+    λ ls ns ns' es es' f q.
+    let a = c.args in
+    let s = a.state in
+    let r = running_of (words ls ns es s) in
+    let g = graph_in ns' es' a.g in
+    let put : (Running → Running) = λ k. record { locals = k.locals; graph = g; next = k.next; root = k.root; blurs = k.blurs; offset = k.offset } in
+    let n = number_of c.in-Err.e in
+    does_as (λ k. refused n) _ _ _
+    (λ h. ap (on_graph r) (rw c.in-Err.is at (q h.tells).answers.answer))
+    (does_then (λ k. done (put k)) (λ k. refused n) _ _ _
+    (record {
+      fits = λ h. record { locals = h.locals; tells = (q h.tells).answers.tells };
+      does = λ h. halted_then s.blurred s.violation s.borrowed_at.0 s.refusal r put;
+    })
+    (c.refuse.ensures ls _ _))

@@ -1,19 +1,8 @@
-use mathlib.Core.Path.{refl}
-use Rattle.borrow_graph.specs.Models.{told_of}
-use Rattle.abstract_state.specs.Models.{running_of, words, heeding}
-use Rattle.abstract_state.specs.ModelLaws.{does_here, stays, heeded}
+use Rattle.abstract_state.specs.ModelLaws.{does_nothing}
 use Rattle.abstract_state.proofs.basic_calls.pass_refusal.Goals as goal
 
-pub returns-then-state : goal.returns-then-state
-returns-then-state c =
-    λ ls ns es.
-    let a = c.args in
-    let r = running_of (words ls ns es a.state) in
-    does_here _ ls ns es _ _ refl (heeded a.state.violation a.state.borrowed_at.0 a.state.refusal r a.t.refusal c.if-state.true a.t.yes)
+pub returns-in-Ok : goal.returns-in-Ok
+returns-in-Ok c = λ ls ns es. rw c.in-Ok.is (does_nothing _)
 
-pub returns-else-state : goal.returns-else-state
-returns-else-state c =
-    λ ls ns es.
-    let a = c.args in
-    let r = running_of (words ls ns es a.state) in
-    does_here _ ls ns es _ _ refl (stays a.state.blurred a.state.violation a.state.borrowed_at.0 a.state.refusal r r (heeding (told_of a.t)) c.if-state.false)
+pub returns-in-Err : goal.returns-in-Err
+returns-in-Err c = λ ls ns es. rw c.in-Err.is (c.refuse.ensures ls ns es)

@@ -1,26 +1,11 @@
-use mathlib.Core.Path.{refl}
-use Rattle.borrow_graph.specs.Models.{told_of}
-use Rattle.abstract_state.specs.Models.{running_of, words, needing}
-use Rattle.abstract_state.specs.ModelLaws.{does_here, stays, needed, not_needed}
+use Rattle.abstract_state.specs.ModelLaws.{does_nothing}
 use Rattle.abstract_state.proofs.basic_calls.require_yes.Goals as goal
 
-pub returns-then-t : goal.returns-then-t
-returns-then-t c =
-    λ ls ns es.
-    let a = c.args in
-    let r = running_of (words ls ns es a.state) in
-    does_here _ ls ns es _ _ refl (needed a.state.violation a.state.borrowed_at.0 a.state.refusal r a.t.refusal c.if-state.true a.t.yes a.number c.if-t.true)
+pub returns-in-Ok-true : goal.returns-in-Ok-true
+returns-in-Ok-true c = λ ls ns es. rw (c.in-Ok-true.is, c.in-Ok-true.field-0-test) (does_nothing _)
 
-pub returns-else-t : goal.returns-else-t
-returns-else-t c =
-    λ ls ns es.
-    let a = c.args in
-    let r = running_of (words ls ns es a.state) in
-    does_here _ ls ns es _ _ refl (not_needed a.state.violation a.state.borrowed_at.0 a.state.refusal r a.t.refusal c.if-state.true a.t.yes a.number c.if-t.false)
+pub returns-in-Ok-false : goal.returns-in-Ok-false
+returns-in-Ok-false c = λ ls ns es. rw (c.in-Ok-false.is, c.in-Ok-false.field-0-test) (c.refuse.ensures ls ns es)
 
-pub returns-else-state : goal.returns-else-state
-returns-else-state c =
-    λ ls ns es.
-    let a = c.args in
-    let r = running_of (words ls ns es a.state) in
-    does_here _ ls ns es _ _ refl (stays a.state.blurred a.state.violation a.state.borrowed_at.0 a.state.refusal r r (needing (told_of a.t) a.number) c.if-state.false)
+pub returns-in-Err : goal.returns-in-Err
+returns-in-Err c = λ ls ns es. rw c.in-Err.is (c.refuse-in-Err.ensures ls ns es)

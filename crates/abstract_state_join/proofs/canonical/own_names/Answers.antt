@@ -13,48 +13,28 @@ use native.Mathlib.Omega.{arith}
 use Rattle.abstract_state_join.proofs.canonical.own_names.Goals as goal
 
 pub loop-i-init : goal.loop-i-init
-loop-i-init c = (omega arith, λ h. (h, refl))
-
-pub offset_bounds-locals-i : goal.offset_bounds-locals-i
-offset_bounds-locals-i c = omega arith
-
-pub bounds-locals-i : goal.bounds-locals-i
-bounds-locals-i c = omega arith
-
-pub offset_bounds-locals-i-in-loop-i : goal.offset_bounds-locals-i-in-loop-i
-offset_bounds-locals-i-in-loop-i c = omega arith
-
-pub bounds-locals-i-in-loop-i : goal.bounds-locals-i-in-loop-i
-bounds-locals-i-in-loop-i c = omega arith
-
-pub overflow_add-i : goal.overflow_add-i
-overflow_add-i c = omega arith
-
-pub loop-i-smaller : goal.loop-i-smaller
-loop-i-smaller c = omega arith
+loop-i-init c = λ h. (h, refl)
 
 pub loop-i-preserved : goal.loop-i-preserved
 loop-i-preserved c =
     let a = c.args in
     let l = c.loop-i in
-    let w = c.local_word-w.result in
-    let xs = drop (l.i + 1) (locals_in l.locals a.n) in (
-      omega arith,
-      λ h.
-          let q = l.invariant.1 h in (
-            simp length-set q.0,
-            ap (λ (zs : List S.Local). map local_in (take (l.i + 1) (set l.locals l.i w)) ++ own_names (l.i + 1) zs) (unread l.locals a.n l.i w)
-                ∙ written l.locals l.i _ _ q.1 w (own_names (l.i + 1) xs) (omega arith)
-                (ap (own_names l.i) (local_next l.locals a.n c.count-k.result q.0 c.count-k.ensures l.i (omega arith)) ∙ own_step l.i (local_in (get_or l.locals l.i 0)) xs
-                ∙ ap (λ (y : S.Local). y ∷ own_names (l.i + 1) xs) (sym (c.local_word-w.ensures.0 ∙ c.own_name-y.ensures ∙ ap (own_name l.i) c.local_of-x.ensures))),
-          ),
+    let w = c.local_word.result in
+    let xs = drop (l.i + 1) (locals_in l.locals a.n) in
+    λ h.
+    let q = l.invariant h in (
+      simp length-set q.0,
+      ap (λ (zs : List S.Local). map local_in (take (l.i + 1) (set l.locals l.i w)) ++ own_names (l.i + 1) zs) (unread l.locals a.n l.i w)
+          ∙ written l.locals l.i _ _ q.1 w (own_names (l.i + 1) xs) (omega arith)
+          (ap (own_names l.i) (local_next l.locals a.n c.count-i-end.result q.0 c.count-i-end.ensures l.i (omega arith)) ∙ own_step l.i (local_in (get_or l.locals l.i 0)) xs
+          ∙ ap (λ (y : S.Local). y ∷ own_names (l.i + 1) xs) (sym (c.local_word.ensures.0 ∙ c.own_name.ensures ∙ ap (own_name l.i) c.local_of.ensures))),
     )
 
 pub returns : goal.returns
 returns c =
-    let count = c.count-k in
+    let count = c.count-i-end in
     let a = c.args in
     let l = c.loop-i in
     let e : l.i ≡ count.result = omega arith in
-    λ h. let q = l.invariant.1 h in
+    λ h. let q = l.invariant h in
     (all_written l.locals l.i _ _ q.1 a.n count.result q.0 count.ensures e (ap (own_names l.i) (locals_end l.locals a.n count.result q.0 count.ensures l.i (omega arith)) ∙ own_end l.i), q.0)

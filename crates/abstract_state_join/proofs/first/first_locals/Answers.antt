@@ -1,9 +1,9 @@
 use mathlib.Core.Path.{◌≡◌, sym, ap, ◌∙◌}
 use mathlib.Core.List.{◌∷◌, map}
 use Prim.Native.Nat.{ℕ, ◌+◌, ◌-◌}
-use lib.ListN.{take, drop, length-set}
+use lib.ListN.{drop, length-set}
 use Rattle.meaning.specs.AbstractState as S
-use Rattle.meaning.specs.Listing.{token_as}
+use Rattle.file_format.specs.Models.{token_of}
 use Rattle.meaning.specs.AbstractState.{first_locals}
 use Rattle.abstract_state_join.specs.LocalLaws.{written, all_written}
 use Rattle.abstract_state_join.specs.FirstLaws.{local_step, local_end}
@@ -13,32 +13,18 @@ use Rattle.abstract_state_join.proofs.first.first_locals.Goals as goal
 pub loop-i-init : goal.loop-i-init
 loop-i-init c =
     let e : c.args.n - 0 ≡ c.args.n = omega arith in
-    (omega arith, λ h. (h, ap (λ (k : ℕ). first_locals 0 k (map token_as (take c.args.count c.args.params))) e))
-
-pub offset_bounds-locals-i : goal.offset_bounds-locals-i
-offset_bounds-locals-i c = omega arith
-
-pub bounds-locals-i : goal.bounds-locals-i
-bounds-locals-i c = omega arith
-
-pub overflow_add-i : goal.overflow_add-i
-overflow_add-i c = omega arith
-
-pub loop-i-smaller : goal.loop-i-smaller
-loop-i-smaller c = omega arith
+    λ h. (h, ap (λ (k : ℕ). first_locals 0 k (map token_of c.args.params.now)) e)
 
 pub loop-i-preserved : goal.loop-i-preserved
 loop-i-preserved c =
-    let ts = map token_as (take c.args.count c.args.params) in
+    let ts = map token_of c.args.params.now in
     let l = c.loop-i in
-    let n = c.args.n in (
-      omega arith,
-      λ h.
-          let q = l.invariant.1 h in (
-            simp length-set q.0,
-            written l.locals l.i _ _ q.1 c.local_word-w.result (first_locals (l.i + 1) (n - (l.i + 1)) (drop (l.i + 1) ts)) (omega arith)
-                (local_step l.i n ts (omega arith) ∙ ap (λ (y : S.Local). y ∷ first_locals (l.i + 1) (n - (l.i + 1)) (drop (l.i + 1) ts)) (sym (c.local_word-w.ensures.0 ∙ c.first_local-x.ensures))),
-          ),
+    let n = c.args.n in
+    λ h.
+    let q = l.invariant h in (
+      simp length-set q.0,
+      written l.locals l.i _ _ q.1 c.local_word.result (first_locals (l.i + 1) (n - (l.i + 1)) (drop (l.i + 1) ts)) (omega arith)
+          (local_step l.i n ts (omega arith) ∙ ap (λ (y : S.Local). y ∷ first_locals (l.i + 1) (n - (l.i + 1)) (drop (l.i + 1) ts)) (sym (c.local_word.ensures.0 ∙ c.first_local.ensures))),
     )
 
 pub returns : goal.returns
@@ -46,5 +32,5 @@ returns c =
     let l = c.loop-i in
     let n = c.args.n in
     let e : l.i ≡ n = omega arith in
-    λ h. let q = l.invariant.1 h in
-    (all_written l.locals l.i _ _ q.1 n n q.0 (omega arith) e (local_end l.i n (drop l.i (map token_as (take c.args.count c.args.params))) (omega arith)), q.0)
+    λ h. let q = l.invariant h in
+    (all_written l.locals l.i _ _ q.1 n n q.0 (omega arith) e (local_end l.i n (drop l.i (map token_of c.args.params.now)) (omega arith)), q.0)

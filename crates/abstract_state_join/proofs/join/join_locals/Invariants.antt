@@ -1,6 +1,6 @@
 use mathlib.Core.Path.{◌≡◌}
 use mathlib.Core.List.{map}
-use Prim.Native.Nat.{◌*◌, ◌-◌, ◌≤◌}
+use Prim.Native.Nat.{◌*◌, ◌≤◌}
 use lib.ListN.{length, take, drop}
 use Rattle.meaning.specs.Answers.{and_then}
 use Rattle.meaning.specs.Area.{local_in}
@@ -11,12 +11,9 @@ use Rattle.abstract_state_join.specs.JoinLaws.{after}
 use Rattle.abstract_state_join.proofs.join.join_locals.Given as goal
 
 abbrev pub invariant-loop-i : goal.invariant-loop-i
-invariant-loop-i l = (l.i ≤ l.k) × (l.p.refusal ≡ 0) × (l.p.blurred ≤ 255 * l.i)
-    × (length l.initial.locals ≡ 16 → length l.locals2 ≡ 16 → Tells l.initial.names l.initial.edges l.initial.p.ours → Tells l.initial.names2 l.initial.edges2 l.initial.p.theirs
-    → (length l.locals ≡ 16) × Tells l.names l.edges l.p.ours × Tells l.names2 l.edges2 l.p.theirs
-    × (and_then (join_locals (drop l.i (locals_in l.locals l.n)) (drop l.i (locals_in l.locals2 l.m)) (graph_in l.names l.edges l.p.ours) (graph_in l.names2 l.edges2 l.p.theirs))
-    (after (map local_in (take l.i l.locals)) l.p.blurred)
-    ≡ join_locals (locals_in l.initial.locals l.n) (locals_in l.locals2 l.m) (graph_in l.initial.names l.initial.edges l.initial.p.ours) (graph_in l.initial.names2 l.initial.edges2 l.initial.p.theirs)))
-
-abbrev pub decreases-loop-i : goal.decreases-loop-i
-decreases-loop-i l = l.k - l.i
+invariant-loop-i l = (l.blurred ≤ 255 * l.i)
+    × (length l.initial.locals ≡ 16 → length l.locals2 ≡ 16 → Tells l.initial.names l.initial.edges l.initial.ours → Tells l.initial.names2 l.initial.edges2 l.initial.theirs
+    → (length l.locals ≡ 16) × Tells l.names l.edges l.ours × Tells l.names2 l.edges2 l.theirs
+    × (and_then (join_locals (drop l.i (locals_in l.locals l.n)) (drop l.i (locals_in l.locals2 l.m)) (graph_in l.names l.edges l.ours) (graph_in l.names2 l.edges2 l.theirs))
+    (after (map local_in (take l.i l.locals)) l.blurred)
+    ≡ join_locals (locals_in l.initial.locals l.n) (locals_in l.locals2 l.m) (graph_in l.initial.names l.initial.edges l.initial.ours) (graph_in l.initial.names2 l.initial.edges2 l.initial.theirs)))

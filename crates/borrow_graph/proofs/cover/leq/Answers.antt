@@ -23,7 +23,7 @@ unfolding covering
 returns-then-g-h c =
     λ t u.
     let a = c.args in
-    rw (sym (asked c.before.before.before.before t u) ∙ c.if-g-h.true) (ap {B = Ans Bool} ok (c.cover-c.ensures t.rows u.rows ∙ sym (unmatched_none (graph_in a.names.now a.edges.now a.g) (graph_in a.names2.now a.edges2.now a.h))))
+    rw (sym (asked c.before.before.before.before t u) ∙ c.if-g-h.true) (ap {B = Ans Bool} ok (c.cover.ensures t.rows u.rows ∙ sym (unmatched_none (graph_in a.names.now a.edges.now a.g) (graph_in a.names2.now a.edges2.now a.h))))
 
 pub returns : goal.returns
 unfolding covering

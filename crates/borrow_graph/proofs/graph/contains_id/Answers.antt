@@ -6,7 +6,7 @@ use Rattle.borrow_graph.proofs.graph.contains_id.Goals as goal
 
 pub returns-then-g : goal.returns-then-g
 unfolding contains_id
-returns-then-g c = λ es t. rw (sym t.formed ∙ c.if-g.true) (ap {B = Ans Bool} ok (c.holds-h.ensures t.words))
+returns-then-g c = λ es t. rw (sym t.formed ∙ c.if-g.true) (ap {B = Ans Bool} ok (c.holds.ensures t.words))
 
 pub returns : goal.returns
 unfolding contains_id

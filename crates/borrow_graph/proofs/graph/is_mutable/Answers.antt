@@ -11,7 +11,7 @@ returns-then-g-h c =
     λ es t.
     let g = graph_in c.args.names.now es c.args.g in
     let h : (well_formed g && held g c.args.id.0) ≡ true = (λ i. sym t.formed i && sym (c.holds-h.ensures t.words) i) ∙ c.if-g-h.true in
-    rw h (ap {B = Ans Bool} ok (c.is_mutable_in-m.ensures t.words))
+    rw h (ap {B = Ans Bool} ok (c.is_mutable_in.ensures t.words))
 
 pub returns : goal.returns
 unfolding mutable_of

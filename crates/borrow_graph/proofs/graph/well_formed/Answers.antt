@@ -8,7 +8,8 @@ use Rattle.meaning.specs.BorrowGraph.{pair_ok, well_formed}
 use Rattle.meaning.specs.Refinement.Chain.{chain, no_edge, climbs}
 use Rattle.meaning.proofs.Laws.Chain.{chain_well_formed}
 use Rattle.references.specs.Models.{row_of, names_in, edges_in}
-use Rattle.references.specs.ModelLaws.{names_few, edges_few, edges_step, edges_end, edges_size}
+use Rattle.references.specs.ModelLaws.{names_few, edges_few}
+use Rattle.borrow_graph.specs.ModelLaws.{edges_turn, edges_done}
 use Rattle.borrow_graph.specs.Folds.{chain_on, chain_off}
 use native.Mathlib.Omega.{arith}
 use Rattle.borrow_graph.proofs.graph.well_formed.Goals as goal
@@ -28,51 +29,37 @@ returns-then-not-ascend c =
     let a = c.args in
     answer a.names.now a.edges.now a.n a.m few fit false _ (sym (c.ascend.ensures few) ∙ c.if-not-ascend.true) refl
 
-pub loop-i-init : goal.loop-i-init
+pub loop-x-init : goal.loop-x-init
 unfolding up_to
-loop-i-init c = λ few fit. refl
+loop-x-init c = λ few fit. refl
 
-pub offset_bounds-edges-i : goal.offset_bounds-edges-i
-offset_bounds-edges-i c = omega arith
-
-pub bounds-edges-i : goal.bounds-edges-i
-bounds-edges-i c = omega arith
-
-pub overflow_add-i : goal.overflow_add-i
-overflow_add-i c = omega arith
-
-pub loop-i-smaller : goal.loop-i-smaller
-loop-i-smaller c = omega arith
-
-pub loop-i-preserved : goal.loop-i-preserved
-loop-i-preserved c = let lesser =
-    c.lesser-k in
-    let loop-test = c.loop-i-test in
+pub loop-x-preserved : goal.loop-x-preserved
+loop-x-preserved c = let lesser =
+    c.lesser in
     let parent = c.parent-p in
     λ few fit.
     let a = c.args in
-    let l = c.loop-i in
+    let l = c.loop-x in
     let q = pair_ok (names_in a.names.now a.n) in
     let es = edges_in a.edges.now a.m in
-    let e = edges_step a.edges.now a.m _ l.i (omega (arith, edges_size a.edges.now a.m, lesser.ensures, loop-test.true)) in
-    sym (chain_on q l.count (row_of l.last) _ (drop (l.i + 1) es) _ _ (c.pair_ok-h.ensures few ∙ (λ i. q (parent.ensures i) (c.child-c.ensures i))) c.link-l.ensures c.if-h-l.true)
+    let e = edges_turn a.edges.now a.m _ l.x-index lesser.ensures fit (omega arith) in
+    sym (chain_on q l.count (row_of l.last) _ (drop (l.x-index + 1) es) _ _ (c.pair_ok-h.ensures few ∙ (λ i. q (parent.ensures i) (c.child-c.ensures i))) c.link-l.ensures c.if-h-l.true)
     ∙ ap (chain q l.count (row_of l.last)) (sym e) ∙ l.invariant few fit
 
 pub returns-else-h-l : goal.returns-else-h-l
 returns-else-h-l c = let lesser =
-    c.lesser-k in
+    c.lesser in
     let ascend = c.ascend in
     let if1 = c.if-not-ascend in
-    let loop-test = c.loop-i-test in
     let parent = c.parent-p in
     λ few fit.
     let a = c.args in
-    let l = c.loop-i in
+    let l = c.loop-x in
     let q = pair_ok (names_in a.names.now a.n) in
     let es = edges_in a.edges.now a.m in
-    let e = edges_step a.edges.now a.m _ l.i (omega (arith, edges_size a.edges.now a.m, lesser.ensures, loop-test.true)) in
+    let e = edges_turn a.edges.now a.m _ l.x-index lesser.ensures fit (omega arith) in
     answer a.names.now a.edges.now a.n a.m few fit true false (sym (ascend.ensures few) ∙ if1.false)
-    (sym (l.invariant few fit) ∙ ap (chain q l.count (row_of l.last)) e ∙ chain_off q l.count (row_of l.last) _ (drop (l.i + 1) es) _ _
+    (sym (l.invariant few fit) ∙ ap (chain q l.count (row_of l.last)) e ∙ chain_off q l.count (row_of l.last) _ (drop (l.x-index + 1) es) _ _
     (c.pair_ok-h.ensures few ∙ (λ i. q (parent.ensures i) (c.child-c.ensures i))) c.link-l.ensures
     c.if-h-l.false)
 
@@ -80,7 +67,7 @@ pub returns : goal.returns
 returns c =
     λ few fit.
     let a = c.args in
-    let l = c.loop-i in
+    let l = c.loop-x in
     let q = pair_ok (names_in a.names.now a.n) in
-    let e = edges_end a.edges.now a.m l.i (omega (arith, edges_size a.edges.now a.m, c.lesser-k.ensures, c.loop-i-test.false)) in
+    let e = edges_done a.edges.now a.m _ l.x-index c.lesser.ensures fit (omega arith) in
     answer a.names.now a.edges.now a.n a.m few fit true true (sym (c.ascend.ensures few) ∙ c.if-not-ascend.false) (sym (l.invariant few fit) ∙ ap (chain q l.count (row_of l.last)) e)

@@ -13,7 +13,7 @@ returns-then-g-h c =
     let a = c.args in
     let g = graph_in a.names.now a.edges.now a.g in
     let h : (well_formed g && held g a.id.0) ≡ true = (λ i. sym t.formed i && sym (c.holds-h.ensures t.words) i) ∙ c.if-g-h.true in
-    rw (h, c.borrows.ensures.0) (ap {B = Ans Borrows} ok (c.borrows.ensures.1 t.words t.rows))
+    rw h (ap {B = Ans Borrows} ok (c.borrows.ensures t.words t.rows))
 
 pub returns : goal.returns
 unfolding borrowed_by

@@ -12,7 +12,7 @@ returns-then-g-h c =
     let a = c.args in
     let g = graph_in a.names.now a.edges.now a.g in
     let h : (well_formed g && held g a.id.0) ≡ true = (λ i. sym t.formed i && sym (c.holds-h.ensures t.words) i) ∙ c.if-g-h.true in
-    rw h (ap {B = Ans (List GEdge)} ok (c.select-n.ensures t.rows fit).0)
+    rw h (ap {B = Ans (List GEdge)} ok (c.select.ensures t.rows fit).0)
 
 pub returns : goal.returns
 returns c =

@@ -1,47 +1,14 @@
-use mathlib.Core.List.{[]}
-use mathlib.Core.Path.{refl}
+use Rattle.std.proofs.Common.{rules, tests, ◌∙◌, take}
+use Rattle.std.proofs.lemmas.Iterator.{YieldsList-from_slice}
+use Rattle.std.proofs.lemmas.Iterator.Search.{any_from_yields_List}
 use Rattle.meaning.specs.BorrowGraph.{moves}
-use Rattle.meaning.proofs.Laws.Search.{any_found, any_on, any_none}
-use Rattle.references.specs.Models.{path_at}
-use Rattle.references.specs.ModelLaws.{edges_next, edges_over}
-use native.Mathlib.Omega.{arith}
+use Rattle.meaning.proofs.Laws.Search.{list_any_of}
+use Rattle.references.specs.Models.{row_of, edges_in, path_at}
 use Rattle.borrow_graph_edit.proofs.borrow.any_moves.Goals as goal
 
-pub loop-i-init : goal.loop-i-init
-loop-i-init c = (omega arith, λ e. refl)
-
-pub offset_bounds-edges-i : goal.offset_bounds-edges-i
-offset_bounds-edges-i c = omega arith
-
-pub bounds-edges-i : goal.bounds-edges-i
-bounds-edges-i c = omega arith
-
-pub returns-then-is_moved : goal.returns-then-is_moved
-returns-then-is_moved c =
-    let a = c.args in
-    let pre = c.requires in
-    let loop-test = c.loop-i-test in
-    let l = c.loop-i in
-    λ e. any_found (moves a.parent.0 (path_at a.path)) _ _ _ _ (edges_next a.edges.now a.m [] l.i loop-test.true (omega (arith, e, pre))) (l.invariant.1 e) _ c.is_moved.ensures c.if-is_moved.true
-
-pub overflow_add-i : goal.overflow_add-i
-overflow_add-i c = omega arith
-
-pub loop-i-smaller : goal.loop-i-smaller
-loop-i-smaller c = omega arith
-
-pub loop-i-preserved : goal.loop-i-preserved
-loop-i-preserved c =
-    let a = c.args in
-    let loop-test = c.loop-i-test in
-    let pre = c.requires in
-    let l = c.loop-i in (
-      omega (arith, loop-test.true),
-      λ e. any_on (moves a.parent.0 (path_at a.path)) _ _ _ _ (edges_next a.edges.now a.m [] l.i loop-test.true (omega (arith, e, pre))) (l.invariant.1 e) _ c.is_moved.ensures c.if-is_moved.false,
-    )
-
 pub returns : goal.returns
-returns c =
-    let a = c.args in
-    let l = c.loop-i in
-    λ e. any_none (moves a.parent.0 (path_at a.path)) _ _ (edges_over a.edges.now a.m l.i (omega (arith, c.loop-i-test.false)) (omega (arith, e, c.requires))) (l.invariant.1 e)
+unfolding edges_in
+returns c e =
+    any_from_yields_List {all = take c.args.m c.args.edges.now} (λ x. moves c.args.parent.0 (path_at c.args.path) (row_of x)) _ _ c.any.result c.any.ensures.ran
+    (YieldsList-from_slice _ cc) (λ x b q k. search (rules, tests))
+    ∙ list_any_of (moves c.args.parent.0 (path_at c.args.path)) row_of _

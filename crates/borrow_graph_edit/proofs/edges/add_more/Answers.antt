@@ -1,102 +1,69 @@
-use mathlib.Core.Path.{◌≡◌, refl, sym, ap, ◌∙◌}
-use mathlib.Core.List.{◌++◌}
-use Prim.Native.Nat.{◌+◌}
-use lib.ListN.{length, take, drop}
-use Rattle.meaning.specs.Limits.{max_edges, max_set_size}
-use Rattle.meaning.specs.Answers.{ok}
-use Rattle.meaning.specs.References.{EdgeSet, fits, insert, offer, report, offer_report}
+use Rattle.std.proofs.Common.{arith, sym, ap, ◌∙◌, length, take, drop, ◌++◌, ◌+◌}
+use Rattle.std.proofs.Math.Path.{refl}
+use Rattle.vm_status.specs.Models.{number_of}
+use Rattle.meaning.specs.References.{EdgeSet, fits, offer, offer_report}
 use Rattle.meaning.specs.Lists.{keep}
-use Rattle.meaning.specs.BorrowGraph.{is_before, set_at}
-use Rattle.meaning.specs.BorrowGraph as G
-use Rattle.meaning.proofs.Laws.Blurs.{newly_self}
-use Rattle.meaning.proofs.Laws.Pass.{neat_few}
-use Rattle.meaning.specs.Laws.Pair.{Neat}
-use Rattle.meaning.specs.Refinement.Pairs.{edges_at}
-use Rattle.references.specs.Models.{row_of, edges_in, set_in, report_of}
-use Rattle.references.specs.ModelLaws.{edges_count, set_count}
-use Rattle.borrow_graph_edit.specs.Replaces.{row_short, taken_in, reported, cut_in, more_over, more_blurs, more_fits}
-use native.Mathlib.Omega.{arith}
+use Rattle.meaning.specs.BorrowGraph.{is_before, set_at, tagged}
+use Rattle.meaning.proofs.Laws.Pass.{neat_few, offer_ok}
+use Rattle.references.specs.Models.{row_of, edges_in, set_of, report_of}
+use Rattle.references.specs.ModelLaws.{edges_count}
+use Rattle.borrow_graph_edit.specs.Edits.{err_is}
+use Rattle.borrow_graph_edit.specs.Replaces.{cut_in, more_refused, more_over, more_blurs, more_fits}
 use Rattle.borrow_graph_edit.proofs.edges.add_more.Goals as goal
-use Rattle.borrow_graph_edit.proofs.edges.add_more.Lts as lts
-use Rattle.borrow_graph_edit.proofs.edges.add_more.Reads as reads
-use Rattle.borrow_graph_edit.proofs.edges.add_more.Tie as tie
 
--- what is known once the edge was inserted into the pair's set
-found : (c : (lts.After-insert tie.the-claims reads.Pre reads.Post)) →
+pub returns-in_err-report : goal.returns-in_err-report
+returns-in_err-report c =
     let a = c.args in
-    let between = c.between-b in
     let es = edges_in a.edges.now a.m in
     let x = row_of a.x in
-    length a.edges.now ≡ max_edges → Neat es
-    → (length c.insert-a.new.set ≡ max_set_size)
-    × (insert (set_at x.parent x.child es) x.edge ≡ ok (set_in c.insert-a.new.set c.insert-a.result.set))
-    × (between.result.low ≡ length (keep (is_before x.parent x.child) es))
-    × (between.result.set.len ≡ length (edges_at x.parent x.child es))
-    × (report (set_at x.parent x.child es) x.edge ≡ ok (report_of c.insert-a.result.report))
-found c e w =
-    let a = c.args in
-    let parent' = c.parent-p in
-    let child' = c.child-c in
-    let es = edges_in a.edges.now a.m in
-    let x = row_of a.x in
-    let b = c.between-b.ensures.2 e refl in
-    let g = b.1 (neat_few es parent'.result.0 child'.result.0 w) in
-    let s = g.0 ∙ (λ i. set_at (parent'.ensures i) (child'.ensures i) es) in
-    let t = c.insert-a.ensures b.0 in
-    let told-set = t.0 ∙ ap (λ (u : EdgeSet). offer u (fits x.edge)) s in
-    let k = set_count c.between-b.new.set c.between-b.result.set.len b.0 in (
-      t.1,
-      taken_in (set_at x.parent x.child es) (set_in c.insert-a.new.set c.insert-a.result.set) x.edge c.insert-a.result.refusal (row_short a.x) told-set,
-      g.1 ∙ (λ i. length (keep (is_before (parent'.ensures i) (child'.ensures i)) es)),
-      omega (arith, k, c.between-b.ensures.1, ap (λ (u : EdgeSet). length u.edges) s),
-      reported (set_at x.parent x.child es) (set_in c.insert-a.new.set c.insert-a.result.set) x.edge c.insert-a.result.refusal (report_of c.insert-a.result.report) (row_short a.x) told-set
-          (t.4 ∙ ap (λ (u : EdgeSet). offer_report u (fits x.edge)) s),
+    let r = c.in_err-report.field-0.0 in
+    rw (err_is c.from_residual.result r c.from_residual.ensures.1) (
+      tt,
+      λ e w.
+          let s = (c.between-at.ensures.1 e (neat_few es c.parent-p.result.0 c.child-c.result.0 w)).0 ∙ (λ i. set_at (c.parent-p.ensures i) (c.child-c.ensures i) es) in
+          (e, more_refused x es (number_of r) (c.in_err-report.ensures.0 ∙ ap (λ (t : EdgeSet). offer t (fits x.edge)) s ∙ offer_ok _ _), refl, tt),
     )
 
 pub returns-then-m-size-gt-MAX_EDGES : goal.returns-then-m-size-gt-MAX_EDGES
 returns-then-m-size-gt-MAX_EDGES c =
-    let pre = c.requires in
-    let between = c.between-b in
     let a = c.args in
-    let es = edges_in a.edges.now a.m in (
-      pre,
+    let es = edges_in a.edges.now a.m in
+    let x = row_of a.x in (
+      tt,
       λ e w.
-          let n = edges_count a.edges.now a.m (omega (arith, e, pre)) in
-          let f = found c.before.before.before e w in
-          let k = set_count c.insert-a.new.set c.insert-a.result.set.len f.0 in (
+          let n = edges_count a.edges.now a.m (omega (arith, e, c.requires)) in
+          let s = (c.between-at.ensures.1 e (neat_few es c.parent-p.result.0 c.child-c.result.0 w)).0 ∙ (λ i. set_at (c.parent-p.ensures i) (c.child-c.ensures i) es) in
+          let t = c.in_ok-report.ensures.0 ∙ ap (λ (u : EdgeSet). offer u (fits x.edge)) s ∙ offer_ok _ _ in
+          let size = c.len-size.ensures.0 ∙ ap (λ (u : EdgeSet). length u.edges) s in (
             e,
-            more_over (row_of a.x) es (set_in c.insert-a.new.set c.insert-a.result.set) f.1
-                (omega (arith, n, k, f.3, c.len.ensures, c.if-m-size-gt-MAX_EDGES.true, between.ensures.0)),
-            λ z. (refl, refl),
-            sym (newly_self es),
+            more_over x es (set_of c.insert.new.self) (sym t) (omega (arith, n, size, c.len-size.ensures.0, c.len.ensures.0, c.if-m-size-gt-MAX_EDGES.true, c.between-at.ensures.0)),
+            refl,
+            tt,
           ),
     )
 
 pub returns : goal.returns
+unfolding offer_report
 returns c =
-    let pre = c.requires in
-    let parent' = c.parent-p in
-    let child' = c.child-c in
-    let between = c.between-b in
-    let len' = c.len in
-    let if1 = c.if-m-size-gt-MAX_EDGES in
     let a = c.args in
-    let es = edges_in a.edges.now a.m in (
-      omega (arith, c.replace-n.ensures.0, if1.false, len'.ensures),
+    let es = edges_in a.edges.now a.m in
+    let x = row_of a.x in (
+      omega (arith, c.replace.ensures.0, c.if-m-size-gt-MAX_EDGES.false, c.len.ensures.0),
       λ e w.
-          let n = edges_count a.edges.now a.m (omega (arith, e, pre)) in
-          let f = found c.before.before.before.before.before.before.before e w in
-          let k = set_count c.insert-a.new.set c.insert-a.result.set.len f.0 in
-          let t = set_in c.insert-a.new.set c.insert-a.result.set in
-          let z = c.replace-n.ensures.1 e f.0 in
-          let low = between.result.low in
-          let old = between.result.set.len in
-          let y = z.1 ∙ (λ i. take low es ++ (G.tagged (parent'.ensures i) (child'.ensures i) t.blurred t.edges ++ drop (low + old) es)) in
-          let cut = y ∙ cut_in es (row_of a.x).parent (row_of a.x).child low old t w f.2 f.3 in (
+          let n = edges_count a.edges.now a.m (omega (arith, e, c.requires)) in
+          let b = c.between-at.ensures.1 e (neat_few es c.parent-p.result.0 c.child-c.result.0 w) in
+          let s = b.0 ∙ (λ i. set_at (c.parent-p.ensures i) (c.child-c.ensures i) es) in
+          let t = c.in_ok-report.ensures.0 ∙ ap (λ (u : EdgeSet). offer u (fits x.edge)) s ∙ offer_ok _ _ in
+          let size = c.len-size.ensures.0 ∙ ap (λ (u : EdgeSet). length u.edges) s in
+          let low = c.between-at.result.low in
+          let old = c.len-size.result in
+          let set = set_of c.insert.new.self in
+          let z = c.replace.ensures.1 e in
+          let y = z.1 ∙ (λ i. take low es ++ (tagged (c.parent-p.ensures i) (c.child-c.ensures i) set.blurred set.edges ++ drop (low + old) es)) in
+          let cut = y ∙ cut_in es x.parent x.child low old set w (b.1 ∙ (λ i. length (keep (is_before (c.parent-p.ensures i) (c.child-c.ensures i)) es))) size in (
             z.0,
-            more_fits (row_of a.x) es t f.1 _ cut
-                (omega (arith, n, k, f.3, len'.ensures, if1.false, between.ensures.0)),
-            λ q. absurd (q refl),
-            c.blurs.ensures ∙ sym (more_blurs (row_of a.x) es t f.1 _ cut (report_of c.insert-a.result.report) f.4),
+            more_fits x es set (sym t) _ cut (omega (arith, n, size, c.len.ensures.0, c.if-m-size-gt-MAX_EDGES.false, c.len-size.ensures.0, c.between-at.ensures.0)),
+            tt,
+            c.blurs.ensures ∙ sym (more_blurs x es set (sym t) _ cut (report_of c.in_ok-report.report) (sym (c.in_ok-report.ensures.2 ∙ ap (λ (u : EdgeSet). offer_report u (fits x.edge)) s))),
           ),
     )

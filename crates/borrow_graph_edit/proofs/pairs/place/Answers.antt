@@ -1,109 +1,37 @@
-use mathlib.Core.Path.{◌≡◌, sym, ap, ◌∙◌, subst}
-use mathlib.Core.List.{List, [], ◌∷◌}
-use Prim.Native.Nat.{◌+◌}
-use lib.ListN.{length, drop, get_or}
-use Rattle.meaning.specs.Limits.{max_edges}
+use Rattle.std.proofs.Common.{arith, ◌≡◌, sym, ap, ◌∙◌, subst, length, length-take, List, []}
 use Rattle.meaning.specs.BorrowGraph.{GEdge}
 use Rattle.paths.specs.Models.{ordering_of}
-use Rattle.references.specs.Models.{row_of, edges_in}
-use Rattle.references.specs.ModelLaws.{edges_next, edges_over}
+use Rattle.references.specs.Models.{edges_in}
 use Rattle.borrow_graph_edit.specs.Walks.{Counts, counts_less, counts_equal, counts_greater, counts_all}
-use native.Mathlib.Omega.{arith}
+use Rattle.borrow_graph_edit.specs.Shifts.{row_next, row_over}
+use Rattle.borrow_graph_edit.proofs.pairs.place.Goals.{in-Less, in-Equal, in-Greater}
 use Rattle.borrow_graph_edit.proofs.pairs.place.Goals as goal
-use Rattle.borrow_graph_edit.proofs.pairs.place.Lts as lts
-use Rattle.borrow_graph_edit.proofs.pairs.place.Reads as reads
-use Rattle.borrow_graph_edit.proofs.pairs.place.Tie as tie
 
--- what is counted, with the next row in front of those left
-ahead : (c : (lts.After-side tie.the-claims reads.Pre reads.Post goal.the-invariant-loop-i goal.the-decreases-loop-i)) →
-    let l = c.loop-i in
+pub loop-x-init : goal.loop-x-init
+loop-x-init c = (omega arith, λ e. record { lower = omega arith; own = omega arith })
+
+pub loop-x-preserved : goal.loop-x-preserved
+loop-x-preserved c =
+    let l = c.loop-x in
     let a = c.args in
+    let p = a.parent.0 in
+    let k = a.child.0 in
     let es = edges_in a.edges.now a.m in
-    length a.edges.now ≡ max_edges → Counts a.parent.0 a.child.0 es (row_of (get_or a.edges.now l.i []) ∷ drop (l.i + 1) es) l.low l.size
-ahead c e =
-    let l = c.loop-i in
-    let a = c.args in
-    let es = edges_in a.edges.now a.m in
-    subst (λ (xs : List GEdge). Counts a.parent.0 a.child.0 es xs l.low l.size)
-    (edges_next a.edges.now a.m [] l.i (omega arith) (omega (arith, e, c.requires))) (l.invariant.2 e)
-
-pub loop-i-init : goal.loop-i-init
-loop-i-init c = (omega arith, omega arith, λ e. record { lower = omega arith; own = omega arith })
-
-pub offset_bounds-edges-i : goal.offset_bounds-edges-i
-offset_bounds-edges-i c = omega arith
-
-pub bounds-edges-i : goal.bounds-edges-i
-bounds-edges-i c = omega arith
-
-pub overflow_add-low : goal.overflow_add-low
-overflow_add-low c = omega arith
-
-pub overflow_add-i : goal.overflow_add-i
-overflow_add-i c = omega arith
-
-pub loop-i-smaller-in-Less : goal.loop-i-smaller-in-Less
-loop-i-smaller-in-Less c = omega arith
-
-pub loop-i-preserved-in-Less : goal.loop-i-preserved-in-Less
-loop-i-preserved-in-Less c =
-    let l = c.loop-i in
-    let a = c.args in
-    let o = sym c.side-o.ensures ∙ ap ordering_of c.in-Less.is in (
-      omega arith,
-      omega arith,
-      λ e.
-          counts_less a.parent.0 a.child.0 (edges_in a.edges.now a.m) _ _ l.low l.size
-          (ahead c.before e) o,
-    )
-
-pub overflow_add-size : goal.overflow_add-size
-overflow_add-size c = omega arith
-
-pub overflow_add-i-in-Equal : goal.overflow_add-i-in-Equal
-overflow_add-i-in-Equal c = omega arith
-
-pub loop-i-smaller-in-Equal : goal.loop-i-smaller-in-Equal
-loop-i-smaller-in-Equal c = omega arith
-
-pub loop-i-preserved-in-Equal : goal.loop-i-preserved-in-Equal
-loop-i-preserved-in-Equal c =
-    let l = c.loop-i in
-    let a = c.args in
-    let o = sym c.side-o.ensures ∙ ap ordering_of c.in-Equal.is in (
-      omega arith,
-      omega arith,
-      λ e.
-          counts_equal a.parent.0 a.child.0 (edges_in a.edges.now a.m) _ _ l.low l.size
-          (ahead c.before e) o,
-    )
-
-pub overflow_add-i-in-Greater : goal.overflow_add-i-in-Greater
-overflow_add-i-in-Greater c = omega arith
-
-pub loop-i-smaller : goal.loop-i-smaller
-loop-i-smaller c = omega arith
-
-pub loop-i-preserved : goal.loop-i-preserved
-loop-i-preserved c =
-    let l = c.loop-i in
-    let a = c.args in
-    let o = sym c.side-o.ensures ∙ ap ordering_of c.in-Greater.is in (
-      omega arith,
-      omega arith,
-      λ e.
-          counts_greater a.parent.0 a.child.0 (edges_in a.edges.now a.m) _ _ l.low l.size
-          (ahead c.before e) o,
-    )
+    let ahead = λ (e : length a.edges.now ≡ 96).
+    subst (λ (xs : List GEdge). Counts p k es xs l.low l.size) (row_next a.edges.now a.m l.x-index [] c.loop-x-test.true) (l.invariant.1 e) in
+    elim c.match-side.branch [
+      | in-Less w ↦ (omega arith, λ e. counts_less p k es _ _ l.low l.size (ahead e) _ _ (sym c.side.ensures ∙ ap ordering_of w.in-Less.is) w.low-is w.size-is)
+      | in-Equal w ↦ (omega arith, λ e. counts_equal p k es _ _ l.low l.size (ahead e) _ _ (sym c.side.ensures ∙ ap ordering_of w.in-Equal.is) w.low-is w.size-is)
+      | in-Greater w ↦ (omega arith, λ e. counts_greater p k es _ _ l.low l.size (ahead e) _ _ (sym c.side.ensures ∙ ap ordering_of w.in-Greater.is) w.low-is w.size-is)
+    ]
 
 pub returns : goal.returns
 returns c =
-    let l = c.loop-i in
+    let l = c.loop-x in
     let a = c.args in
     let es = edges_in a.edges.now a.m in (
-      omega arith,
+      omega (arith, length-take a.m a.edges.now),
       λ e.
           counts_all a.parent.0 a.child.0 es l.low l.size
-          (subst (λ (xs : List GEdge). Counts a.parent.0 a.child.0 es xs l.low l.size)
-          (edges_over a.edges.now a.m l.i (omega arith) (omega (arith, e, c.requires))) (l.invariant.2 e)),
+          (subst (λ (xs : List GEdge). Counts a.parent.0 a.child.0 es xs l.low l.size) (row_over a.edges.now a.m l.x-index c.loop-x-test.false) (l.invariant.1 e)),
     )

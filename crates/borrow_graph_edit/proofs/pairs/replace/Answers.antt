@@ -1,158 +1,78 @@
-use mathlib.Core.Path.{◌≡◌, refl, sym, ap, ◌∙◌}
-use mathlib.Core.List.{List, [], ◌∷◌, ◌++◌, append-nil}
-use Prim.Native.Nat.{ℕ, ◌+◌, ◌-◌, ◌≤◌}
-use lib.ListN.{length, drop, get_or, length-set, drop_of_length-le}
+use Rattle.std.proofs.Math.Path.{refl}
+use Rattle.std.proofs.Common.{arith, ◌≡◌, ◌≤◌, get_or, set, sym, ap, ◌∙◌, length, take, drop, length-set, add-zero, ◌+◌, ◌-◌, ℕ, List, [], ◌∷◌, ◌++◌}
+use Rattle.std.proofs.lemmas.List.{drop-set-lt}
 use Rattle.meaning.specs.BorrowGraph.{GEdge, tagged}
-use Rattle.references.specs.Models.{row_of, edges_in, set_edges}
-use Rattle.references.specs.ModelLaws.{edges_next, edges_count, edges_front, edges_push, set_count, set_step}
-use Rattle.borrow_graph_edit.specs.Walks.{exchanged, exchanged_front, exchanged_set, exchanged_behind, exchanged_length}
-use native.Mathlib.Omega.{arith}
+use Rattle.references.specs.Models.{edges_in, edge_in, set_of}
+use Rattle.references.specs.ModelLaws.{edges_count, edges_front, edges_push, rows_count, rows_step}
+use Rattle.borrow_graph_edit.specs.Walks.{exchanged, exchanged_front, exchanged_set, exchanged_behind}
+use Rattle.borrow_graph_edit.specs.Shifts.{rows_before, rows_behind}
 use Rattle.borrow_graph_edit.proofs.pairs.replace.Goals as goal
 
-pub overflow_sub-end : goal.overflow_sub-end
-overflow_sub-end c = omega arith
-
-pub overflow_add-end : goal.overflow_add-end
-overflow_add-end c = omega arith
-
-pub loop-j-init : goal.loop-j-init
-loop-j-init c =
-    let pre = c.requires in
+pub loop-i-init : goal.loop-i-init
+loop-i-init c =
     let a = c.args in
     let es = edges_in a.edges.now a.m in
-    let ds = set_edges a.set.now a.s.len in (
-      omega arith,
-      omega (arith, pre, c.len-k.ensures),
-      λ e d.
-          let n = edges_count a.edges.now a.m (omega (arith, e, pre)) in
-          let fits : a.low + a.old ≤ length es = omega (arith, n, pre) in (
-            e,
+    let ds = (set_of a.set.now).edges in (
+      λ e.
+          let n = edges_count a.edges.now a.m (omega (arith, e, c.requires)) in
+          let fits : a.low + a.old ≤ length es = omega (arith, n, c.requires) in
+          let front : edges_in c.copy_within.new.self a.low ≡ take a.low es =
+          ap (λ (rows : List (List ℕ)). edges_in rows a.low) c.copy_within.ensures.after
+          ∙ rows_before a.edges.now (a.low + a.old) (a.low + c.len-k.result) a.m c.requires.1 (omega (arith, e, c.requires)) (omega (arith, e, c.requires, c.len-k.ensures)) a.low (omega arith)
+          ∙ edges_front a.edges.now a.m a.low (omega (arith, n, c.requires)) in (
+            c.copy_within.ensures.len ∙ e,
             fits,
-            ap (λ (xs : List GEdge). edges_in a.edges.now a.low ++ xs) (exchanged_front es a.parent.0 a.child.0 a.low a.old a.s.overflown ds fits)
-                ∙ ap (λ (ys : List GEdge). ys ++ (tagged a.parent.0 a.child.0 a.s.overflown ds ++ drop (a.low + a.old) es))
-                (edges_front a.edges.now a.m a.low (omega (arith, n, pre))),
+            simp add-zero (ap (λ (xs : List GEdge). edges_in c.copy_within.new.self a.low ++ xs) (exchanged_front es a.parent.0 a.child.0 a.low a.old (set_of a.set.now).blurred ds fits)
+                ∙ ap (λ (ys : List GEdge). ys ++ (tagged a.parent.0 a.child.0 (set_of a.set.now).blurred ds ++ drop (a.low + a.old) es)) front),
           ),
+      λ i. drop (a.low + c.len-k.result) c.copy_within.new.self,
     )
 
-pub overflow_add-low : goal.overflow_add-low
-overflow_add-low c = omega arith
-
-pub overflow_sub-j : goal.overflow_sub-j
-overflow_sub-j c = omega (arith, c.loop-j.invariant.0)
-
-pub offset_bounds-set-j : goal.offset_bounds-set-j
-offset_bounds-set-j c = omega (arith, c.loop-j.invariant.0, c.len-k.ensures)
-
-pub bounds-set-j : goal.bounds-set-j
-bounds-set-j c = omega (arith, c.loop-j.invariant.0, c.len-k.ensures)
-
-pub offset_bounds-edges-j : goal.offset_bounds-edges-j
-offset_bounds-edges-j c = omega arith
-
-pub bounds-edges-j : goal.bounds-edges-j
-bounds-edges-j c = omega arith
-
-pub overflow_add-j : goal.overflow_add-j
-overflow_add-j c = omega arith
-
-pub loop-j-smaller-then-j-low : goal.loop-j-smaller-then-j-low
-loop-j-smaller-then-j-low c = omega arith
-
-pub loop-j-preserved-then-j-low : goal.loop-j-preserved-then-j-low
-loop-j-preserved-then-j-low c =
-    let pre = c.requires in
-    let len' = c.len-k in
-    let l = c.loop-j in
+pub loop-i-preserved : goal.loop-i-preserved
+loop-i-preserved c =
+    let l = c.loop-i in
     let a = c.args in
     let es = edges_in a.edges.now a.m in
-    let ds = set_edges a.set.now a.s.len in (
-      omega (arith, l.invariant.0),
-      omega arith,
-      λ e d.
-          let h = l.invariant.2 e d in
-          let n = set_count a.set.now a.s.len d in (
+    let ds = (set_of a.set.now).edges in
+    let j : ℕ = a.low + l.i in
+    let next : a.low + (l.i + 1) ≡ j + 1 = omega arith in
+    let back : j - a.low ≡ l.i = omega arith in (
+      λ e.
+          let h = l.invariant.0 e in
+          let whole : List GEdge = exchanged es a.parent.0 a.child.0 a.low a.old (set_of a.set.now).blurred ds h.1 in
+          let here : drop (j - a.low) ds ≡ edge_in (get_or c.rows-rows.result.now l.i []) ∷ drop (j - a.low + 1) ds =
+          rw back (rows_step c.rows-rows.result.now ds c.rows-rows.ensures [] l.i (omega (arith, rows_count c.rows-rows.result.now ds c.rows-rows.ensures, c.loop-i-test.true, c.len-k.ensures))) in (
             simp length-set h.0,
             h.1,
-            edges_push l.edges _ l.j (l.j + 1) _ refl (omega (arith, h.0, l.invariant.1, pre, len'.ensures))
-                ∙ ap (λ (x : GEdge). edges_in l.edges l.j ++ (x ∷ drop (l.j + 1) (exchanged es a.parent.0 a.child.0 a.low a.old a.s.overflown ds h.1)))
-                c.tagged-x.ensures
-                ∙ ap (λ (xs : List GEdge). edges_in l.edges l.j ++ xs)
-                (sym (exchanged_set es a.parent.0 a.child.0 a.low a.old a.s.overflown ds h.1 l.j _ l.invariant.0
-                (set_step a.set.now a.s.len [] (l.j - a.low) (omega (arith, n, c.if-j-low.true, l.invariant.0, len'.ensures)))))
+            ap (λ (z : ℕ). edges_in (set l.edges j c.tagged.result) z ++ drop z whole) next
+                ∙ edges_push l.edges c.tagged.result j (j + 1) (drop (j + 1) whole) refl (omega (arith, h.0, c.loop-i-test.true, c.requires, c.len-k.ensures))
+                ∙ ap (λ (x : GEdge). edges_in l.edges j ++ (x ∷ drop (j + 1) whole)) (c.tagged.ensures ∙ (λ i. record { parent = a.parent.0; child = a.child.0; blurred = c.is_overflown-blurred.ensures i; edge = edge_in (get_or c.rows-rows.result.now l.i []) }))
+                ∙ ap (λ (xs : List GEdge). edges_in l.edges j ++ xs)
+                (sym (exchanged_set es a.parent.0 a.child.0 a.low a.old (set_of a.set.now).blurred ds h.1 j _ (omega arith) here))
                 ∙ h.2,
           ),
-    )
-
-pub overflow_sub-x : goal.overflow_sub-x
-overflow_sub-x c = omega (arith, c.len-k.ensures, c.if-j-low.false, c.loop-j.invariant.0)
-
-pub overflow_add-x : goal.overflow_add-x
-overflow_add-x c = omega (arith, c.len-k.ensures, c.requires)
-
-pub offset_bounds-was-j : goal.offset_bounds-was-j
-offset_bounds-was-j c = omega (arith, c.len-k.ensures, c.if-j-low.false, c.loop-j.invariant.1, c.requires)
-
-pub bounds-was-j : goal.bounds-was-j
-bounds-was-j c = omega (arith, c.len-k.ensures, c.if-j-low.false, c.loop-j.invariant.1, c.requires)
-
-pub offset_bounds-edges-j-else-j-low : goal.offset_bounds-edges-j-else-j-low
-offset_bounds-edges-j-else-j-low c = omega arith
-
-pub bounds-edges-j-else-j-low : goal.bounds-edges-j-else-j-low
-bounds-edges-j-else-j-low c = omega arith
-
-pub overflow_add-j-else-j-low : goal.overflow_add-j-else-j-low
-overflow_add-j-else-j-low c = omega arith
-
-pub loop-j-smaller : goal.loop-j-smaller
-loop-j-smaller c = omega arith
-
-pub loop-j-preserved : goal.loop-j-preserved
-loop-j-preserved c =
-    let pre = c.requires in
-    let len' = c.len-k in
-    let if1 = c.if-j-low in
-    let l = c.loop-j in
-    let a = c.args in
-    let es = edges_in a.edges.now a.m in
-    let ds = set_edges a.set.now a.s.len in
-    let k = len'.result in (
-      omega (arith, l.invariant.0),
-      omega arith,
-      λ e d.
-          let h = l.invariant.2 e d in
-          let n = set_count a.set.now a.s.len d in
-          let i : ℕ = l.j - k - a.low in
-          let here : a.low + a.old + i ≡ l.j - k + a.old = omega (arith, if1.false) in (
-            simp length-set h.0,
-            h.1,
-            edges_push l.edges _ l.j (l.j + 1) _ refl (omega (arith, h.0, l.invariant.1, pre, len'.ensures))
-                ∙ ap (λ (xs : List GEdge). edges_in l.edges l.j ++ xs)
-                (sym (exchanged_behind es a.parent.0 a.child.0 a.low a.old a.s.overflown ds h.1 l.j i _ (omega (arith, n, len'.ensures, if1.false))
-                (ap (λ (z : ℕ). drop z es) here ∙ edges_next a.edges.now a.m [] (l.j - k + a.old) (omega (arith, if1.false, len'.ensures, pre)) (omega (arith, e, pre))
-                ∙ ap (λ (z : ℕ). row_of (get_or a.edges.now (l.j - k + a.old) []) ∷ drop (z + 1) es) (sym here))))
-                ∙ h.2,
-          ),
+      drop-set-lt (a.low + c.len-k.result) l.edges j c.tagged.result (omega (arith, c.loop-i-test.true)) ∙ l.invariant.1,
     )
 
 pub returns : goal.returns
 returns c =
-    let l = c.loop-j in
+    let l = c.loop-i in
     let a = c.args in
     let es = edges_in a.edges.now a.m in
-    let ds = set_edges a.set.now a.s.len in
-    let k = c.len-k.result in
-    let j : l.j ≡ a.m - a.old + k = omega (arith, l.invariant.1, c.loop-j-test.false) in (
+    let ds = (set_of a.set.now).edges in
+    let to : ℕ = a.low + c.len-k.result in
+    let all : a.low + l.i ≡ to = omega (arith, c.loop-i-test.false, l.auto.i-end) in (
       omega (arith, c.len-k.ensures),
-      λ e d.
-          let h = l.invariant.2 e d in
-          let n = set_count a.set.now a.s.len d in
-          let w = exchanged_length es a.parent.0 a.child.0 a.low a.old a.s.overflown ds h.1 in
-          let m = edges_count a.edges.now a.m (omega (arith, e, c.requires)) in
-          let whole = exchanged es a.parent.0 a.child.0 a.low a.old a.s.overflown ds h.1 in
-          let z : length whole ≤ l.j = omega (arith, w, n, m, j, c.len-k.ensures, c.requires) in (
+      λ e.
+          let h = l.invariant.0 e in
+          let whole : List GEdge = exchanged es a.parent.0 a.child.0 a.low a.old (set_of a.set.now).blurred ds h.1 in
+          let size : a.m - a.old + c.len-k.result ≡ to + (a.m - (a.low + a.old)) = omega (arith, c.requires) in (
             h.0,
-            ap (λ (t : ℕ). edges_in l.edges t) (sym j) ∙ sym (append-nil (edges_in l.edges l.j))
-                ∙ ap (λ (xs : List GEdge). edges_in l.edges l.j ++ xs) (sym (drop_of_length-le whole z)) ∙ h.2,
+            ap (λ (z : ℕ). edges_in l.edges z) size
+                ∙ rows_behind a.edges.now (a.low + a.old) to a.m c.requires.1 (omega (arith, e, c.requires)) (omega (arith, e, c.requires, c.len-k.ensures)) l.edges
+                (l.invariant.1 ∙ ap (λ (rows : List (List ℕ)). drop to rows) c.copy_within.ensures.after)
+                ∙ ap (λ (xs : List GEdge). edges_in l.edges to ++ xs) (sym (exchanged_behind es a.parent.0 a.child.0 a.low a.old (set_of a.set.now).blurred ds h.1 to (omega (arith, c.len-k.ensures))))
+                ∙ ap (λ (z : ℕ). edges_in l.edges z ++ drop z whole) (sym all)
+                ∙ h.2,
           ),
     )

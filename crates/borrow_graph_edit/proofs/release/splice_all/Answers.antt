@@ -1,116 +1,69 @@
-use mathlib.Core.Path.{◌≡◌, sym, ap, ◌∙◌, subst}
-use mathlib.Core.Bool.{true, false}
-use mathlib.Core.List.{List}
-use Prim.Native.Nat.{ℕ}
-use lib.ListN.{length}
-use Rattle.meaning.specs.Limits.{max_edges}
-use Rattle.meaning.specs.Answers.{and_then}
+use Rattle.std.proofs.Common.{sym, ap, ◌∙◌, subst, true, false, List}
+use Rattle.vm_status.specs.Models.{number_of}
+use Rattle.references.specs.Models.{edges_in}
+use Rattle.borrow_graph_edit.specs.Edits.{turn_on, turn_off, err_is}
+use Rattle.borrow_graph_edit.specs.PassLaws.{first_pass, next_pass}
+use Rattle.meaning.specs.Laws.Pair.{Neat}
+use Rattle.meaning.specs.Refinement.Pairs.{replace_lim}
 use Rattle.meaning.specs.Lists.{keep}
 use Rattle.meaning.specs.BorrowGraph.{GEdge}
-use Rattle.meaning.specs.Refinement.Pairs.{replace_lim, two_pass}
-use Rattle.meaning.specs.Laws.Pair.{Neat}
 use Rattle.meaning.specs.Refinement.Passes.{apart, splice_set, splice_pairs}
-use Rattle.meaning.proofs.Laws.Pass.{splice_set_ok, pass_neat, pass_again}
-use Rattle.references.specs.Models.{edges_in, told}
-use Rattle.references.specs.ModelLaws.{told_yes, told_on, told_off, told_first}
-use Rattle.borrow_graph_edit.specs.Models.{replaced_in}
+use Rattle.meaning.proofs.Laws.Pass.{splice_set_ok, pass_neat}
 use Rattle.borrow_graph_edit.proofs.release.splice_all.Goals as goal
-use Rattle.borrow_graph_edit.proofs.release.splice_all.Lts as lts
-use Rattle.borrow_graph_edit.proofs.release.splice_all.Reads as reads
-use Rattle.borrow_graph_edit.proofs.release.splice_all.Tie as tie
 
--- the first pass, and the second
-first : (c : (lts.After-splice_rows tie.the-claims reads.Pre reads.Post)) →
+pub returns-then-not-passes_limit : goal.returns-then-not-passes_limit
+returns-then-not-passes_limit c =
     let a = c.args in
     let es = edges_in a.old.now a.m in
     let n = a.id.0 in
-    length a.edges.now ≡ max_edges → length a.old.now ≡ max_edges → Neat (keep (apart n) es) → Neat es
-    → (length c.splice_rows-a.new.edges ≡ max_edges)
-    × (replaced_in c.splice_rows-a.new.edges c.splice_rows-a.result ≡ replace_lim false (splice_set es n) (splice_pairs es n) (keep (apart n) es))
-first c =
-    let a = c.args in
-    let es = edges_in a.old.now a.m in
-    let n = a.id.0 in
-    λ e o k s.
-    let w = c.without-k.ensures.1 e o in
-    let p = c.splice_rows-a.ensures.1 w.0 o (subst (λ (l : List GEdge). Neat l) (sym w.1) k) s in
-    (p.0, p.1 ∙ ap (λ (l : List GEdge). replace_lim false (splice_set es n) (splice_pairs es n) l) w.1)
+    let new = splice_set es n in
+    let rs = splice_pairs es n in
+    let gs = keep (apart n) es in (
+      c.splice_rows-r.ensures.0,
+      λ e o k s.
+          let w = c.without-k.ensures.1 e o in
+          let p = c.splice_rows-r.ensures.1 w.0 o (subst (λ (l : List GEdge). Neat l) (sym w.1) k) s in
+          let q = p.1 ∙ ap (λ (l : List GEdge). replace_lim false new rs l) w.1 in
+          (p.0, first_pass new rs gs (edges_in c.splice_rows-r.new.edges) c.splice_rows-r.result q (sym c.passes_limit.ensures ∙ c.if-not-passes_limit.true)),
+    )
 
-second : (c : (lts.After-splice_rows2 tie.the-claims reads.Pre reads.Post)) →
+pub returns-in_err-n : goal.returns-in_err-n
+returns-in_err-n c =
     let a = c.args in
     let es = edges_in a.old.now a.m in
     let n = a.id.0 in
     let new = splice_set es n in
     let rs = splice_pairs es n in
     let gs = keep (apart n) es in
-    length a.edges.now ≡ max_edges → length a.old.now ≡ max_edges → Neat gs → Neat es
-    → (length c.splice_rows-b.new.edges ≡ max_edges) × (replaced_in c.splice_rows-b.new.edges c.splice_rows-b.result ≡ replace_lim true new rs gs)
-    × (and_then (replace_lim true new rs gs) (λ fs. replace_lim false new rs fs) ≡ two_pass new rs gs)
-second c =
-    let a = c.args in
-    let es = edges_in a.old.now a.m in
-    let n = a.id.0 in
-    let r = c.splice_rows-a.result in
-    let fs = edges_in c.splice_rows-a.new.edges r.edges in
-    λ e o k s.
-    let f = first c.before.before.before.before.before.before e o k s in
-    let w = c.without-n.ensures.1 f.0 o in
-    let p = c.splice_rows-b.ensures.1 w.0 o (subst (λ (l : List GEdge). Neat l) (sym w.1) k) s in (
-      p.0,
-      p.1 ∙ ap (λ (l : List GEdge). replace_lim true (splice_set es n) (splice_pairs es n) l) w.1,
-      pass_again (splice_set es n) (splice_pairs es n) (keep (apart n) es) (sym f.1 ∙ ap (λ (i : ℕ). told i fs) c.if-a-eq21.true),
-    )
-
-pub splice_rows-a-requires : goal.splice_rows-a-requires
-splice_rows-a-requires c = (c.without-k.ensures.0, c.requires)
-
-pub splice_rows-b-requires : goal.splice_rows-b-requires
-splice_rows-b-requires c = (c.without-n.ensures.0, c.requires)
-
-pub splice_rows-requires : goal.splice_rows-requires
-splice_rows-requires c = (c.splice_rows-b.ensures.0, c.requires)
-
-pub returns-then-b-eq0 : goal.returns-then-b-eq0
-returns-then-b-eq0 c =
-    let a = c.args in
-    let es = edges_in a.old.now a.m in
-    let n = a.id.0 in
-    let r = c.splice_rows-b.result in
-    let fs = edges_in c.splice_rows-b.new.edges r.edges in (
-      c.splice_rows.ensures.0,
+    rw (err_is c.from_residual.result c.in_err-n.field-0.0 c.from_residual.ensures.1) (
+      tt,
       λ e o k s.
-          let v = second c.before.before.before.before e o k s in
-          let y = sym v.1 ∙ told_yes r.refusal fs c.if-b-eq0.true in
-          let neat = pass_neat true (splice_set es n) (splice_set_ok es n s) (splice_pairs es n) (keep (apart n) es) fs k y in
-          let w = c.splice_rows.ensures.1 v.0 o neat s in
-          (w.0, w.1 ∙ told_on r.refusal fs _ _ _ v.1 v.2 c.if-b-eq0.true),
-    )
-
-pub returns-then-a-eq21 : goal.returns-then-a-eq21
-returns-then-a-eq21 c =
-    let r = c.splice_rows-b.result in
-    let fs = edges_in c.splice_rows-b.new.edges r.edges in (
-      c.splice_rows-b.ensures.0,
-      λ e o k s.
-          let v = second c.before.before e o k s in
-          (v.0, told_off r.refusal fs _ _ _ v.1 v.2 c.if-b-eq0.false fs),
+          let w = c.without-k.ensures.1 e o in
+          let p = c.splice_rows-r.ensures.1 w.0 o (subst (λ (l : List GEdge). Neat l) (sym w.1) k) s in
+          let q = p.1 ∙ ap (λ (l : List GEdge). replace_lim false new rs l) w.1 in
+          let t = next_pass new rs gs (edges_in c.splice_rows-r.new.edges) c.splice_rows-r.result q (sym c.passes_limit.ensures ∙ c.if-not-passes_limit.false) in
+          let x = c.without-k-2.ensures.1 p.0 o in
+          let y = c.in_err-n.ensures.1 x.0 o (subst (λ (l : List GEdge). Neat l) (sym x.1) k) s in
+          (y.0, turn_off _ _ _ t (number_of c.in_err-n.field-0.0) (y.1 ∙ ap (λ (l : List GEdge). replace_lim true new rs l) x.1)),
     )
 
 pub returns : goal.returns
-unfolding two_pass
 returns c =
     let a = c.args in
     let es = edges_in a.old.now a.m in
     let n = a.id.0 in
     let new = splice_set es n in
     let rs = splice_pairs es n in
-    let gs = keep (apart n) es in
-    let r = c.splice_rows-a.result in (
-      c.splice_rows-a.ensures.0,
+    let gs = keep (apart n) es in (
+      c.splice_rows-2.ensures.0,
       λ e o k s.
-          let v = first c.before.before e o k s in (
-            v.0,
-            told_first r.refusal (edges_in c.splice_rows-a.new.edges r.edges) (replace_lim false new rs gs)
-                (and_then (replace_lim true new rs gs) (λ fs. replace_lim false new rs fs)) c.if-a-eq21.false v.1,
-          ),
+          let w = c.without-k.ensures.1 e o in
+          let p = c.splice_rows-r.ensures.1 w.0 o (subst (λ (l : List GEdge). Neat l) (sym w.1) k) s in
+          let q = p.1 ∙ ap (λ (l : List GEdge). replace_lim false new rs l) w.1 in
+          let t = next_pass new rs gs (edges_in c.splice_rows-r.new.edges) c.splice_rows-r.result q (sym c.passes_limit.ensures ∙ c.if-not-passes_limit.false) in
+          let x = c.without-k-2.ensures.1 p.0 o in
+          let y = c.in_ok-n.ensures.1 x.0 o (subst (λ (l : List GEdge). Neat l) (sym x.1) k) s in
+          let z = y.1 ∙ ap (λ (l : List GEdge). replace_lim true new rs l) x.1 in
+          let v = c.splice_rows-2.ensures.1 y.0 o (pass_neat true new (splice_set_ok es n s) rs gs (edges_in c.splice_rows.new.edges c.in_ok-n.n) k (sym z)) s in
+          (v.0, v.1 ∙ turn_on _ _ _ t _ z),
     )

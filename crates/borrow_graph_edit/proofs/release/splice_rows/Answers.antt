@@ -1,133 +1,82 @@
-use native.Mathlib.Omega.{arith}
-use mathlib.Core.Path.{refl, sym, ◌∙◌}
-use mathlib.Core.List.{[]}
-use lib.ListN.{get_or}
+use Rattle.std.proofs.Common.{sym, ◌∙◌, not, ◌&&◌, take, get_or, []}
+use Rattle.std.proofs.Math.Path.{refl}
+use Rattle.vm_status.specs.Models.{number_of}
 use Rattle.meaning.specs.Refinement.Passes.{splice_set, child_row, splice_pairs}
 use Rattle.meaning.proofs.Laws.Pass.{splice_set_ok, pass_neat}
 use Rattle.references.specs.Models.{row_of, edges_in}
-use Rattle.references.specs.ModelLaws.{edges_next, edges_over, told_yes, told_on, told_off}
+use Rattle.borrow_graph_edit.specs.Edits.{turn_on, turn_off, err_is}
 use Rattle.borrow_graph_edit.specs.PassLaws.{parent_turn, parent_skip, parent_end}
+use Rattle.borrow_graph_edit.specs.Shifts.{row_next, row_over}
+use Rattle.borrow_graph_edit.proofs.release.splice_rows.Goals.{then-eq+in_ok-n, else-eq}
 use Rattle.borrow_graph_edit.proofs.release.splice_rows.Goals as goal
 
-pub loop-i-init : goal.loop-i-init
+pub loop-x-init : goal.loop-x-init
 unfolding splice_pairs
-loop-i-init c = (c.requires.0, omega arith, λ e o k n. (e, k, refl))
+loop-x-init c = (c.requires.0, λ e o k n. (e, k, refl))
 
-pub offset_bounds-old-i : goal.offset_bounds-old-i
-offset_bounds-old-i c = omega arith
-
-pub bounds-old-i : goal.bounds-old-i
-bounds-old-i c = omega arith
-
-pub offset_bounds-old-i-in-loop-i : goal.offset_bounds-old-i-in-loop-i
-offset_bounds-old-i-in-loop-i c = omega arith
-
-pub bounds-old-i-in-loop-i : goal.bounds-old-i-in-loop-i
-bounds-old-i-in-loop-i c = omega arith
-
-pub splice_row-r-requires : goal.splice_row-r-requires
-splice_row-r-requires c =
-    let l = c.loop-i in
-    let pre = c.requires in
-    (l.invariant.0, pre.1)
-
-pub overflow_add-i : goal.overflow_add-i
-overflow_add-i c = omega arith
-
-pub loop-i-smaller-then-r-eq0 : goal.loop-i-smaller-then-r-eq0
-loop-i-smaller-then-r-eq0 c = omega arith
-
-pub loop-i-preserved-then-r-eq0 : goal.loop-i-preserved-then-r-eq0
-loop-i-preserved-then-r-eq0 c =
-    let pre = c.requires in
-    let loop-test = c.loop-i-test in
-    let parent' = c.parent-p in
-    let child' = c.child-c in
+pub returns-in_err-n : goal.returns-in_err-n
+returns-in_err-n c =
     let a = c.args in
-    let l = c.loop-i in
+    let l = c.loop-x in
     let es = edges_in a.old.now a.m in
     let new = splice_set es a.id.0 in
-    let f = child_row es a.id.0 in (
-      c.splice_row-r.ensures.0,
-      omega (arith, loop-test.true),
+    let f = child_row es a.id.0 in
+    rw (err_is c.from_residual.result c.in_err-n.field-0.0 c.from_residual.ensures.1) (
+      tt,
       λ e o k n.
-          let v = l.invariant.2 e o k n in
-          let w = c.splice_row-r.ensures.1 v.0 o v.1 n in
-          let s = edges_next a.old.now a.m [] l.i loop-test.true (omega (arith, o, pre)) in
-          let u = parent_turn a.shrinking new a.id.0 l.last.0 f (edges_in l.edges l.n) _ _ parent'.result.0 child'.result.0 (row_of (get_or a.old.now l.i [])) _ s
-          parent'.ensures child'.ensures v.2 c.if-id-c.true in
-          let r = c.splice_row-r.result in
-          let fs = edges_in c.splice_row-r.new.edges r.edges in (
-            w.0,
-            pass_neat a.shrinking new (splice_set_ok es a.id.0 n) (f (record { parent = parent'.result.0; child = a.id.0 })) (edges_in l.edges l.n) fs v.1
-                (sym w.1 ∙ told_yes r.refusal fs c.if-r-eq0.true),
-            told_on r.refusal fs _ _ _ w.1 u c.if-r-eq0.true,
-          ),
+          let v = l.invariant.1 e o k n in
+          let w = c.in_err-n.ensures.1 v.0 o v.1 n in
+          let s = row_next a.old.now a.m l.x-index [] c.loop-x-test.true in
+          let u = parent_turn a.shrinking new a.id.0 l.last.0 f (edges_in l.edges l.n) _ _ c.parent-p.result.0 c.child-c.result.0 (row_of (get_or (take a.m a.old.now) l.x-index [])) _ s
+          c.parent-p.ensures c.child-c.ensures v.2 ((λ i. sym c.eq.ensures i && not (sym c.eq-in-loop-x.ensures i)) ∙ c.if-eq.true) in
+          (w.0, turn_off _ _ _ u (number_of c.in_err-n.field-0.0) w.1),
     )
 
-pub returns-else-r-eq0 : goal.returns-else-r-eq0
-returns-else-r-eq0 c =
-    let pre = c.requires in
-    let loop-test = c.loop-i-test in
-    let parent = c.parent-p in
-    let child = c.child-c in
+pub loop-x-preserved : goal.loop-x-preserved
+loop-x-preserved c =
     let a = c.args in
-    let l = c.loop-i in
+    let l = c.loop-x in
     let es = edges_in a.old.now a.m in
     let new = splice_set es a.id.0 in
-    let f = child_row es a.id.0 in (
-      c.splice_row-r.ensures.0,
-      λ e o k n.
-          let v = l.invariant.2 e o k n in
-          let w = c.splice_row-r.ensures.1 v.0 o v.1 n in
-          let s = edges_next a.old.now a.m [] l.i loop-test.true (omega (arith, o, pre)) in
-          let u = parent_turn a.shrinking new a.id.0 l.last.0 f (edges_in l.edges l.n) _ _ parent.result.0 child.result.0 (row_of (get_or a.old.now l.i [])) _ s
-          parent.ensures child.ensures v.2 c.if-id-c.true in
-          let r = c.splice_row-r.result in
-          let fs = edges_in c.splice_row-r.new.edges r.edges in
-          (w.0, told_off r.refusal fs _ _ _ w.1 u c.if-r-eq0.false fs),
-    )
-
-pub overflow_add-i-else-id-c : goal.overflow_add-i-else-id-c
-overflow_add-i-else-id-c c = omega arith
-
-pub loop-i-smaller : goal.loop-i-smaller
-loop-i-smaller c = omega arith
-
-pub loop-i-preserved : goal.loop-i-preserved
-loop-i-preserved c =
-    let pre = c.requires in
-    let loop-test = c.loop-i-test in
-    let parent = c.parent-p in
-    let child = c.child-c in
-    let a = c.args in
-    let l = c.loop-i in
-    let es = edges_in a.old.now a.m in
-    let new = splice_set es a.id.0 in
-    let f = child_row es a.id.0 in (
-      l.invariant.0,
-      omega (arith, loop-test.true),
-      λ e o k n.
-          let v = l.invariant.2 e o k n in
-          let s = edges_next a.old.now a.m [] l.i loop-test.true (omega (arith, o, pre)) in (
-            v.0,
-            v.1,
-            parent_skip a.shrinking new a.id.0 l.last.0 f (edges_in l.edges l.n) _ _ parent.result.0 child.result.0 (row_of (get_or a.old.now l.i [])) _ s
-                parent.ensures child.ensures v.2 c.if-id-c.false,
-          ),
-    )
+    let f = child_row es a.id.0 in
+    let y = row_of (get_or (take a.m a.old.now) l.x-index []) in
+    let s = row_next a.old.now a.m l.x-index [] c.loop-x-test.true in
+    elim c.if-eq.branch [
+      | then-eq+in_ok-n w ↦ rw (w.edges-is, w.n-is, w.last-is) (
+        w.in_ok-n.ensures.0,
+        λ e o k n.
+            let v = l.invariant.1 e o k n in
+            let z = w.in_ok-n.ensures.1 v.0 o v.1 n in
+            let u = parent_turn a.shrinking new a.id.0 l.last.0 f (edges_in l.edges l.n) _ _ c.parent-p.result.0 c.child-c.result.0 y _ s c.parent-p.ensures c.child-c.ensures v.2
+            ((λ i. sym c.eq.ensures i && not (sym c.eq-in-loop-x.ensures i)) ∙ w.if-eq.true) in (
+              z.0,
+              pass_neat a.shrinking new (splice_set_ok es a.id.0 n) (f (record { parent = c.parent-p.result.0; child = a.id.0 })) (edges_in l.edges l.n) _ v.1 (sym z.1),
+              turn_on _ _ _ u _ z.1,
+            ),
+      )
+      | else-eq w ↦ rw (w.edges-is, w.n-is, w.last-is) (
+        l.invariant.0,
+        λ e o k n.
+            let v = l.invariant.1 e o k n in (
+              v.0,
+              v.1,
+              parent_skip a.shrinking new a.id.0 l.last.0 f (edges_in l.edges l.n) _ _ c.parent-p.result.0 c.child-c.result.0 y _ s c.parent-p.ensures c.child-c.ensures v.2
+                  ((λ i. sym c.eq.ensures i && not (sym c.eq-in-loop-x.ensures i)) ∙ w.if-eq.false),
+            ),
+      )
+    ]
 
 pub returns : goal.returns
 returns c =
     let a = c.args in
-    let l = c.loop-i in
+    let l = c.loop-x in
     let es = edges_in a.old.now a.m in
     let f = child_row es a.id.0 in (
       l.invariant.0,
       λ e o k n.
-          let v = l.invariant.2 e o k n in (
+          let v = l.invariant.1 e o k n in (
             v.0,
             parent_end a.shrinking (splice_set es a.id.0) a.id.0 l.last.0 f (edges_in l.edges l.n) _ _
-                (edges_over a.old.now a.m l.i (omega (arith, c.loop-i-test.false)) (omega (arith, o, c.requires))) v.2,
+                (row_over a.old.now a.m l.x-index c.loop-x-test.false) v.2,
           ),
     )

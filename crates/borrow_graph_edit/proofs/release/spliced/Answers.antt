@@ -1,21 +1,30 @@
-use mathlib.Core.Path.{refl, ◌∙◌}
+use Rattle.std.proofs.Common.{◌∙◌}
 use Rattle.meaning.specs.Laws.Graph.{insert_all}
 use Rattle.meaning.specs.Refinement.Passes.{splices, splice_set}
 use Rattle.meaning.proofs.Laws.Pass.{neat_few}
 use Rattle.references.specs.Models.{edges_in}
+use Rattle.borrow_graph_edit.specs.Edits.{err_is}
 use Rattle.borrow_graph_edit.proofs.release.spliced.Goals as goal
+
+pub returns-in_err-splice_each : goal.returns-in_err-splice_each
+unfolding splice_set
+returns-in_err-splice_each c =
+    let a = c.args in
+    let es = edges_in a.edges.now a.m in
+    rw (err_is c.from_residual.result c.in_err-splice_each.field-0.0 c.from_residual.ensures.1)
+    (λ l n.
+    let p = (c.between-parents.ensures.1 l (neat_few es a.parent.0 a.id.0 n)).0 in
+    let q = (c.between-children.ensures.1 l (neat_few es a.id.0 a.child.0 n)).0 in
+    let s = (c.between-pair.ensures.1 l (neat_few es a.parent.0 a.child.0 n)).0 in
+    c.in_err-splice_each.ensures ∙ (λ i. insert_all (splices (p i).edges (q i).edges) (s i)))
 
 pub returns : goal.returns
 unfolding splice_set
 returns c =
     let a = c.args in
     let es = edges_in a.edges.now a.m in
-    λ e l n.
-    let x = c.between-a.ensures.2 l refl in
-    let y = c.between-b.ensures.2 l refl in
-    let z = c.between-c.ensures.2 l e in
-    let p = (x.1 (neat_few es a.parent.0 a.id.0 n)).0 in
-    let q = (y.1 (neat_few es a.id.0 a.child.0 n)).0 in
-    let s = (z.1 (neat_few es a.parent.0 a.child.0 n)).0 in
-    let w = c.splice_each.ensures z.0 x.0 y.0 in
-    (w.0, w.1 ∙ (λ i. insert_all (splices (p i).edges (q i).edges) (s i)))
+    λ l n.
+    let p = (c.between-parents.ensures.1 l (neat_few es a.parent.0 a.id.0 n)).0 in
+    let q = (c.between-children.ensures.1 l (neat_few es a.id.0 a.child.0 n)).0 in
+    let s = (c.between-pair.ensures.1 l (neat_few es a.parent.0 a.child.0 n)).0 in
+    c.in_ok-splice_each.ensures ∙ (λ i. insert_all (splices (p i).edges (q i).edges) (s i))

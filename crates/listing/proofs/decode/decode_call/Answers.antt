@@ -1,12 +1,9 @@
-use mathlib.Core.Path.{◌≡◌, sym, ap, ◌∙◌}
+use mathlib.Core.Path.{◌≡◌, sym}
 use borrow.Author.Tests.{le-leb, lt-leb}
 use Prim.Native.Nat.{◌+◌, ◌*◌}
-use mathlib.Core.List.{map}
-use lib.ListN.{get_or, take}
-use Rattle.meaning.specs.Lists.{up_to}
-use Rattle.meaning.specs.Listing.{call_of, token_as}
+use lib.ListN.{get_or}
+use Rattle.meaning.specs.Listing.{call_of}
 use Rattle.listing.specs.Models.{call_for, decoded_of}
-use Rattle.listing_records.proofs.Lists.{map_up_to}
 use Rattle.listing.proofs.decode.decode_call.Goals as goal
 
 pub returns-then-acquired-gt-MAX_ACQUIRED : goal.returns-then-acquired-gt-MAX_ACQUIRED
@@ -28,8 +25,6 @@ returns c =
     let a2 = c.args in
     let ba = c.byte_at-acquired in
     let ba2 = c.byte_at-returns in
-    let ba3 = c.bytes_at-tokens in
     let a : get_or a2.b.now 1 0 ≡ ba.result = sym ba.ensures in
     let r : get_or a2.b.now (2 + 2 * ba.result) 0 ≡ ba2.result = sym ba2.ensures in
-    let t : map token_as (take ba2.result ba3.result) ≡ up_to ba2.result (λ k. token_as (get_or a2.b.now (3 + 2 * ba.result + k) 0)) = ap (map token_as) ba3.ensures ∙ map_up_to token_as _ _ in
-    rw (a, r, le-leb _ _ c.if-acquired-gt-MAX_ACQUIRED.false, le-leb _ _ c.if-returns-gt-MAX_RETURNS.false, t, c.words_at.ensures, c.byte_at.ensures)
+    rw (a, r, le-leb _ _ c.if-acquired-gt-MAX_ACQUIRED.false, le-leb _ _ c.if-returns-gt-MAX_RETURNS.false, c.tokens_at.ensures, c.words_at.ensures, c.byte_at.ensures)

@@ -1,3 +1,4 @@
+use Rattle.std.proofs.Common.{rules}
 use mathlib.Core.Path.{◌∙◌}
 use Rattle.reference_safety.specs.BlockLaws.{stepped}
 use Rattle.reference_safety.proofs.Arms.{no_other}
@@ -31,4 +32,4 @@ pub returns-in-BorrowElement : goal.returns-in-BorrowElement
 returns-in-BorrowElement c = λ ls returns d e. stepped returns d (e ∙ c.in-BorrowElement.is) (c.borrow_element.ensures ls)
 
 pub returns-in_default : goal.returns-in_default
-returns-in_default c = absurd (no_other c.args.i c.requires c.in_default.in_default-own.keys10)
+returns-in_default c = absurd (no_other c.args.i c.requires (search rules))

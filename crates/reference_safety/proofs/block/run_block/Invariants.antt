@@ -8,8 +8,5 @@ use Rattle.reference_safety.proofs.block.run_block.Given as goal
 
 abbrev pub invariant-loop-k : goal.invariant-loop-k
 invariant-loop-k l = Going l.routine.returns (block_of l.b) (take (l.end - l.k) (drop l.k (map (decoded_at l.listing) (take l.routine.code_count l.code)))) l.k
-    (board l.locals l.names l.edges l.stack l.m) (words l.initial.locals l.initial.names l.initial.edges l.initial.m.state)
+    (board l.locals l.names l.edges l.m) (words l.initial.locals l.initial.names l.initial.edges l.initial.m.state)
     (run_block (routine_of l.listing l.code l.routine) (block_of l.b) (state_of (words l.initial.locals l.initial.names l.initial.edges l.initial.m.state)))
-
-abbrev pub decreases-loop-k : goal.decreases-loop-k
-decreases-loop-k l = l.end - l.k

@@ -1,13 +1,9 @@
-use Rattle.meaning.specs.EntryPoints.{borrow_global}
-use Rattle.meaning.specs.Steps.{pop_values, pushed}
-use Rattle.reference_safety.specs.MachineLaws.{rest_runs, gives}
+use Rattle.std.proofs.Common.{rules}
+use Rattle.reference_safety.specs.MachineLaws.{value_runs, gives, stops}
 use Rattle.reference_safety.proofs.steps.borrow_global.Goals as goal
 
+pub returns-in_err-pop_values : goal.returns-in_err-pop_values
+returns-in_err-pop_values c = λ ls. value_runs _ _ c.in_err-pop_values.ensures.takes (stops (search rules))
+
 pub returns : goal.returns
-unfolding pop_values
-returns c =
-    let a = c.args in
-    let pop-values = c.pop_values-p in
-    let refuse = c.refuse-s in
-    λ ls. rest_runs a.stack.now a.m.depth pop-values.result (λ us s. pushed us (borrow_global a.mutable a.resource s)) 1 pop-values.ensures.0 (refuse.ensures ls _ _)
-    (gives (c.borrow_global-t.ensures ls) (c.pushed.ensures ls _ _))
+returns c = λ ls. value_runs _ _ c.in_ok-pop_values.ensures.takes (gives (c.borrow_global-m.ensures ls) (c.push_answer.ensures ls _ _))

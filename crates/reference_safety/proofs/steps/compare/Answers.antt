@@ -1,17 +1,12 @@
-use Rattle.meaning.specs.EntryPoints.{comparison}
-use Rattle.meaning.specs.Steps.{pop, pushed}
-use Rattle.abstract_state.specs.Models.{operand_of}
-use Rattle.reference_safety.specs.MachineLaws.{pop_runs, gives}
+use Rattle.std.proofs.Common.{rules}
+use Rattle.reference_safety.specs.MachineLaws.{pop_runs, gives, stops}
 use Rattle.reference_safety.proofs.steps.compare.Goals as goal
 
+pub returns-in_err-v1 : goal.returns-in_err-v1
+returns-in_err-v1 c = λ ls. pop_runs _ _ c.in_err-v1.ensures.takes (stops (search rules))
+
+pub returns-in_err-v2 : goal.returns-in_err-v2
+returns-in_err-v2 c = λ ls. pop_runs _ _ c.in_ok-v1.ensures.takes (pop_runs _ _ c.in_err-v2.ensures.takes (stops (search rules)))
+
 pub returns : goal.returns
-returns c =
-    let refuse = c.refuse-s1 in
-    let refuse2 = c.refuse-s2 in
-    λ ls.
-    let a = c.args in
-    let p = c.pop-p in
-    let q = c.pop-q in
-    pop_runs a.stack.now a.m.depth p.result (λ v us s. pop us (λ w ts. pushed ts (comparison v w s))) p.ensures.0 (refuse.ensures ls _ _)
-    (pop_runs a.stack.now p.result.depth q.result (λ w ts s. pushed ts (comparison (operand_of p.result.value) w s)) q.ensures.0 (refuse2.ensures ls _ _)
-    (gives (c.comparison-t.ensures ls) (c.pushed.ensures ls _ _)))
+returns c = λ ls. pop_runs _ _ c.in_ok-v1.ensures.takes (pop_runs _ _ c.in_ok-v2.ensures.takes (gives (c.comparison-m.ensures ls) (c.push_answer.ensures ls _ _)))

@@ -1,10 +1,9 @@
-use Rattle.meaning.specs.EntryPoints.{release_value}
-use Rattle.meaning.specs.Steps.{unchanged}
-use Rattle.reference_safety.specs.MachineLaws.{pop_runs, keeps}
+use Rattle.std.proofs.Common.{rules}
+use Rattle.reference_safety.specs.MachineLaws.{pop_runs, keeps, stops}
 use Rattle.reference_safety.proofs.steps.pop_top.Goals as goal
 
+pub returns-in_err-value : goal.returns-in_err-value
+returns-in_err-value c = λ ls. pop_runs _ _ c.in_err-value.ensures.takes (stops (search rules))
+
 pub returns : goal.returns
-returns c =
-    let a = c.args in
-    let pop = c.pop-p in
-    λ ls. pop_runs a.stack.now a.m.depth pop.result (λ v us s. unchanged us (release_value v s)) pop.ensures.0 (c.refuse-s.ensures ls _ _) (keeps a.stack.now pop.result.depth (c.release_value-t.ensures ls))
+returns c = λ ls. pop_runs _ _ c.in_ok-value.ensures.takes (keeps (c.release_value-m.ensures ls))

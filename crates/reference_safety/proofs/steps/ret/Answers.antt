@@ -1,10 +1,9 @@
-use Rattle.meaning.specs.EntryPoints as R
-use Rattle.meaning.specs.Steps.{unchanged}
-use Rattle.reference_safety.specs.MachineLaws.{many_runs, keeps}
+use Rattle.std.proofs.Common.{rules}
+use Rattle.reference_safety.specs.MachineLaws.{many_runs, keeps, stops}
 use Rattle.reference_safety.proofs.steps.ret.Goals as goal
 
+pub returns-in_err-values : goal.returns-in_err-values
+returns-in_err-values c = many_runs _ _ _ c.in_err-values.ensures.takes (stops (search rules))
+
 pub returns : goal.returns
-returns c =
-    let a = c.args in
-    let pop-many = c.pop_many-p in
-    many_runs a.stack.now a.m.depth pop-many.result (λ vs us s. unchanged us (R.ret vs s)) a.returns pop-many.ensures.0 (c.refuse-s.ensures _ _ _) (keeps a.stack.now pop-many.result.depth c.ret-t.ensures)
+returns c = many_runs _ _ _ c.in_ok-values.ensures.takes (keeps c.ret-m.ensures)

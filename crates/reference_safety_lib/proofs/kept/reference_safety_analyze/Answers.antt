@@ -1,7 +1,5 @@
-use Prim.Native.Nat.{ℕ}
 use native.Mathlib.Omega.{arith}
 use mathlib.Core.Path.{sym, ap, ◌∙◌, subst}
-use mathlib.Core.List.{List}
 use lib.ListN.{length}
 use Rattle.meaning.specs.Verify.{Answered, verify}
 use Rattle.meaning.proofs.Laws.Answer.{low_answer}
@@ -15,19 +13,16 @@ returns-then-answer-lt-ANSWER_WORDS c =
     let args = c.args in
     no_room_kept (verify (length args.area.now) args.listing.now) args.answer.now args.listing.now args.area.now (omega arith)
 
-pub verdict_words-requires : goal.verdict_words-requires
-verdict_words-requires c =
-    let analyze = c.analyze-v in
+pub put_verdict-requires-clause-low : goal.put_verdict-requires-clause-low
+put_verdict-requires-clause-low c =
+    let analyze = c.analyze in
     let args = c.args in
     subst (λ (a : Answered). Low a.verdict) (sym analyze.ensures.0) (low_answer (length args.area.now) args.listing.now)
 
 pub returns : goal.returns
 returns c =
-    let put_words_lem = c.put_words in
-    let verdict-words = c.verdict_words in
-    let analyze = c.analyze-v in
+    let analyze = c.analyze in
     let args = c.args in
     let v = analyze.ensures in
-    let words = verdict-words.ensures ∙ ap words_of v.0 in
-    let put = put_words_lem.ensures ∙ ap (λ (xs : List ℕ). put_words xs args.answer.now) words in
+    let put = c.put_verdict.ensures ∙ ap (λ (a : Answered). put_words (words_of a) args.answer.now) v.0 in
     room_kept (verify (length args.area.now) args.listing.now) args.answer.now args.listing.now args.area.now _ _ (omega arith) put v.1

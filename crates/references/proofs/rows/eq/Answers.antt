@@ -1,13 +1,16 @@
-use mathlib.Core.Path.{sym, ap, ◌∙◌}
+use Rattle.std.specs.Prelude.{◌≡◌}
+use Rattle.std.proofs.Common.{ap, ◌∙◌, refl}
+use Rattle.std.specs.declared.cmp.Ordering.{Ordering}
+use Rattle.std.specs.declared.cmp.Ordering.TheVariants.{Less, Equal, Greater}
+use Rattle.std.specs.Ordering.{is_eq}
 use Rattle.meaning.proofs.Laws.Place.{is_equal, eq_of}
 use Rattle.paths.specs.Models.{ordering_of}
 use Rattle.references.proofs.rows.eq.Goals as goal
 
-pub returns-in-Less : goal.returns-in-Less
-returns-in-Less c = ap is_equal (sym (ap ordering_of c.in-Less.is) ∙ c.cmp-o.ensures) ∙ eq_of _ _
+by_order : (o : Ordering) → is_eq o ≡ is_equal (ordering_of o)
+by_order Less = refl
+by_order Equal = refl
+by_order Greater = refl
 
-pub returns-in-Equal : goal.returns-in-Equal
-returns-in-Equal c = ap is_equal (sym (ap ordering_of c.in-Equal.is) ∙ c.cmp-o.ensures) ∙ eq_of _ _
-
-pub returns-in-Greater : goal.returns-in-Greater
-returns-in-Greater c = ap is_equal (sym (ap ordering_of c.in-Greater.is) ∙ c.cmp-o.ensures) ∙ eq_of _ _
+pub returns : goal.returns
+returns c = c.is_eq.ensures ∙ by_order c.cmp.result ∙ ap is_equal c.cmp.ensures ∙ eq_of _ _

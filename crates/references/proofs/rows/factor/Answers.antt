@@ -10,12 +10,12 @@ use Rattle.references.proofs.rows.factor.Goals as goal
 pub remade-requires : goal.remade-requires
 remade-requires c = let y =
     c.args.y.now in
-    omega (arith, c.lesser-k.ensures, c.labels.ensures.0, path_length y (count_in y))
+    omega (arith, c.min-k.ensures, c.labels.ensures.0, path_length y (count_in y))
 
 pub returns : goal.returns
 returns c = let a =
     c.args in
-    let lesser = c.lesser-k in
+    let lesser = c.min-k in
     let labels = c.labels in
     let len_of_lem = c.len_of in
     let y = a.y.now in

@@ -1,7 +1,7 @@
 use mathlib.Core.Path.{sym, ap, ◌∙◌}
 use mathlib.Core.Bool.{Bool, cond}
-use Rattle.meaning.specs.Loop.{Next, at, stopped}
-use Rattle.absint.specs.Models.{statuses_of}
+use Rattle.meaning.specs.Loop.{at}
+use Rattle.absint.specs.Models.{statuses_of, next_by}
 use Rattle.absint.specs.PropagateLaws.{going, not_stopped}
 use Rattle.absint.proofs.run_state.RunState.revisit.Goals as goal
 
@@ -11,7 +11,7 @@ returns-then-back c =
     let clear = c.clear-t in
     let u = clear.result in
     let off = not_stopped u _ (clear.ensures.0 ∙ going c.args.self c.requires.1) in (
-      ap {B = Next} (λ (b : Bool). cond b (stopped u.number u.place.0) (at c.args.j)) off
+      ap (next_by c.args.j) off
           ∙ ap (λ (b : Bool). at (cond b c.args.j c.args.self.next)) (sym c.if-back.true),
       clear.ensures.1,
       record { visits = clear.ensures.2.visits; turns = clear.ensures.2.turns; blurred = clear.ensures.2.blurred },
