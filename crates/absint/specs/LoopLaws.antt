@@ -10,14 +10,14 @@ use Rattle.std.specs.Prelude.{leb}
 use Rattle.std.proofs.lemmas.Bool.{lt-leb}
 use Rattle.meaning.proofs.Laws.Base.{decide, leb_le, leb_gt, le_leb, eqb_eq, eqb_ne}
 use Rattle.std.proofs.Common.{le-ltb, lt-ltb, ltb-true, ltb-false, subst}
-use Rattle.std.proofs.Common.{arith, sym, ap, ◌∙◌, add-one, drop-cons, length-take, drop_of_length-le}
+use Rattle.std.proofs.Common.{arith, sym, ap, ◌∙◌, add-one, drop-cons}
 use Rattle.std.proofs.Math.Option.{Option, none, some}
 use Rattle.std.proofs.lemmas.List.{length-map}
-use Rattle.meaning.proofs.Laws.Array.{front_map_step, map_step}
+use Rattle.meaning.proofs.Laws.Array.{map_step}
 use Rattle.meaning.specs.Loop as M
 use Rattle.meaning.specs.Loop.{Status, fine, failed, position, lower, Verdict, accept, violation, refusal, verdict_for}
 use Rattle.meaning.specs.Laws.Fit.{lowest_by}
-use Rattle.listing.specs.Models.{block_of, blocks_in}
+use Rattle.listing.specs.Models.{block_of}
 use Rattle.listing.specs.declared.Block.{Block}
 use Rattle.absint.specs.Models.{status_of, statuses_of, failure_of, verdict_by, verdict_in}
 use Rattle.absint.specs.declared.run_state.Failure.{Failure}
@@ -27,18 +27,6 @@ use Rattle.absint.specs.declared.failure.FailedBlock.{FailedBlock}
 -- what lies past the end of an array
 abbrev pub past_block : Block
 past_block = record { entry = record { 0 = 0 }; exit = record { 0 = 0 }; count = 0; first = record { 0 = 0 }; second = record { 0 = 0 } }
-
-module _ (xs : List Block) (n : ℕ) (w : length xs ≡ 16) (h : n ≤ 16) where
-  pub blocks_count : length (blocks_in xs n) ≡ n
-  unfolding blocks_in
-  blocks_count = simp (length-map, length-take) (omega (arith, w, h))
-
-  pub blocks_step : (i : ℕ) → i < n → drop i (blocks_in xs n) ≡ block_of (get_or xs i past_block) ∷ drop (i + 1) (blocks_in xs n)
-  unfolding blocks_in
-  blocks_step i k = front_map_step block_of n xs past_block i (omega (arith, blocks_count, k))
-
-  pub blocks_end : (i : ℕ) → n ≤ i → drop i (blocks_in xs n) ≡ []
-  blocks_end i k = drop_of_length-le (blocks_in xs n) {i = i} (omega (arith, blocks_count, k))
 
 -- a search for the entry among the blocks of the code
 pub position_in : (xs : List Block) (e : ℕ) → position_or_len (λ (b : Block). eqb e b.entry.0) xs ≡ position (map block_of xs) e

@@ -2,11 +2,12 @@
 use Rattle.std.specs.Prelude.{ℕ, zero, suc, ◌+◌, ◌*◌, ◌≤◌, ◌<◌, min, ◌≡◌, ◌⊎◌, Bool, ◌&&◌, cond, List, [], ◌∷◌, map, eqb, leb, ltb, length, take, drop, get_or, set, Some, None}
 use Rattle.std.specs.Prelude as P
 use Rattle.std.specs.Option.{is_some}
-use Rattle.std.proofs.Common.{zero-le, not-suc-le-zero, le_of_suc-le-suc, mul-le-mul, add-one, arith, sym, ◌∙◌, inl, inr, true≢false, ne_eqb, eq-eqb, lt-ltb, le-ltb, ltb-false}
+use Rattle.std.proofs.Common.{zero-le, mul-le-mul, add-one, arith, sym, ◌∙◌, inl, inr, true≢false, ne_eqb, eq-eqb, lt-ltb, le-ltb, ltb-false}
 use Rattle.std.proofs.Math.Path.{refl, ap, subst}
 use Rattle.std.proofs.Math.Bool.{true, false, not}
 use Rattle.std.proofs.Math.Option.{none, some}
-use Rattle.std.proofs.lemmas.List.{length-map}
+use Rattle.std.proofs.Math.ListN.{get_or-map}
+use Rattle.std.proofs.lemmas.List.{length-map, get_or-take}
 use Rattle.meaning.proofs.Laws.Array.{front_all}
 use Rattle.meaning.specs.Limits.{area_words, u32_most}
 use Rattle.meaning.specs.Area.{local_in, kept_of, Stored, forgotten}
@@ -83,16 +84,9 @@ unfolding exec
 ran q i b s s' o x y e = (λ k. run_block q (sym x k) (sym y k)) ∙ sym e
 
 -- the block at a position
-pub block_at_lem : (xs : List Block) (n i : ℕ) → length xs ≡ 16 → n ≤ 16 → i < n → block_of (get_or xs i past_block) ≡ get_or (blocks_in xs n) i no_block
+pub block_at_lem : (xs : List Block) (n i : ℕ) → i < n → block_of (get_or xs i past_block) ≡ get_or (blocks_in xs n) i no_block
 unfolding blocks_in
-block_at_lem xs n i w h k = go xs n i (omega (arith, w, h)) k
-  where
-    go : (ys : List Block) (m j : ℕ) → m ≤ length ys → j < m → block_of (get_or ys j past_block) ≡ get_or (map block_of (take m ys)) j no_block
-    go [] zero j p q = absurd (not-suc-le-zero q)
-    go [] (suc m) j p q = absurd (not-suc-le-zero p)
-    go (y ∷ ys) zero j p q = absurd (not-suc-le-zero q)
-    go (y ∷ ys) (suc m) zero p q = refl
-    go (y ∷ ys) (suc m) (suc j) p q = go ys m j (le_of_suc-le-suc p) (le_of_suc-le-suc q)
+block_at_lem xs n i h = sym (get_or-map block_of (take n xs) i past_block ∙ ap block_of (get_or-take n xs i past_block h))
 
 -- ---- one turn
 

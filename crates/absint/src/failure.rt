@@ -1,15 +1,14 @@
 // The verdict of a run: the violation of the lowest entry that ended in error. `verdict_of` is mod.rs 56, from "Report all the join failures" on.
-ghost use Rattle.std.specs.Prelude.{◌≡◌, ◌≤◌, length};
+ghost use Rattle.std.specs.Prelude.{◌≡◌, ◌≤◌, map, length};
 ghost use Rattle.meaning.specs.Limits.{max_blocks};
 ghost use Rattle.meaning.specs.Loop.{lower};
-ghost use Rattle.listing.specs.Models.{blocks_in};
+ghost use Rattle.listing.specs.Models.{block_of};
 ghost use Rattle.absint.specs.Models.{status_of, statuses_of, ruling_of, failure_of, verdict_in};
 
 use crate::Ruling;
 use crate::run_state::{Failure, RunState};
 use file_format::CodeOffset;
 use listing::Block;
-use meaning::MAX_BLOCKS;
 
 // A failed block: its entry and what it ended with.
 #[derive(Clone, Copy)]
@@ -36,16 +35,16 @@ fn lower(
     if old.entry <= entry { lowest } else { new }
 }
 
-pub(crate) fn verdict_of(blocks: [Block; MAX_BLOCKS], n: usize, t: RunState) -> Ruling
-    requires { n ≤ max_blocks }
-    ensures { (ruling_of result ≡ verdict_in (blocks_in blocks n) t) × (length (statuses_of t) ≡ max_blocks) }
+pub(crate) fn verdict_of(blocks: &[Block], t: &RunState) -> Ruling
+    requires { length blocks.now ≤ max_blocks }
+    ensures { (ruling_of result ≡ verdict_in (map block_of blocks.now) t.now) × (length (statuses_of t.now) ≡ max_blocks) }
 {
     if let Some(r) = t.stopped {
         return Ruling::Refused(r.number, r.place.0 as usize);
     }
     let mut lowest = None;
-    for i in 0..n {
-        lowest = lower(lowest, blocks[i].entry, t.statuses[i]);
+    for (i, b) in blocks.iter().enumerate() {
+        lowest = lower(lowest, b.entry, t.statuses[i]);
     }
     match lowest {
         Some(f) => Ruling::Violation(f.failure.code, f.failure.offset, f.failure.borrowed_at),

@@ -3,14 +3,11 @@
 //   here               the Rust
 //   analyze_function   75 `analyze_function`
 //   turn, visit        91 to 157, the body of its loop
-//   block_at           92, the block of a `block_id`
 //
 // 161 `execute_block` is `run_block` of the crate reference_safety.
-ghost use Rattle.std.specs.Prelude.{◌≡◌, ◌≤◌, ◌<◌, length, get_or};
-ghost use Rattle.meaning.specs.Limits.{max_blocks, area_words};
+ghost use Rattle.std.specs.Prelude.{◌≡◌, ◌≤◌, length};
+ghost use Rattle.meaning.specs.Limits.{area_words};
 ghost use Rattle.meaning.specs.Area.{kept_of};
-ghost use Rattle.meaning.specs.Loop.{no_block};
-ghost use Rattle.listing.specs.Models.{block_of, blocks_in};
 ghost use Rattle.abstract_state.specs.Models.{words};
 ghost use Rattle.absint.specs.Models.{Readable, Ready, From, Turned, Analyzed};
 
@@ -20,17 +17,9 @@ use crate::run_state::{RunState, plus};
 use absint_area::{forget, store};
 use abstract_state::state::{AbstractState, LOCALS};
 use abstract_state_join::first::new;
-use listing::{Block, Routine};
-use meaning::{EDGE_WORDS, MAX_BLOCKS, MAX_EDGES, MAX_INSTRUCTIONS, MAX_NAMES, ROOM, lesser};
+use listing::Routine;
+use meaning::{EDGE_WORDS, MAX_EDGES, MAX_INSTRUCTIONS, MAX_NAMES, ROOM, lesser};
 use reference_safety::block::run_block;
-
-// The block at a position.
-fn block_at(blocks: [Block; MAX_BLOCKS], n: usize, i: usize) -> Block
-    requires { (n ≤ max_blocks) × (i < n) }
-    ensures { block_of result ≡ get_or (blocks_in blocks n) i no_block }
-{
-    blocks[i]
-}
 
 // The state with this number of locals.
 fn with_locals(s: AbstractState, locals: u8) -> AbstractState
@@ -57,9 +46,7 @@ fn visit(
     ensures { Turned listing.now code.now routine area.old area.new t result }
 {
     let i = t.next;
-    let n = routine.block_count;
-    let blocks = routine.blocks;
-    let b = block_at(blocks, n, i);
+    let b = routine.blocks[i];
     let r = run_block(listing, routine, code, b, locals, names, edges, start);
     let s = r.state;
     let place = r.place;
@@ -79,7 +66,8 @@ fn visit(
         return v;
     }
     let e = with_locals(s, routine.locals);
-    propagate(area, &blocks[..n], b, locals, names, edges, e, v)
+    let blocks = &routine.blocks[..routine.block_count];
+    propagate(area, blocks, b, locals, names, edges, e, v)
 }
 
 // The next block: passed over where it has no kept state, else run from a copy of it.
@@ -104,7 +92,8 @@ fn turn(
     }
 }
 
-// The loop has no budget: `turns` only counts, and its bound is that of the visits (document 01, demand 3).
+// The loop has no budget: `turns` only counts, and its bound is that of the visits (document 01, demand 3). A `while`, because it counts no index:
+// the turn says which block is next.
 pub(crate) fn analyze_function(
     listing: &[u8],
     routine: Routine,

@@ -54,9 +54,8 @@ pub fn analyze(listing: &[u8], area: &mut [u32]) -> Verdict
     match read_listing(listing, &mut code) {
         Ok(Some(q)) => {
             let t = analyze_function(listing, q, &code, area);
-            let blocks = q.blocks;
             Verdict {
-                ruling: verdict_of(blocks, q.block_count, t),
+                ruling: verdict_of(&q.blocks[..q.block_count], &t),
                 visits: t.visits,
                 blurred: t.blurred,
             }

@@ -20,7 +20,8 @@ pub(crate) struct Failure {
     pub borrowed_at: CodeOffset,
 }
 
-// The refusal that stopped a run: its number of document 01, and its place.
+// The refusal that stopped a run: its number of document 01, and its place. No `Refusal` stands for the number, because the state's own number, with
+// which a visit stops, comes in here too.
 #[derive(Clone, Copy)]
 pub(crate) struct Stop {
     pub number: u8,

@@ -18,7 +18,8 @@ ghost use Rattle.abstract_state.specs.Models.{words, state_of};
 ghost use Rattle.absint_area.specs.Models.{loaded_in};
 
 use abstract_state::state::{AbstractState, LOCALS};
-use meaning::{AREA_WORDS, BLOCK_WORDS, EDGE_WORDS, MAX_BLOCKS, MAX_EDGES, MAX_NAMES};
+use meaning::{AREA_WORDS, BLOCK_WORDS, MAX_BLOCKS, MAX_EDGES, MAX_NAMES};
+use references::rows::Row;
 
 // A local's part of a word is below LOCAL_END.
 const LOCAL_END: u32 = 262144;
@@ -65,7 +66,7 @@ pub fn store(
     b: usize,
     locals: &[u32; LOCALS],
     names: &[u32; MAX_NAMES],
-    edges: &[[u32; EDGE_WORDS]; MAX_EDGES],
+    edges: &[Row; MAX_EDGES],
     s: AbstractState,
 )
     ensures { length locals.now ≡ max_locals → length names.now ≡ max_names → length edges.now ≡ max_edges → Stored s.num_locals (state_of (words locals.now names.now edges.now s)) b area.old area.new }
@@ -82,7 +83,7 @@ pub fn load(
     num_locals: u8,
     locals: &mut [u32; LOCALS],
     names: &mut [u32; MAX_NAMES],
-    edges: &mut [[u32; EDGE_WORDS]; MAX_EDGES],
+    edges: &mut [Row; MAX_EDGES],
 ) -> Option<Kept>
     ensures { IfSome result (λ k. (k.refs ≤ max_names) × (k.edges ≤ max_edges)) × (length locals.old ≡ max_locals → length names.old ≡ max_names → length edges.old ≡ max_edges → (loaded_in locals.new names.new edges.new num_locals result ≡ kept_of num_locals area.now b) × (length locals.new ≡ max_locals) × (length names.new ≡ max_names) × (length edges.new ≡ max_edges)) }
 {

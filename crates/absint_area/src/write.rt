@@ -11,11 +11,13 @@ ghost use Rattle.absint_area.specs.ModelLaws.{local_at, name_at, row_at};
 use crate::{EDGES_AT, LOCAL_END, REFS_AT};
 use abstract_state::state::{AbstractState, LOCALS};
 use meaning::{BLOCK_WORDS, EDGE_WORDS, MAX_BLOCKS, MAX_EDGES, MAX_NAMES, lesser};
+use references::rows::Row;
 
 pub(crate) fn put_absent(ws: &mut [u32])
     requires { area_words ≤ length ws.old }
     ensures { ws.new ≡ unkept max_blocks ws.old }
 {
+    // (By index: of each block's words only the first is written.)
     for b in 0..MAX_BLOCKS {
         ws[BLOCK_WORDS * b] = 0;
     }
@@ -38,8 +40,8 @@ fn put_locals(ws: &mut [u32], at: usize, locals: &[u32; LOCALS], names: usize, e
     requires { (at + max_locals ≤ length ws.old) × (names ≤ max_names) × (edges ≤ max_edges) }
     ensures { Written (IsLocal (local_at locals.now) names edges) at max_locals max_locals ws.old ws.new }
 {
-    for i in 0..LOCALS {
-        let w = locals[i] % LOCAL_END;
+    for (i, local) in locals.iter().enumerate() {
+        let w = *local % LOCAL_END;
         ws[at + i] = w + above_local(i, names, edges) * LOCAL_END;
     }
 }
@@ -51,19 +53,19 @@ fn put_refs(ws: &mut [u32], at: usize, names: &[u32; MAX_NAMES], n: usize)
     ws[at..at + n].copy_from_slice(&names[..n]);
 }
 
-fn put_row(ws: &mut [u32], at: usize, x: &[u32; EDGE_WORDS])
+fn put_row(ws: &mut [u32], at: usize, x: &Row)
     requires { at + edge_words ≤ length ws.old }
     ensures { Frame at edge_words ws.old ws.new × (edge_in (word_at ws.new) at ≡ row_of x.now) }
 {
     ws[at..at + EDGE_WORDS].copy_from_slice(x);
 }
 
-fn put_edges(ws: &mut [u32], at: usize, edges: &[[u32; EDGE_WORDS]; MAX_EDGES], n: usize)
+fn put_edges(ws: &mut [u32], at: usize, edges: &[Row; MAX_EDGES], n: usize)
     requires { (at + edge_words * max_edges ≤ length ws.old) × (n ≤ max_edges) }
     ensures { WrittenEdges (row_at edges.now) at max_edges n ws.old ws.new }
 {
-    for i in 0..n {
-        put_row(ws, at + EDGE_WORDS * i, &edges[i]);
+    for (i, row) in edges[..n].iter().enumerate() {
+        put_row(ws, at + EDGE_WORDS * i, row);
     }
 }
 
@@ -72,7 +74,7 @@ pub(crate) fn put_state(
     at: usize,
     locals: &[u32; LOCALS],
     names: &[u32; MAX_NAMES],
-    edges: &[[u32; EDGE_WORDS]; MAX_EDGES],
+    edges: &[Row; MAX_EDGES],
     s: AbstractState,
 )
     requires { at + block_words ≤ length ws.old }

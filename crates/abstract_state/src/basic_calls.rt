@@ -28,9 +28,10 @@ use crate::words::{local_of, local_word};
 use borrow_graph::graph::BorrowGraph;
 use borrow_graph_edit::borrow::{add_strong_borrow, add_weak_borrow};
 use file_format::{CodeOffset, LocalIndex};
-use meaning::{EDGE_WORDS, MAX_EDGES, MAX_LOCALS, MAX_NAMES};
+use meaning::{MAX_EDGES, MAX_LOCALS, MAX_NAMES};
 use paths::Label;
 use references::RefID;
+use references::rows::Row;
 use vm_status::{Refusal, StatusCode};
 
 // A name is below this.
@@ -188,7 +189,7 @@ fn on_graph(state: AbstractState, g: BorrowGraph, a: Result<u8, Refusal>) -> Abs
 
 pub fn add_copy(
     names: &[u32; MAX_NAMES],
-    edges: &mut [[u32; EDGE_WORDS]; MAX_EDGES],
+    edges: &mut [Row; MAX_EDGES],
     state: AbstractState,
     parent: RefID,
     child: RefID,
@@ -203,7 +204,7 @@ pub fn add_copy(
 
 pub fn add_borrow(
     names: &[u32; MAX_NAMES],
-    edges: &mut [[u32; EDGE_WORDS]; MAX_EDGES],
+    edges: &mut [Row; MAX_EDGES],
     state: AbstractState,
     parent: RefID,
     child: RefID,
@@ -218,7 +219,7 @@ pub fn add_borrow(
 
 pub fn add_field_borrow(
     names: &[u32; MAX_NAMES],
-    edges: &mut [[u32; EDGE_WORDS]; MAX_EDGES],
+    edges: &mut [Row; MAX_EDGES],
     state: AbstractState,
     parent: RefID,
     field: u16,
@@ -235,7 +236,7 @@ pub fn add_field_borrow(
 
 pub fn add_local_borrow(
     names: &[u32; MAX_NAMES],
-    edges: &mut [[u32; EDGE_WORDS]; MAX_EDGES],
+    edges: &mut [Row; MAX_EDGES],
     state: AbstractState,
     local: LocalIndex,
     child: RefID,
@@ -252,7 +253,7 @@ pub fn add_local_borrow(
 
 pub fn add_resource_borrow(
     names: &[u32; MAX_NAMES],
-    edges: &mut [[u32; EDGE_WORDS]; MAX_EDGES],
+    edges: &mut [Row; MAX_EDGES],
     state: AbstractState,
     resource: u16,
     child: RefID,
@@ -269,7 +270,7 @@ pub fn add_resource_borrow(
 
 pub fn release(
     names: &mut [u32; MAX_NAMES],
-    edges: &mut [[u32; EDGE_WORDS]; MAX_EDGES],
+    edges: &mut [Row; MAX_EDGES],
     state: AbstractState,
     id: RefID,
 ) -> AbstractState

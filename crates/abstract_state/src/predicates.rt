@@ -27,9 +27,10 @@ use crate::basic_calls::frame_root;
 use crate::state::AbstractState;
 use borrow_graph::lookups::borrowed_by;
 use file_format::{CodeOffset, LocalIndex};
-use meaning::{EDGE_WORDS, MAX_EDGES, MAX_NAMES};
+use meaning::{MAX_EDGES, MAX_NAMES};
 use paths::Label;
 use references::RefID;
+use references::rows::Row;
 use vm_status::Refusal;
 
 pub fn is_mutable(
@@ -56,7 +57,7 @@ pub fn only_if(
 // An empty-path borrow.
 pub fn has_full_borrows(
     names: &[u32; MAX_NAMES],
-    edges: &[[u32; EDGE_WORDS]; MAX_EDGES],
+    edges: &[Row; MAX_EDGES],
     state: AbstractState,
     id: RefID,
 ) -> Result<Option<CodeOffset>, Refusal>
@@ -68,7 +69,7 @@ pub fn has_full_borrows(
 
 pub fn has_consistent_borrows(
     names: &[u32; MAX_NAMES],
-    edges: &[[u32; EDGE_WORDS]; MAX_EDGES],
+    edges: &[Row; MAX_EDGES],
     state: AbstractState,
     id: RefID,
     at: Option<Label>,
@@ -81,7 +82,7 @@ pub fn has_consistent_borrows(
 
 pub fn has_consistent_mutable_borrows(
     names: &[u32; MAX_NAMES],
-    edges: &[[u32; EDGE_WORDS]; MAX_EDGES],
+    edges: &[Row; MAX_EDGES],
     state: AbstractState,
     id: RefID,
     at: Option<Label>,
@@ -95,7 +96,7 @@ pub fn has_consistent_mutable_borrows(
 // Only a mutable reference can be kept from being read.
 pub fn bars_reading(
     names: &[u32; MAX_NAMES],
-    edges: &[[u32; EDGE_WORDS]; MAX_EDGES],
+    edges: &[Row; MAX_EDGES],
     state: AbstractState,
     id: RefID,
     at: Option<Label>,
@@ -110,7 +111,7 @@ pub fn bars_reading(
 
 pub fn is_local_borrowed(
     names: &[u32; MAX_NAMES],
-    edges: &[[u32; EDGE_WORDS]; MAX_EDGES],
+    edges: &[Row; MAX_EDGES],
     state: AbstractState,
     local: LocalIndex,
 ) -> Result<Option<CodeOffset>, Refusal>
@@ -123,7 +124,7 @@ pub fn is_local_borrowed(
 
 pub fn is_local_mutably_borrowed(
     names: &[u32; MAX_NAMES],
-    edges: &[[u32; EDGE_WORDS]; MAX_EDGES],
+    edges: &[Row; MAX_EDGES],
     state: AbstractState,
     local: LocalIndex,
 ) -> Result<Option<CodeOffset>, Refusal>
@@ -136,7 +137,7 @@ pub fn is_local_mutably_borrowed(
 
 pub fn is_global_borrowed(
     names: &[u32; MAX_NAMES],
-    edges: &[[u32; EDGE_WORDS]; MAX_EDGES],
+    edges: &[Row; MAX_EDGES],
     state: AbstractState,
     resource: u16,
 ) -> Result<Option<CodeOffset>, Refusal>
@@ -149,7 +150,7 @@ pub fn is_global_borrowed(
 
 pub fn is_global_mutably_borrowed(
     names: &[u32; MAX_NAMES],
-    edges: &[[u32; EDGE_WORDS]; MAX_EDGES],
+    edges: &[Row; MAX_EDGES],
     state: AbstractState,
     resource: u16,
 ) -> Result<Option<CodeOffset>, Refusal>
@@ -163,7 +164,7 @@ pub fn is_global_mutably_borrowed(
 // Something of the frame is borrowed.
 pub fn is_frame_borrowed(
     names: &[u32; MAX_NAMES],
-    edges: &[[u32; EDGE_WORDS]; MAX_EDGES],
+    edges: &[Row; MAX_EDGES],
     state: AbstractState,
 ) -> Result<Option<CodeOffset>, Refusal>
     ensures { (ls : List ℕ) → Fits (words ls names.now edges.now state) → low_of result ≡ of_name (graph_in names.now edges.now state.borrow_graph) state.num_locals (lowest_of (borrows state.num_locals none) (graph_in names.now edges.now state.borrow_graph).edges) }

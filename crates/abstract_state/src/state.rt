@@ -23,7 +23,7 @@ pub enum AbstractValue {
     NonReference,
 }
 
-// Operands as words. What lies from `len` on is free; a `len` beyond 16 reads as 16.
+// Operands as words. What lies from `len` on is free; a `len` beyond 16 reads as 16. (A fixed array with its length beside it: no heap is allowed.)
 #[derive(Clone, Copy)]
 pub struct Operands {
     pub list: [u32; MAX_OPERANDS],

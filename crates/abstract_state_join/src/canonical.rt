@@ -16,8 +16,9 @@ use crate::locals::count;
 use abstract_state::state::{AbstractState, AbstractValue, LOCALS};
 use abstract_state::words::{local_of, local_word};
 use borrow_graph::remap::{IdMap, IdPair, renamed};
-use meaning::{EDGE_WORDS, MAX_EDGES, MAX_NAMES};
+use meaning::{MAX_EDGES, MAX_NAMES};
 use references::RefID;
+use references::rows::Row;
 
 // The root keeps its name; a local's reference gets the local's index.
 fn id_map(locals: &[u32; LOCALS], n: u8, root: RefID) -> IdMap
@@ -27,10 +28,11 @@ fn id_map(locals: &[u32; LOCALS], n: u8, root: RefID) -> IdMap
         old: root,
         new: root,
     };
+    // (The pairs go to the front of a fixed array and are counted: no heap is allowed.)
     let mut list = [kept; MAX_NAMES];
     let mut len: usize = 1;
-    for i in 0..count(n) {
-        let Some(AbstractValue::Reference(held)) = local_of(locals[i]) else {
+    for (i, local) in locals[..count(n)].iter().enumerate() {
+        let Some(AbstractValue::Reference(held)) = local_of(*local) else {
             continue;
         };
         list[len] = IdPair {
@@ -59,6 +61,7 @@ fn own_name(x: Option<AbstractValue>, i: usize) -> Option<AbstractValue>
 fn own_names(locals: &mut [u32; LOCALS], n: u8)
     ensures { length locals.old ≡ max_locals → (locals_in locals.new n ≡ own_names 0 (locals_in locals.old n)) × (length locals.new ≡ max_locals) }
 {
+    // (By index: each word is written in place, and its index is the new name.)
     for i in 0..count(n) {
         locals[i] = local_word(own_name(local_of(locals[i]), i));
     }
@@ -68,7 +71,7 @@ fn own_names(locals: &mut [u32; LOCALS], n: u8)
 pub fn construct_canonical_state(
     locals: &mut [u32; LOCALS],
     names: &mut [u32; MAX_NAMES],
-    edges: &mut [[u32; EDGE_WORDS]; MAX_EDGES],
+    edges: &mut [Row; MAX_EDGES],
     state: AbstractState,
 ) -> AbstractState
     ensures { Does canonical_end (words locals.old names.old edges.old state) (words locals.new names.new edges.new result) }

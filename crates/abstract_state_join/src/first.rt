@@ -32,6 +32,7 @@ fn first_locals(locals: &mut [u32; LOCALS], n: usize, params: &[SignatureToken])
     requires { n ≤ max_locals }
     ensures { length locals.old ≡ max_locals → (locals_in locals.new n ≡ first_locals 0 n (map token_of params.now)) × (length locals.new ≡ max_locals) }
 {
+    // (By index: each word is written in place, and its index tells both its parameter and its name.)
     for i in 0..n {
         locals[i] = local_word(first_local(params, i));
     }
@@ -42,6 +43,7 @@ fn first_names(names: &mut [u32; MAX_NAMES], n: usize, params: &[SignatureToken]
     requires { n ≤ max_locals }
     ensures { (result ≤ max_names) × (length names.old ≡ max_names → (names_in names.new result ≡ first_names 0 n (map token_of params.now)) × (length names.new ≡ max_names)) }
 {
+    // (The names go to the front of the array and are counted: no heap is allowed.)
     let mut len: usize = 0;
     for (i, token) in params[..lesser(n, params.len())].iter().enumerate() {
         if *token == SignatureToken::Value {

@@ -106,6 +106,7 @@ fn join_locals(
     let n = count(num_locals);
     let m = count(num_locals2);
     let mut blurred: u32 = 0;
+    // (By index: our word is written in place after both are read.)
     for i in 0..lesser(n, m) {
         let a = local_of(locals[i]);
         let b = local_of(locals2[i]);

@@ -39,9 +39,10 @@ use abstract_state::predicates::{
 };
 use abstract_state::state::{AbstractState, AbstractValue, LOCALS};
 use file_format::{LocalIndex, SignatureToken};
-use meaning::{EDGE_WORDS, MAX_EDGES, MAX_NAMES};
+use meaning::{MAX_EDGES, MAX_NAMES};
 use paths::Label;
 use references::RefID;
+use references::rows::Row;
 use vm_status::{Refusal, StatusCode};
 
 pub fn value_for(
@@ -68,7 +69,7 @@ fn value_for_ref(names: &mut [u32; MAX_NAMES], state: AbstractState, mutable: bo
 
 pub fn release_value(
     names: &mut [u32; MAX_NAMES],
-    edges: &mut [[u32; EDGE_WORDS]; MAX_EDGES],
+    edges: &mut [Row; MAX_EDGES],
     state: AbstractState,
     value: AbstractValue,
 ) -> AbstractState
@@ -83,7 +84,7 @@ pub fn release_value(
 pub fn copy_loc(
     locals: &[u32; LOCALS],
     names: &mut [u32; MAX_NAMES],
-    edges: &mut [[u32; EDGE_WORDS]; MAX_EDGES],
+    edges: &mut [Row; MAX_EDGES],
     state: AbstractState,
     i: LocalIndex,
 ) -> AbstractState
@@ -106,7 +107,7 @@ pub fn copy_loc(
 // The copy of a reference.
 fn copy_ref(
     names: &mut [u32; MAX_NAMES],
-    edges: &mut [[u32; EDGE_WORDS]; MAX_EDGES],
+    edges: &mut [Row; MAX_EDGES],
     state: AbstractState,
     id: RefID,
 ) -> AbstractState
@@ -124,7 +125,7 @@ fn copy_ref(
 pub fn move_loc(
     locals: &mut [u32; LOCALS],
     names: &[u32; MAX_NAMES],
-    edges: &[[u32; EDGE_WORDS]; MAX_EDGES],
+    edges: &[Row; MAX_EDGES],
     state: AbstractState,
     i: LocalIndex,
 ) -> AbstractState
@@ -151,7 +152,7 @@ pub fn move_loc(
 pub fn st_loc(
     locals: &mut [u32; LOCALS],
     names: &mut [u32; MAX_NAMES],
-    edges: &mut [[u32; EDGE_WORDS]; MAX_EDGES],
+    edges: &mut [Row; MAX_EDGES],
     state: AbstractState,
     i: LocalIndex,
     new: AbstractValue,
@@ -172,7 +173,7 @@ pub fn st_loc(
 
 pub fn freeze_ref(
     names: &mut [u32; MAX_NAMES],
-    edges: &mut [[u32; EDGE_WORDS]; MAX_EDGES],
+    edges: &mut [Row; MAX_EDGES],
     state: AbstractState,
     id: RefID,
 ) -> AbstractState
@@ -191,7 +192,7 @@ pub fn freeze_ref(
 
 pub fn comparison(
     names: &mut [u32; MAX_NAMES],
-    edges: &mut [[u32; EDGE_WORDS]; MAX_EDGES],
+    edges: &mut [Row; MAX_EDGES],
     state: AbstractState,
     v1: AbstractValue,
     v2: AbstractValue,
@@ -214,7 +215,7 @@ pub fn comparison(
 
 fn compare_refs(
     names: &mut [u32; MAX_NAMES],
-    edges: &mut [[u32; EDGE_WORDS]; MAX_EDGES],
+    edges: &mut [Row; MAX_EDGES],
     state: AbstractState,
     id1: RefID,
     id2: RefID,
@@ -233,7 +234,7 @@ fn compare_refs(
 // The violation, where the reference is not readable.
 fn violate_if_unreadable(
     names: &[u32; MAX_NAMES],
-    edges: &[[u32; EDGE_WORDS]; MAX_EDGES],
+    edges: &[Row; MAX_EDGES],
     state: AbstractState,
     id: RefID,
     at: Option<Label>,
@@ -247,7 +248,7 @@ fn violate_if_unreadable(
 
 pub fn read_ref(
     names: &mut [u32; MAX_NAMES],
-    edges: &mut [[u32; EDGE_WORDS]; MAX_EDGES],
+    edges: &mut [Row; MAX_EDGES],
     state: AbstractState,
     id: RefID,
 ) -> AbstractState
@@ -268,7 +269,7 @@ pub fn read_ref(
 
 pub fn write_ref(
     names: &mut [u32; MAX_NAMES],
-    edges: &mut [[u32; EDGE_WORDS]; MAX_EDGES],
+    edges: &mut [Row; MAX_EDGES],
     state: AbstractState,
     id: RefID,
 ) -> AbstractState
@@ -283,7 +284,7 @@ pub fn write_ref(
 
 pub fn borrow_loc(
     names: &mut [u32; MAX_NAMES],
-    edges: &mut [[u32; EDGE_WORDS]; MAX_EDGES],
+    edges: &mut [Row; MAX_EDGES],
     state: AbstractState,
     mutable: bool,
     i: LocalIndex,
@@ -301,7 +302,7 @@ pub fn borrow_loc(
 
 pub fn borrow_field(
     names: &mut [u32; MAX_NAMES],
-    edges: &mut [[u32; EDGE_WORDS]; MAX_EDGES],
+    edges: &mut [Row; MAX_EDGES],
     state: AbstractState,
     mutable: bool,
     id: RefID,
@@ -320,7 +321,7 @@ pub fn borrow_field(
 // A mutable borrow fails on an empty-path borrow; another one, where the field is not readable.
 fn violate_if_field_borrowed(
     names: &[u32; MAX_NAMES],
-    edges: &[[u32; EDGE_WORDS]; MAX_EDGES],
+    edges: &[Row; MAX_EDGES],
     state: AbstractState,
     mutable: bool,
     id: RefID,
@@ -339,7 +340,7 @@ fn violate_if_field_borrowed(
 
 pub fn borrow_global(
     names: &mut [u32; MAX_NAMES],
-    edges: &mut [[u32; EDGE_WORDS]; MAX_EDGES],
+    edges: &mut [Row; MAX_EDGES],
     state: AbstractState,
     mutable: bool,
     resource: u16,
@@ -356,7 +357,7 @@ pub fn borrow_global(
 // A mutable borrow fails on any borrow; another one, on a mutable borrow.
 fn violate_if_resource_borrowed(
     names: &[u32; MAX_NAMES],
-    edges: &[[u32; EDGE_WORDS]; MAX_EDGES],
+    edges: &[Row; MAX_EDGES],
     state: AbstractState,
     mutable: bool,
     resource: u16,
@@ -373,7 +374,7 @@ fn violate_if_resource_borrowed(
 
 pub fn move_from(
     names: &[u32; MAX_NAMES],
-    edges: &[[u32; EDGE_WORDS]; MAX_EDGES],
+    edges: &[Row; MAX_EDGES],
     state: AbstractState,
     resource: u16,
 ) -> AbstractState
@@ -387,7 +388,7 @@ pub fn move_from(
 // A mutable vector step wants a mutable reference with no borrow.
 fn vector_test(
     names: &[u32; MAX_NAMES],
-    edges: &[[u32; EDGE_WORDS]; MAX_EDGES],
+    edges: &[Row; MAX_EDGES],
     state: AbstractState,
     mutable: bool,
     id: RefID,
@@ -406,7 +407,7 @@ fn vector_test(
 
 pub fn vector_op(
     names: &mut [u32; MAX_NAMES],
-    edges: &mut [[u32; EDGE_WORDS]; MAX_EDGES],
+    edges: &mut [Row; MAX_EDGES],
     state: AbstractState,
     vector: AbstractValue,
     mutable: bool,
@@ -431,7 +432,7 @@ pub fn vector_op(
 
 pub fn vector_element_borrow(
     names: &mut [u32; MAX_NAMES],
-    edges: &mut [[u32; EDGE_WORDS]; MAX_EDGES],
+    edges: &mut [Row; MAX_EDGES],
     state: AbstractState,
     vector: AbstractValue,
     mutable: bool,

@@ -14,7 +14,8 @@ use meaning::{MAX_EDGES, insert_at};
 use references::rows::{Candidate, Row, child, parent, tagged};
 use vm_status::Refusal;
 
-// The rows that pass a test move to the front, in their order; how many they are. (By hand, since an array has no `retain`.)
+// The rows that pass a test move to the front, in their order; how many they are. (By hand: it writes in the array that it reads, and an
+// array has no `retain`.)
 pub(crate) fn retain<F: Fn(&Row) -> bool>(edges: &mut [Row; MAX_EDGES], m: usize, test: F) -> usize
     requires { (m ≤ max_edges) × F.IsAlwaysCallable test }
     ensures { (result ≤ m) × ((q : GEdge → Bool) → ((x : List ℕ) (b : Bool) → FnReturnsAt F.Fn test x b → b ≡ q (row_of x)) → length edges.old ≡ max_edges → (length edges.new ≡ max_edges) × (edges_in edges.new result ≡ keep q (edges_in edges.old m))) }

@@ -19,7 +19,7 @@ ghost use Rattle.borrow_graph.specs.Models.{graph_in, Tells};
 ghost use Rattle.borrow_graph_edit.specs.Models.{replaced_in, filled_in, Blurs};
 
 use crate::blurs::settled;
-use crate::pairs::{between, passes_limit, replace_set};
+use crate::pairs::{between, replace_set, two_passes};
 use borrow_graph::cover::holds_all;
 use borrow_graph::graph::BorrowGraph;
 use meaning::{MAX_EDGES, MAX_NAMES};
@@ -93,8 +93,7 @@ fn join_pairs(
     Ok(count)
 }
 
-// Where 96 is passed on the way, again: first what makes the list shorter, then all. (As `splice_all`, with another pass: a closure that
-// changes rows would need clauses longer than both.)
+// Every pair of theirs, in as many passes as it takes.
 fn join_all(
     edges: &mut [Row; MAX_EDGES],
     ours: &[Row; MAX_EDGES],
@@ -107,13 +106,15 @@ fn join_all(
         Neat (edges_in ours.now k) → Neat (edges_in theirs.now n) → (length edges.new ≡ max_edges)
         × (replaced_in edges.new result ≡ two_pass (join_set (edges_in ours.now k) (edges_in theirs.now n)) (pairs_from (loop_at 0) (edges_in theirs.now n)) (edges_in ours.now k))) }
 {
-    let r = join_pairs(edges, k, ours, k, theirs, n, false);
-    if !passes_limit(r) {
-        return r;
-    }
-    *edges = *ours;
-    let m = join_pairs(edges, k, ours, k, theirs, n, true)?;
-    join_pairs(edges, m, ours, k, theirs, n, false)
+    two_passes(
+        edges,
+        k,
+        |e| {
+            *e = *ours;
+            k
+        },
+        |e, m, shrinking| join_pairs(e, m, ours, k, theirs, n, shrinking),
+    )
 }
 
 // Two graphs with the same names.

@@ -1,10 +1,12 @@
 // A pair's set: collected, and exchanged for a new one within the limit of 96 edges. In the Rust it is an entry of `borrowed_by` and one of
 // `borrows_from` (references.rs, 64).
-ghost use Rattle.std.specs.Prelude.{◌≡◌, ◌++◌, ◌+◌, ◌-◌, ◌≤◌, length, take, drop, IfOk};
+ghost use Rattle.std.specs.Prelude.{◌≡◌, true, ℕ, Bool, List, ◌++◌, ◌+◌, ◌-◌, ◌≤◌, length, take, drop, IfOk};
 ghost use Rattle.meaning.specs.Limits.{max_edges, max_set_size};
 ghost use Rattle.meaning.specs.Lists.{keep};
+ghost use Rattle.meaning.specs.Answers.{Ans, ok};
+ghost use Rattle.meaning.specs.References.{EdgeSet, set_ok};
 ghost use Rattle.meaning.specs.BorrowGraph.{tagged, is_before, set_at};
-ghost use Rattle.meaning.specs.Refinement.Pairs.{edges_at, replace_one};
+ghost use Rattle.meaning.specs.Refinement.Pairs.{Pair, edges_at, replace_one, replace_lim, two_pass};
 ghost use Rattle.meaning.specs.Laws.Pair.{Neat};
 ghost use Rattle.references.specs.Models.{edges_in, set_of};
 ghost use Rattle.borrow_graph_edit.specs.Models.{replaced_in, is_21};
@@ -66,7 +68,8 @@ pub(crate) fn between(edges: &[Row; MAX_EDGES], m: usize, parent: RefID, child: 
     found
 }
 
-// The `old` edges from `low` on give way to those of a set of this pair.
+// The `old` edges from `low` on give way to those of a set of this pair. (By index: place `low + i` is written from row `i` of the set, which
+// a `zip` over `iter_mut` says no more plainly.)
 pub(crate) fn replace(
     edges: &mut [Row; MAX_EDGES],
     m: usize,
@@ -113,8 +116,35 @@ pub(crate) fn replace_set(
 }
 
 // Whether a pass ended at the limit of 96 edges.
-pub(crate) fn passes_limit(r: Result<usize, Refusal>) -> bool
+fn passes_limit(r: Result<usize, Refusal>) -> bool
     ensures { result ≡ is_21 r }
 {
     matches!(r, Err(Refusal::ManyEdges))
+}
+
+// A pass over the rows; where 96 is passed on the way, again from the rows that `start` puts back: first what makes the list shorter, then all.
+// Its promise: for sets `new` and pairs `rs`, where each pass does what they ask, all of it does what `two_pass` does.
+pub(crate) fn two_passes<
+    S: Fn(&mut [Row; MAX_EDGES]) -> usize,
+    P: Fn(&mut [Row; MAX_EDGES], usize, bool) -> Result<usize, Refusal>,
+>(edges: &mut [Row; MAX_EDGES], k: usize, start: S, pass: P) -> Result<usize, Refusal>
+    requires begins { (k ≤ max_edges) × S.IsAlwaysCallable start }
+    requires few { (e : _) (n : ℕ) (e' : _) → S.post start e n e' → n ≤ max_edges }
+    requires callable { (e : _) (n : ℕ) (s : Bool) → n ≤ max_edges → P.pre pass e n s }
+    requires limited { (e : _) (n : ℕ) (s : Bool) (r : _) (e' : _) → n ≤ max_edges → P.post pass e n s r e' → IfOk r (λ n. n ≤ max_edges) }
+    ensures few { IfOk result (λ n. n ≤ max_edges) }
+    ensures rows { (new : ℕ → ℕ → Ans EdgeSet) → (rs : List Pair) → length edges.old ≡ max_edges → Neat (edges_in edges.old k) →
+        ((p c : ℕ) (s : EdgeSet) → new p c ≡ ok s → set_ok s ≡ true) →
+        ((e : _) (n : ℕ) (e' : _) → S.post start e n e' → length e.now ≡ max_edges → (length e'.now ≡ max_edges) × (edges_in e'.now n ≡ edges_in edges.old k)) →
+        ((e : _) (n : ℕ) (s : Bool) (r : _) (e' : _) → P.post pass e n s r e' → length e.now ≡ max_edges → Neat (edges_in e.now n) →
+        (length e'.now ≡ max_edges) × (replaced_in e'.now r ≡ replace_lim s new rs (edges_in e.now n))) →
+        (length edges.new ≡ max_edges) × (replaced_in edges.new result ≡ two_pass new rs (edges_in edges.old k)) }
+{
+    let r = pass(edges, k, false);
+    if !passes_limit(r) {
+        return r;
+    }
+    let n = start(edges);
+    let m = pass(edges, n, true)?;
+    pass(edges, m, false)
 }

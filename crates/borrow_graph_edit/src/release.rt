@@ -22,7 +22,7 @@ ghost use Rattle.borrow_graph_edit.specs.Ways.{entering, leaving, ways, Within, 
 
 use crate::blurs::{Changed, settled};
 use crate::edges::{add_edge, retain};
-use crate::pairs::{between, passes_limit, replace_set};
+use crate::pairs::{between, replace_set, two_passes};
 use borrow_graph::graph::BorrowGraph;
 use borrow_graph::refs;
 use meaning::{MAX_EDGES, MAX_NAMES};
@@ -98,7 +98,7 @@ fn splice_pair(
     replace_set(edges, k, parent, child, &set, shrinking)
 }
 
-// One parent with each child. (`splice_rows` is alike; a closure for what is called would need clauses longer than both.)
+// One parent with each child. (`splice_rows` walks alike, and `join_pairs` in join.rt: by another test of a row, and with another step.)
 fn splice_row(
     edges: &mut [Row; MAX_EDGES],
     k: usize,
@@ -173,7 +173,7 @@ fn without(edges: &mut [Row; MAX_EDGES], old: &[Row; MAX_EDGES], m: usize, id: R
     left_out(edges, m, id)
 }
 
-// Where 96 is passed on the way, again: first what makes the list shorter, then all.
+// Every parent with each child, in as many passes as it takes.
 fn splice_all(
     edges: &mut [Row; MAX_EDGES],
     old: &[Row; MAX_EDGES],
@@ -184,13 +184,12 @@ fn splice_all(
     ensures { IfOk result (λ n. n ≤ max_edges) × (length edges.old ≡ max_edges → length old.now ≡ max_edges → Neat (keep (apart id.0) (edges_in old.now m)) → Neat (edges_in old.now m) → (length edges.new ≡ max_edges) × (replaced_in edges.new result ≡ two_pass (splice_set (edges_in old.now m) id.0) (splice_pairs (edges_in old.now m) id.0) (keep (apart id.0) (edges_in old.now m)))) }
 {
     let k = without(edges, old, m, id);
-    let r = splice_rows(edges, k, old, m, id, false);
-    if !passes_limit(r) {
-        return r;
-    }
-    let k = without(edges, old, m, id);
-    let n = splice_rows(edges, k, old, m, id, true)?;
-    splice_rows(edges, n, old, m, id, false)
+    two_passes(
+        edges,
+        k,
+        |e| without(e, old, m, id),
+        |e, k, shrinking| splice_rows(e, k, old, m, id, shrinking),
+    )
 }
 
 // A release with ways through the name.

@@ -20,6 +20,7 @@ pub fn fill<R: Read>(input: &mut R, buf: &mut [u8]) -> Result<usize, Failed>
     ensures bytes { Consumes (R.remaining input.old) (R.remaining input.new) (take (count_of result) buf.new) }
 {
     let mut done: usize = 0;
+    // By as much as a read gave, so nothing is counted one by one.
     while done < buf.len() {
         match input.read(&mut buf[done..]) {
             Ok(0) => return Ok(done),

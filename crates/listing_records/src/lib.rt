@@ -150,7 +150,7 @@ fn limit_of(f: u16, locals: u8) -> u16
 }
 
 // How many bytes a field takes; if it does not run past the end, that it holds what it may (else refusal 3); and if it does hold that,
-// that it is within the limits (else refusal 6).
+// that it is within the limits (else refusal 6). Both are there for every field, so neither is an Option.
 #[derive(Clone, Copy)]
 struct Field {
     width: usize,

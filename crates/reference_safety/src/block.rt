@@ -23,8 +23,9 @@ use abstract_state_join::canonical::construct_canonical_state;
 use file_format::CodeOffset;
 use listing::decode::{Decoded, Instruction, decode};
 use listing::{Block, Routine};
-use meaning::{EDGE_WORDS, MAX_EDGES, MAX_INSTRUCTIONS, MAX_NAMES, lesser};
+use meaning::{MAX_EDGES, MAX_INSTRUCTIONS, MAX_NAMES, lesser};
 use operand_stack::OperandStack;
+use references::rows::Row;
 use vm_status::Refusal;
 
 // A block's end: the state that its successors get, or the violation or refusal in that state's numbers, with its place. Without successors,
@@ -38,7 +39,7 @@ pub struct Ran {
 // An instruction on references; no other comes here.
 fn execute_on_references(
     names: &mut [u32; MAX_NAMES],
-    edges: &mut [[u32; EDGE_WORDS]; MAX_EDGES],
+    edges: &mut [Row; MAX_EDGES],
     m: &mut Machine,
     i: Instruction,
 ) -> Result<(), Refusal>
@@ -64,7 +65,7 @@ fn execute_on_references(
 fn execute_inner(
     locals: &mut [u32; LOCALS],
     names: &mut [u32; MAX_NAMES],
-    edges: &mut [[u32; EDGE_WORDS]; MAX_EDGES],
+    edges: &mut [Row; MAX_EDGES],
     m: &mut Machine,
     d: Decoded,
     returns: u8,
@@ -89,7 +90,7 @@ fn execute_inner(
 pub fn execute(
     locals: &mut [u32; LOCALS],
     names: &mut [u32; MAX_NAMES],
-    edges: &mut [[u32; EDGE_WORDS]; MAX_EDGES],
+    edges: &mut [Row; MAX_EDGES],
     m: &mut Machine,
     d: Decoded,
     returns: u8,
@@ -134,7 +135,7 @@ fn finish(
     b: Block,
     locals: &mut [u32; LOCALS],
     names: &mut [u32; MAX_NAMES],
-    edges: &mut [[u32; EDGE_WORDS]; MAX_EDGES],
+    edges: &mut [Row; MAX_EDGES],
     m: &Machine,
 ) -> Ran
     requires { (m.now.state.violation == 0 && m.now.state.refusal == 0) ≡ true }
@@ -165,13 +166,14 @@ pub fn run_block(
     b: Block,
     locals: &mut [u32; LOCALS],
     names: &mut [u32; MAX_NAMES],
-    edges: &mut [[u32; EDGE_WORDS]; MAX_EDGES],
+    edges: &mut [Row; MAX_EDGES],
     state: AbstractState,
 ) -> Ran
     ensures { Ends (block_of b) (words locals.old names.old edges.old state) (words locals.new names.new edges.new result.state) result.place.0 (Q.run_block (routine_of listing.now code.now routine) (block_of b) (state_in routine.locals (words locals.old names.old edges.old state))) }
 {
     let mut m = begin(state, routine.locals);
     let end = lesser(lesser(routine.code_count, MAX_INSTRUCTIONS), past(b));
+    // (By offset: an `enumerate` over the block's words would count from 0.)
     for k in b.entry.0 as usize..end {
         let place = CodeOffset(k as u16);
         m.at_offset(place);

@@ -32,12 +32,13 @@ use crate::machine::{Machine, push_new};
 use abstract_state::state::LOCALS;
 use file_format::{LocalIndex, SignatureToken};
 use listing::decode::Decoded;
-use meaning::{EDGE_WORDS, MAX_EDGES, MAX_NAMES, ROOM, lesser};
+use meaning::{MAX_EDGES, MAX_NAMES, ROOM, lesser};
+use references::rows::Row;
 use vm_status::Refusal;
 
 pub(crate) fn pop_top(
     names: &mut [u32; MAX_NAMES],
-    edges: &mut [[u32; EDGE_WORDS]; MAX_EDGES],
+    edges: &mut [Row; MAX_EDGES],
     m: &mut Machine,
 ) -> Result<(), Refusal>
     ensures { (ls : List ℕ) → Runs (step_on 0 Instr.Pop (held m.old.stack)) (words ls names.old edges.old m.old.state) result (board ls names.new edges.new m.new) }
@@ -50,7 +51,7 @@ pub(crate) fn pop_top(
 pub(crate) fn copy_loc(
     locals: &[u32; LOCALS],
     names: &mut [u32; MAX_NAMES],
-    edges: &mut [[u32; EDGE_WORDS]; MAX_EDGES],
+    edges: &mut [Row; MAX_EDGES],
     m: &mut Machine,
     local: LocalIndex,
 ) -> Result<(), Refusal>
@@ -63,7 +64,7 @@ pub(crate) fn copy_loc(
 pub(crate) fn move_loc(
     locals: &mut [u32; LOCALS],
     names: &[u32; MAX_NAMES],
-    edges: &[[u32; EDGE_WORDS]; MAX_EDGES],
+    edges: &[Row; MAX_EDGES],
     m: &mut Machine,
     local: LocalIndex,
 ) -> Result<(), Refusal>
@@ -76,7 +77,7 @@ pub(crate) fn move_loc(
 pub(crate) fn st_loc(
     locals: &mut [u32; LOCALS],
     names: &mut [u32; MAX_NAMES],
-    edges: &mut [[u32; EDGE_WORDS]; MAX_EDGES],
+    edges: &mut [Row; MAX_EDGES],
     m: &mut Machine,
     local: LocalIndex,
 ) -> Result<(), Refusal>
@@ -89,7 +90,7 @@ pub(crate) fn st_loc(
 
 pub(crate) fn freeze_ref(
     names: &mut [u32; MAX_NAMES],
-    edges: &mut [[u32; EDGE_WORDS]; MAX_EDGES],
+    edges: &mut [Row; MAX_EDGES],
     m: &mut Machine,
 ) -> Result<(), Refusal>
     ensures { (ls : List ℕ) → Runs (step_on 0 Instr.FreezeRef (held m.old.stack)) (words ls names.old edges.old m.old.state) result (board ls names.new edges.new m.new) }
@@ -101,7 +102,7 @@ pub(crate) fn freeze_ref(
 
 pub(crate) fn compare(
     names: &mut [u32; MAX_NAMES],
-    edges: &mut [[u32; EDGE_WORDS]; MAX_EDGES],
+    edges: &mut [Row; MAX_EDGES],
     m: &mut Machine,
 ) -> Result<(), Refusal>
     ensures { (ls : List ℕ) → Runs (step_on 0 Instr.Compare (held m.old.stack)) (words ls names.old edges.old m.old.state) result (board ls names.new edges.new m.new) }
@@ -114,7 +115,7 @@ pub(crate) fn compare(
 
 pub(crate) fn read_ref(
     names: &mut [u32; MAX_NAMES],
-    edges: &mut [[u32; EDGE_WORDS]; MAX_EDGES],
+    edges: &mut [Row; MAX_EDGES],
     m: &mut Machine,
 ) -> Result<(), Refusal>
     ensures { (ls : List ℕ) → Runs (step_on 0 Instr.ReadRef (held m.old.stack)) (words ls names.old edges.old m.old.state) result (board ls names.new edges.new m.new) }
@@ -126,7 +127,7 @@ pub(crate) fn read_ref(
 
 pub(crate) fn write_ref(
     names: &mut [u32; MAX_NAMES],
-    edges: &mut [[u32; EDGE_WORDS]; MAX_EDGES],
+    edges: &mut [Row; MAX_EDGES],
     m: &mut Machine,
 ) -> Result<(), Refusal>
     ensures { (ls : List ℕ) → Runs (step_on 0 Instr.WriteRef (held m.old.stack)) (words ls names.old edges.old m.old.state) result (board ls names.new edges.new m.new) }
@@ -139,7 +140,7 @@ pub(crate) fn write_ref(
 
 pub(crate) fn borrow_loc(
     names: &mut [u32; MAX_NAMES],
-    edges: &mut [[u32; EDGE_WORDS]; MAX_EDGES],
+    edges: &mut [Row; MAX_EDGES],
     m: &mut Machine,
     local: LocalIndex,
     mutable: bool,
@@ -152,7 +153,7 @@ pub(crate) fn borrow_loc(
 
 pub(crate) fn borrow_field(
     names: &mut [u32; MAX_NAMES],
-    edges: &mut [[u32; EDGE_WORDS]; MAX_EDGES],
+    edges: &mut [Row; MAX_EDGES],
     m: &mut Machine,
     field: u16,
     mutable: bool,
@@ -166,7 +167,7 @@ pub(crate) fn borrow_field(
 
 pub(crate) fn borrow_global(
     names: &mut [u32; MAX_NAMES],
-    edges: &mut [[u32; EDGE_WORDS]; MAX_EDGES],
+    edges: &mut [Row; MAX_EDGES],
     m: &mut Machine,
     resource: u16,
     mutable: bool,
@@ -180,7 +181,7 @@ pub(crate) fn borrow_global(
 
 pub(crate) fn move_from(
     names: &[u32; MAX_NAMES],
-    edges: &[[u32; EDGE_WORDS]; MAX_EDGES],
+    edges: &[Row; MAX_EDGES],
     m: &mut Machine,
     resource: u16,
 ) -> Result<(), Refusal>
@@ -193,7 +194,7 @@ pub(crate) fn move_from(
 
 pub(crate) fn call(
     names: &mut [u32; MAX_NAMES],
-    edges: &mut [[u32; EDGE_WORDS]; MAX_EDGES],
+    edges: &mut [Row; MAX_EDGES],
     m: &mut Machine,
     parameters: u8,
     d: Decoded,
@@ -216,7 +217,7 @@ pub(crate) fn call(
 pub(crate) fn ret(
     locals: &[u32; LOCALS],
     names: &mut [u32; MAX_NAMES],
-    edges: &mut [[u32; EDGE_WORDS]; MAX_EDGES],
+    edges: &mut [Row; MAX_EDGES],
     m: &mut Machine,
     returns: u8,
 ) -> Result<(), Refusal>
@@ -242,7 +243,7 @@ pub(crate) fn values(
 
 pub(crate) fn move_to(
     names: &mut [u32; MAX_NAMES],
-    edges: &mut [[u32; EDGE_WORDS]; MAX_EDGES],
+    edges: &mut [Row; MAX_EDGES],
     m: &mut Machine,
 ) -> Result<(), Refusal>
     ensures { (ls : List ℕ) → Runs (step_on 0 Instr.MoveTo (held m.old.stack)) (words ls names.old edges.old m.old.state) result (board ls names.new edges.new m.new) }
@@ -254,7 +255,7 @@ pub(crate) fn move_to(
 
 pub(crate) fn vector_op(
     names: &mut [u32; MAX_NAMES],
-    edges: &mut [[u32; EDGE_WORDS]; MAX_EDGES],
+    edges: &mut [Row; MAX_EDGES],
     m: &mut Machine,
     takes: u8,
     mutable: bool,
@@ -270,7 +271,7 @@ pub(crate) fn vector_op(
 
 pub(crate) fn borrow_element(
     names: &mut [u32; MAX_NAMES],
-    edges: &mut [[u32; EDGE_WORDS]; MAX_EDGES],
+    edges: &mut [Row; MAX_EDGES],
     m: &mut Machine,
     mutable: bool,
 ) -> Result<(), Refusal>

@@ -3,6 +3,8 @@ use Rattle.std.specs.Prelude.{Ok, Some, None}
 use lib.ListN.{length}
 use Rattle.meaning.proofs.Laws.Listing.{accepted_promised, accepted_block}
 use Rattle.meaning.proofs.Laws.Verify.{verify_short}
+use Rattle.std.proofs.Common.{arith, length-take}
+use Rattle.listing.specs.Models.{blocks_in}
 use Rattle.listing.specs.ModelLaws.{reading_is}
 use Rattle.absint.specs.Models.{ruling_of}
 use Rattle.absint.specs.WholeLaws as Law
@@ -30,9 +32,13 @@ analyze_function-t-requires c =
     )
 
 pub verdict_of-requires : goal.verdict_of-requires
-verdict_of-requires c = (rw c.in-Ok-Some.field-0-is at c.in-Ok-Some.ensures.counted).few
+verdict_of-requires c =
+    let few = (rw c.in-Ok-Some.field-0-is at c.in-Ok-Some.ensures.counted).few in
+    let q = c.in-Ok-Some.q in
+    omega (arith, few, length-take q.block_count q.blocks)
 
 pub returns-in-Ok-Some : goal.returns-in-Ok-Some
+unfolding blocks_in
 returns-in-Ok-Some c =
     let v = c.verdict_of in
     let f = c.analyze_function-t in

@@ -1,6 +1,7 @@
+use Rattle.std.proofs.Common.{length-take, get_or-take}
 use mathlib.Core.Path.{◌≡◌, refl, sym, ap, ◌∙◌}
 use mathlib.Core.List.{List, ◌∷◌, ◌++◌, map, append-nil}
-use Prim.Native.Nat.{◌+◌}
+use Prim.Native.Nat.{◌+◌, ◌<◌}
 use lib.ListN.{take, drop, get_or, length-set}
 use Rattle.meaning.proofs.Laws.Array.{push_map}
 use Rattle.meaning.specs.BorrowGraph.{Change}
@@ -18,30 +19,34 @@ use Rattle.abstract_state_join.proofs.canonical.id_map.Goals.{in_default-via-in-
 
 pub loop-i-preserved : goal.loop-i-preserved
 loop-i-preserved c =
-    let count = c.count-i-end in
+    let count = c.count in
     let a = c.args in
     let l = c.loop-i in
+    let here : l.i < count.result = omega (arith, length-take count.result a.locals.now, c.loop-i-test.true) in
+    let front = get_or-take count.result a.locals.now l.i 0 here in
     let xs = drop (l.i + 1) (locals_in a.locals.now a.n) in (
       omega arith,
       simp length-set l.invariant.1,
       λ h. push_map change_of l.list l.len (l.len + 1) _ (renames (l.i + 1) xs) refl (omega arith)
           ∙ ap (λ (ms : List Change). map change_of (take l.len l.list) ++ ms)
-          (sym (rw (local_next a.locals.now a.n count.result h count.ensures l.i (omega arith), ← c.local_of.ensures, c.in-Some-Reference.is, c.in-Some-Reference.field-0-is) (renames_ref l.i c.in-Some-Reference.held.0 xs)))
+          (sym (rw (local_next a.locals.now a.n count.result h count.ensures l.i here, ← front, ← c.local_of.ensures, c.in-Some-Reference.is, c.in-Some-Reference.field-0-is) (renames_ref l.i c.in-Some-Reference.held.0 xs)))
           ∙ l.invariant.2 h,
     )
 
 pub loop-i-preserved-in_default : goal.loop-i-preserved-in_default
 loop-i-preserved-in_default c =
-    let count = c.count-i-end in
+    let count = c.count in
     let a = c.args in
     let l = c.loop-i in
+    let here : l.i < count.result = omega (arith, length-take count.result a.locals.now, c.loop-i-test.true) in
+    let front = get_or-take count.result a.locals.now l.i 0 here in
     let xs = drop (l.i + 1) (locals_in a.locals.now a.n) in
     let e : renames l.i (local_in (get_or a.locals.now l.i 0) ∷ xs) ≡ renames (l.i + 1) xs =
     elim c.in_default.branch [
       | in_default-via-in-Some+in_default w ↦
           let z : w.in_default.field-0 ≡ NonReference = search rules in
-          rw (← c.local_of.ensures, w.in_default.is, z) (renames_value l.i xs)
-      | in_default-via-in_default w ↦ rw (← c.local_of.ensures, w.in_default.is) (renames_absent l.i xs)
+          rw (← front, ← c.local_of.ensures, w.in_default.is, z) (renames_value l.i xs)
+      | in_default-via-in_default w ↦ rw (← front, ← c.local_of.ensures, w.in_default.is) (renames_absent l.i xs)
     ] in (
       omega arith,
       l.invariant.1,
@@ -55,4 +60,4 @@ unfolding map_of
 returns c =
     let a = c.args in
     let l = c.loop-i in
-    λ h. sym (append-nil _) ∙ ap (λ (ms : List Change). map change_of (take l.len l.list) ++ ms) (sym (ap (renames l.i) (locals_end a.locals.now a.n c.count-i-end.result h c.count-i-end.ensures l.i (omega arith)) ∙ renames_end l.i)) ∙ l.invariant.2 h
+    λ h. sym (append-nil _) ∙ ap (λ (ms : List Change). map change_of (take l.len l.list) ++ ms) (sym (ap (renames l.i) (locals_end a.locals.now a.n c.count.result h c.count.ensures l.i (omega (arith, length-take c.count.result a.locals.now, c.loop-i-test.false))) ∙ renames_end l.i)) ∙ l.invariant.2 h
