@@ -11,7 +11,7 @@ from pathlib import Path
 
 ROOT = Path(__file__).resolve().parent.parent
 TOKEN = re.compile(r'[^\s(){}.;,@"«»]+')
-USE = re.compile(r"^(?:ghost )?(?:pub )?use Rattle\.(\w+?)\.((?:specs|proofs)\.[\w.]+?)(?:\.\{([^}]*)\})?(?: as (\S+?))?;?$")
+USE = re.compile(r"^\s*(?:ghost )?(?:pub )?use Rattle\.(\w+?)\.((?:specs|proofs)\.[\w.]+?)(?:\.\{([^}]*)\})?(?: as (\S+?))?;?$")
 DECLARATION = re.compile(r"^\s*(?:unfoldable |abbrev |pub )*(?:(?:data|record) )?(\S+)(?: \{[^}]*\})?(?: [({].*)? :(?: |$)")
 THEOREMS = [("meaning", "proofs.Theorems"), ("meaning", "proofs.Marked")]
 

@@ -50,7 +50,10 @@ fn put_refs(ws: &mut [u32], at: usize, names: &[u32; MAX_NAMES], n: usize)
     requires { (at + max_names ≤ length ws.old) × (n ≤ max_names) }
     ensures { Written (IsName (name_at names.now)) at max_names n ws.old ws.new }
 {
-    ws[at..at + n].copy_from_slice(&names[..n]);
+    // (By index: for `copy_from_slice` with a length that is not known the archive for C needs memmove, and nothing else in it does.)
+    for i in 0..n {
+        ws[at + i] = names[i];
+    }
 }
 
 fn put_row(ws: &mut [u32], at: usize, x: &Row)

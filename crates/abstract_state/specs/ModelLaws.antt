@@ -12,11 +12,6 @@ use Rattle.meaning.specs.AbstractState.{Operand, non_ref, reference}
 use Rattle.meaning.specs.Area.{local_as, local_in}
 use Rattle.meaning.specs.EntryPoints as R
 use Rattle.meaning.specs.EntryPoints.{Running, Answer, count_on, on_graph, needs_name, new_ref}
-use Rattle.vm_status.specs.Models.{code_of, number_of}
-use Rattle.vm_status.specs.declared.StatusCode.{StatusCode}
-use Rattle.vm_status.specs.declared.Refusal.{Refusal}
-use Rattle.vm_status.specs.declared.Refusal.TheVariants.{Short, UnknownKind, BadBody, MisplacedFunction, BadBlocks, PastLimit, SmallArea, NameHeld, IllFormed, EmptyStack, WrongOperand, AbsentLocal, Immutable, OperandsLeft, UnlikeLocals, NamesClash, FullStack, ManyEdges, LongPath, ManyNames, LateBlock}
-use Rattle.vm_status.specs.declared.StatusCode.TheVariants.{CopyLocExistsBorrow, MoveLocExistsBorrow, StLocUnsafeToDestroy, FreezeRefExistsMutableBorrow, ReadRefExistsMutableBorrow, WriteRefExistsBorrow, BorrowLocExistsBorrow, BorrowFieldExistsMutableBorrow, GlobalReference, VecUpdateExistsMutableBorrow, VecBorrowElementExistsMutableBorrow, CallBorrowedMutableReference, UnsafeRet, RetBorrowedMutableReference}
 use Rattle.abstract_state.specs.Models.{Words, words, Fits, Does, Gives, running_of, outcome_of, halted, heeding, failing, locals_in}
 use Rattle.abstract_state.specs.declared.state.AbstractState.{AbstractState}
 
@@ -113,64 +108,44 @@ pub does_here : (f : Running → Outcome Running) (ls ns : List ℕ) (es : List 
     → outcome_of (words ls ns es t) ≡ then (outcome_of (words ls ns es s)) f → Does f (words ls ns es s) (words ls ns es t)
 does_here f ls ns es s t g e = record { fits = λ h. record { locals = h.locals; tells = rw g h.tells }; does = λ h. e }
 
--- a state that goes on is refused, or gets a violation
+-- a state that goes on gets a number more
 module _ {A : Type 0} (k v o n : ℕ) (a : A) (e : (v == 0 && n == 0) ≡ true) where
   pub going : halted k v o n a ≡ done a
   going = then_done (halted k v o n a) ∙ sym (goes k v o n a done e)
 
-  pub refused_by : (m : ℕ) → (m == 0) ≡ false → halted k v o m a ≡ then (halted k v o n a) (λ s. refused m)
-  refused_by m z = go (v == 0) (n == 0) (m == 0) e z ∙ goes k v o n a (λ s. refused m) e
+  pub new_violation : (c w : ℕ) → halted k c w n a ≡ halted k c w 0 a
+  new_violation c w = go (v == 0) (n == 0) e
     where
-      go : (x y w : Bool) → (x && y) ≡ true → w ≡ false → cond x (cond w (done a) (refused m)) (violated k v o) ≡ refused m
-      go true y true e z = absurd (true≢false z)
-      go true y false e z = refl
-      go false y w e z = absurd (true≢false (sym e))
+      go : (x y : Bool) → (x && y) ≡ true → cond (c == 0) (cond y (done a) (refused n)) (violated k c w) ≡ halted k c w 0 a
+      go true true e = refl
+      go true false e = absurd (true≢false (sym e))
+      go false y e = absurd (true≢false (sym e))
 
-pub violated_by : (v o n : ℕ) (a : Running) (e : (v == 0 && n == 0) ≡ true) (c w : ℕ) → (c == 0) ≡ false → halted a.blurs c w n a ≡ then (halted a.blurs v o n a) (λ s. violated s.blurs c w)
-violated_by v o n a e c w z = rw z (goes a.blurs v o n a (λ s. violated s.blurs c w) e)
+  -- (it has no violation, so that the sets blurred and the borrow are not asked for)
+  pub new_refusal : (j m : ℕ) → halted k v o m a ≡ halted j 0 0 m a
+  new_refusal j m = go (v == 0) e
+    where
+      go : (x : Bool) → (x && n == 0) ≡ true → cond x (cond (m == 0) (done a) (refused m)) (violated k v o) ≡ halted j 0 0 m a
+      go true e = refl
+      go false e = absurd (true≢false (sym e))
+
+  -- refused by a number of its own
+  pub stopped_by : (m : ℕ) → halted k v o m a ≡ then (halted k v o n a) (λ s. halted 0 0 0 m s)
+  stopped_by m = new_refusal 0 m ∙ goes k v o n a (λ s. halted 0 0 0 m s) e
+
+-- a number that is not 0 refuses
+pub halted_known : {A : Type 0} (m : ℕ) (a : A) → (m == 0) ≡ false → halted 0 0 0 m a ≡ refused m
+halted_known m a z = rw z refl
 
 -- ---- questions
 
--- each code is a violation's
-pub code_known : (s : StatusCode) → (code_of s == 0) ≡ false
-code_known CopyLocExistsBorrow = refl
-code_known MoveLocExistsBorrow = refl
-code_known StLocUnsafeToDestroy = refl
-code_known FreezeRefExistsMutableBorrow = refl
-code_known ReadRefExistsMutableBorrow = refl
-code_known WriteRefExistsBorrow = refl
-code_known BorrowLocExistsBorrow = refl
-code_known BorrowFieldExistsMutableBorrow = refl
-code_known GlobalReference = refl
-code_known VecUpdateExistsMutableBorrow = refl
-code_known VecBorrowElementExistsMutableBorrow = refl
-code_known CallBorrowedMutableReference = refl
-code_known UnsafeRet = refl
-code_known RetBorrowedMutableReference = refl
-
--- and each number is a refusal's
-pub number_known : (r : Refusal) → (number_of r == 0) ≡ false
-number_known Short = refl
-number_known UnknownKind = refl
-number_known BadBody = refl
-number_known MisplacedFunction = refl
-number_known BadBlocks = refl
-number_known PastLimit = refl
-number_known SmallArea = refl
-number_known NameHeld = refl
-number_known IllFormed = refl
-number_known EmptyStack = refl
-number_known WrongOperand = refl
-number_known AbsentLocal = refl
-number_known Immutable = refl
-number_known OperandsLeft = refl
-number_known UnlikeLocals = refl
-number_known NamesClash = refl
-number_known FullStack = refl
-number_known ManyEdges = refl
-number_known LongPath = refl
-number_known ManyNames = refl
-number_known LateBlock = refl
+-- there is no edge of the kind
+pub none_fails : (c : ℕ) (s : Running) → done s ≡ failing (ok none) c s
+none_fails c s = go (c == 0)
+  where
+    go : (x : Bool) → done s ≡ cond x (done s) (done s)
+    go true = refl
+    go false = refl
 
 -- an answer made of another one
 pub asked_map : {A B : Type 0} (g : Graph) (n : ℕ) (f : A → B) (t : Ans A) (a : A) → t ≡ L.of_name g n a → and_then t (λ x. ok (f x)) ≡ L.of_name g n (f a)
@@ -295,12 +270,13 @@ heed_at g n b r k = go (well_formed g && held g n)
     go false = refl
 
 -- a test on edges, whose lowest is l
-pub fail_at : {A : Type 0} (g : Graph) (n : ℕ) (l : Option ℕ) (r : Running) (k : Running → Outcome A) (c : ℕ) → then (failing (L.of_name g n l) c r) k ≡ needs_name g n (fails_at r.blurs l c (k r))
-fail_at {A} g n l r k c = go (well_formed g && held g n) l
+pub fail_at : {A : Type 0} (g : Graph) (n : ℕ) (l : Option ℕ) (r : Running) (k : Running → Outcome A) (c : ℕ) → (c == 0) ≡ false
+    → then (failing (L.of_name g n l) c r) k ≡ needs_name g n (fails_at r.blurs l c (k r))
+fail_at {A} g n l r k c z = go (well_formed g && held g n) l
   where
     go : (x : Bool) (m : Option ℕ) → then (failing (guard x 9 (ok m)) c r) k ≡ needs x 9 (fails_at r.blurs m c (k r))
-    go true none = refl
-    go true (some o) = refl
+    go true none = rw z refl
+    go true (some o) = rw z refl
     go false m = refl
 
 pub known_then : {A B : Type 0} (g : Graph) (n : ℕ) (k : Outcome A) (f : A → Outcome B) → then (needs_name g n k) f ≡ needs_name g n (then k f)

@@ -5,7 +5,7 @@ use Rattle.std.specs.Prelude.{Some, None}
 use Rattle.std.proofs.Math.Option.{Option}
 use Rattle.meaning.specs.Limits.{max_locals, u16_end}
 use Rattle.meaning.specs.Area.{local_in}
-use Rattle.meaning.specs.Answers.{Ans, Outcome, done, violated, refused, then, lift, needs, fails_at}
+use Rattle.meaning.specs.Answers.{Ans, Outcome, done, violated, refused, then, lift, fails_at}
 use Rattle.meaning.specs.AbstractState as S
 use Rattle.meaning.specs.AbstractState.{State, Operand, non_ref, reference}
 use Rattle.meaning.specs.EntryPoints as R
@@ -85,11 +85,12 @@ answer_of a = stopped a.state (record { state = running_of a; operand = operand_
 abbrev pub heeding : Ans Bool → Running → Outcome Running
 heeding t s = then (lift t) (λ b. done s)
 
+-- (a code 0 is no violation)
 abbrev pub failing : Ans (Option ℕ) → ℕ → Running → Outcome Running
-failing t c s = then (lift t) (λ o. fails_at s.blurs o c (done s))
+failing t c s = then (lift t) (λ o. cond (c == 0) (done s) (fails_at s.blurs o c (done s)))
 
 abbrev pub needing : Ans Bool → ℕ → Running → Outcome Running
-needing t n s = then (lift t) (λ b. needs b n (done s))
+needing t n s = then (lift t) (λ b. halted 0 0 0 (cond b 0 n) s)
 
 -- From a to b the state does f. Of words that fit no state nothing is said.
 pub record Does (f : Running → Outcome Running) (a b : Words) : Type 0 where

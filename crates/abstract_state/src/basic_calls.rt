@@ -15,12 +15,11 @@
 //   give, refuse, pass_refusal, require_yes    what the Rust's answers and panics become
 ghost use Rattle.std.specs.Prelude.{◌≡◌, ℕ, List, if◌then◌else◌, nat_lt, slice_index_or};
 ghost use Rattle.meaning.specs.AbstractState as S;
-ghost use Rattle.meaning.specs.Answers.{Ans, done, violated, refused};
+ghost use Rattle.meaning.specs.Answers.{Ans, done};
 ghost use Rattle.meaning.specs.BorrowGraph as L;
 ghost use Rattle.meaning.specs.EntryPoints.{answer, with_local, count_on, on_graph, new_ref, add_copy, add_borrow, add_field_borrow, add_local_borrow, add_resource_borrow, release_name};
 ghost use Rattle.borrow_graph.specs.Models as G;
 ghost use Rattle.borrow_graph_edit.specs.Models.{Blurs};
-ghost use Rattle.vm_status.specs.Models.{code_of, number_of};
 ghost use Rattle.abstract_state.specs.Models.{operand_of, local_of, locals_in, words, Fits, Does, Gives, halted, heeding, failing, needing};
 
 use crate::state::{AbstractState, AbstractValue, LOCALS};
@@ -32,7 +31,7 @@ use meaning::{MAX_EDGES, MAX_LOCALS, MAX_NAMES};
 use paths::Label;
 use references::RefID;
 use references::rows::Row;
-use vm_status::{Refusal, StatusCode};
+use vm_status::{Numbered, Refusal, Refuses};
 
 // A name is below this.
 const NAME_END: u32 = 65536;
@@ -59,31 +58,32 @@ pub fn give(state: AbstractState, value: AbstractValue) -> AbstractState
     AbstractState { value, ..state }
 }
 
-pub fn refuse(state: AbstractState, r: Refusal) -> AbstractState
-    ensures { (ls ns : List ℕ) (es : List (List ℕ)) → Does (λ s. refused (number_of r)) (words ls ns es state) (words ls ns es result) }
+// A number 0 refuses nothing.
+pub fn refuse<N: Numbered>(state: AbstractState, r: N) -> AbstractState
+    ensures { (ls ns : List ℕ) (es : List (List ℕ)) → Does (λ s. halted 0 0 0 (N.number_is r) s) (words ls ns es state) (words ls ns es result) }
 {
     let mut s = state;
-    if (state.violation == 0) & (state.refusal == 0) {
-        s.refusal = u8::from(r);
+    if (s.violation == 0) & (s.refusal == 0) {
+        s.refusal = r.number();
     }
     s
 }
 
-// What stands in the way was borrowed at this offset.
-fn violate(state: AbstractState, code: StatusCode, at: CodeOffset) -> AbstractState
-    ensures { (ls ns : List ℕ) (es : List (List ℕ)) → Does (λ s. violated s.blurs (code_of code) at.0) (words ls ns es state) (words ls ns es result) }
+// What stands in the way was borrowed at this offset. A code 0 is no violation.
+fn violate<C: Numbered>(state: AbstractState, code: C, at: CodeOffset) -> AbstractState
+    ensures { (ls ns : List ℕ) (es : List (List ℕ)) → Does (λ s. halted s.blurs (C.number_is code) at.0 0 s) (words ls ns es state) (words ls ns es result) }
 {
     let mut s = state;
     if (state.violation == 0) & (state.refusal == 0) {
-        s.violation = u8::from(code);
+        s.violation = code.number();
         s.borrowed_at = at;
     }
     s
 }
 
 // Refused, where the question was.
-pub fn pass_refusal(state: AbstractState, t: Result<bool, Refusal>) -> AbstractState
-    ensures { (ls ns : List ℕ) (es : List (List ℕ)) → Does (heeding (G.told_of t)) (words ls ns es state) (words ls ns es result) }
+pub fn pass_refusal<E: Refuses>(state: AbstractState, t: Result<bool, E>) -> AbstractState
+    ensures { (ls ns : List ℕ) (es : List (List ℕ)) → Does (heeding (G.told_by E.number_is t)) (words ls ns es state) (words ls ns es result) }
 {
     match t {
         Ok(_) => state,
@@ -92,8 +92,12 @@ pub fn pass_refusal(state: AbstractState, t: Result<bool, Refusal>) -> AbstractS
 }
 
 // Refused, where the question was or its answer is no.
-pub fn require_yes(state: AbstractState, t: Result<bool, Refusal>, r: Refusal) -> AbstractState
-    ensures { (ls ns : List ℕ) (es : List (List ℕ)) → Does (needing (G.told_of t) (number_of r)) (words ls ns es state) (words ls ns es result) }
+pub fn require_yes<E: Refuses, N: Numbered>(
+    state: AbstractState,
+    t: Result<bool, E>,
+    r: N,
+) -> AbstractState
+    ensures { (ls ns : List ℕ) (es : List (List ℕ)) → Does (needing (G.told_by E.number_is t) (N.number_is r)) (words ls ns es state) (words ls ns es result) }
 {
     match t {
         Ok(true) => state,
@@ -103,12 +107,12 @@ pub fn require_yes(state: AbstractState, t: Result<bool, Refusal>, r: Refusal) -
 }
 
 // Refused where the question was; violated where there is an edge of the kind that it asked for.
-pub fn violate_if(
+pub fn violate_if<E: Refuses, C: Numbered>(
     state: AbstractState,
-    t: Result<Option<CodeOffset>, Refusal>,
-    code: StatusCode,
+    t: Result<Option<CodeOffset>, E>,
+    code: C,
 ) -> AbstractState
-    ensures { (ls ns : List ℕ) (es : List (List ℕ)) → Does (failing (G.low_of t) (code_of code)) (words ls ns es state) (words ls ns es result) }
+    ensures { (ls ns : List ℕ) (es : List (List ℕ)) → Does (failing (G.low_by E.number_is t) (C.number_is code)) (words ls ns es state) (words ls ns es result) }
 {
     match t {
         Ok(None) => state,

@@ -20,7 +20,7 @@ ghost use Rattle.meaning.specs.BorrowGraph.{of_name, is_mutable, borrows_fully, 
 ghost use Rattle.meaning.specs.EntryPoints.{bars_reading};
 ghost use Rattle.references.specs.Models.{filter_of};
 ghost use Rattle.meaning.specs.Answers.{ok, and_then};
-ghost use Rattle.borrow_graph.specs.Models.{graph_in, told_of, low_of};
+ghost use Rattle.borrow_graph.specs.Models.{graph_in, told_of, low_by, low_of};
 ghost use Rattle.abstract_state.specs.Models.{words, Fits};
 
 use crate::basic_calls::frame_root;
@@ -31,7 +31,7 @@ use meaning::{MAX_EDGES, MAX_NAMES};
 use paths::Label;
 use references::RefID;
 use references::rows::Row;
-use vm_status::Refusal;
+use vm_status::{Numbered, Refusal};
 
 pub fn is_mutable(
     names: &[u32; MAX_NAMES],
@@ -44,11 +44,11 @@ pub fn is_mutable(
 }
 
 // The answer where it counts; else that there is no such edge.
-pub fn only_if(
+pub fn only_if<E: Numbered>(
     counts: bool,
-    t: Result<Option<CodeOffset>, Refusal>,
-) -> Result<Option<CodeOffset>, Refusal>
-    ensures { low_of result ≡ and_then (low_of t) (λ l. ok (if counts then l else none)) }
+    t: Result<Option<CodeOffset>, E>,
+) -> Result<Option<CodeOffset>, E>
+    ensures { low_by E.number_is result ≡ and_then (low_by E.number_is t) (λ l. ok (if counts then l else none)) }
 {
     let o = t?;
     Ok(if counts { o } else { None })

@@ -31,7 +31,7 @@ use Rattle.abstract_state_calls.specs.LoopLaws.{heeding_at, failing_at}
 
 pub acquire_one : (i : ℕ) (r : Running) → failing (L.of_name r.graph r.root (lowest_of (borrows r.root (some (global_label i))) r.graph.edges)) GLOBAL_REFERENCE r ≡ acquiring (i ∷ []) r
 unfolding not_acquired
-acquire_one i r = failing_at r.graph r.root r (lowest_of (borrows r.root (some (global_label i))) r.graph.edges) GLOBAL_REFERENCE
+acquire_one i r = failing_at r.graph r.root r (lowest_of (borrows r.root (some (global_label i))) r.graph.edges) GLOBAL_REFERENCE refl
 
 pub acquire_none : (b : Bool) (r : Running) → heeding (L.of_name r.graph r.root b) r ≡ acquiring [] r
 unfolding not_acquired

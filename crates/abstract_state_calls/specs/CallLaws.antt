@@ -1,5 +1,5 @@
 -- Call and Ret as the code makes them.
-use Rattle.std.specs.Prelude.{◌≡◌, ℕ, ◌+◌, Bool, true, false, cond, ◌&&◌, List, [], ◌∷◌, ◌++◌, drop, nat_lt}
+use Rattle.std.specs.Prelude.{◌≡◌, ℕ, ◌+◌, Bool, true, false, cond, ◌&&◌, List, [], ◌∷◌, ◌++◌, drop, ◌==◌, nat_lt}
 use Rattle.std.proofs.Math.Path.{refl, sym, ap}
 use Rattle.std.proofs.Common.{◌∙◌, append_assoc, append-nil}
 use Rattle.std.proofs.Math.Option.{Option, none, some}
@@ -30,9 +30,9 @@ unfolding hand_over
 hand_step c non_ref vs r = refl
 hand_step c (reference n) vs r = sym (known_fails_then r.graph n r.blurs (lowest_of (bars_handing_over r.graph n) r.graph.edges) c (done r) (handing c vs))
 
-pub hand_one : (n c : ℕ) (r : Running) → failing (L.of_name r.graph n (lowest_of (bars_handing_over r.graph n) r.graph.edges)) c r ≡ handing c (reference n ∷ []) r
+pub hand_one : (n c : ℕ) (r : Running) → (c == 0) ≡ false → failing (L.of_name r.graph n (lowest_of (bars_handing_over r.graph n) r.graph.edges)) c r ≡ handing c (reference n ∷ []) r
 unfolding hand_over
-hand_one n c r = failing_at r.graph n r (lowest_of (bars_handing_over r.graph n) r.graph.edges) c
+hand_one n c r z = failing_at r.graph n r (lowest_of (bars_handing_over r.graph n) r.graph.edges) c z
 
 -- ---- what comes after
 

@@ -1,5 +1,5 @@
 -- Calls in a row, each on the state that the last one left.
-use Rattle.std.specs.Prelude.{◌≡◌, ℕ, ◌+◌, Bool, List, [], ◌∷◌, drop}
+use Rattle.std.specs.Prelude.{◌≡◌, ℕ, ◌+◌, Bool, false, List, [], ◌∷◌, drop, ◌==◌}
 use Rattle.std.specs.Prelude.{refl}
 use Rattle.std.proofs.Common.{sym, ap, ◌∙◌}
 use Rattle.std.proofs.Math.Option.{Option}
@@ -16,8 +16,8 @@ module _ (g : Graph) (n : ℕ) (r : Running) where
   pub heeding_at : (b : Bool) → heeding (L.of_name g n b) r ≡ needs_name g n (done r)
   heeding_at b = then_done (heeding (L.of_name g n b) r) ∙ heed_at g n b r done
 
-  pub failing_at : (l : Option ℕ) (c : ℕ) → failing (L.of_name g n l) c r ≡ needs_name g n (fails_at r.blurs l c (done r))
-  failing_at l c = then_done (failing (L.of_name g n l) c r) ∙ fail_at g n l r done c
+  pub failing_at : (l : Option ℕ) (c : ℕ) → (c == 0) ≡ false → failing (L.of_name g n l) c r ≡ needs_name g n (fails_at r.blurs l c (done r))
+  failing_at l c z = then_done (failing (L.of_name g n l) c r) ∙ fail_at g n l r done c z
 
 pub known_fails_then : {A B : Type 0} (g : Graph) (n j : ℕ) (l : Option ℕ) (c : ℕ) (o : Outcome A) (k : A → Outcome B) → then (needs_name g n (fails_at j l c o)) k ≡ needs_name g n (fails_at j l c (then o k))
 known_fails_then {A} {B} g n j l c o k = known_then g n (fails_at j l c o) k ∙ ap (λ (x : Outcome B). needs_name g n x) (fails_then j l c o k)

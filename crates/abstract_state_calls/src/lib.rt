@@ -15,6 +15,7 @@ mod ids;
 
 ghost use Rattle.std.specs.Prelude.{◌≡◌, ℕ, List, [], ◌∷◌, map, take};
 ghost use Rattle.meaning.specs.Limits.{max_operands};
+ghost use Rattle.meaning.specs.Listing.{token_as};
 ghost use Rattle.meaning.specs.EntryPoints as R;
 ghost use Rattle.meaning.specs.Answers.{then};
 ghost use Rattle.meaning.specs.AbstractState.{of_ref};
@@ -47,16 +48,16 @@ pub struct Called {
     pub values: Operands,
 }
 
-// The acquired numbers come in any order, with repeats. Only 16 tokens are read.
+// The acquired numbers come in any order, with repeats; a token is 0 a value, 2 a mutable reference, else a reference. Only 16 tokens are read.
 pub fn call(
     names: &mut [u32; MAX_NAMES],
     edges: &mut [Row; MAX_EDGES],
     state: AbstractState,
     arguments: Operands,
     acquired: &[u16],
-    tokens: &[SignatureToken],
+    tokens: &[u8],
 ) -> Called
-    ensures { (ls : List ℕ) → (Fits (words ls names.old edges.old state) → Fits (words ls names.new edges.new result.state)) × (Fits (words ls names.old edges.old state) → answers_of (words ls names.new edges.new result.state) (operands_of result.values) ≡ then (outcome_of (words ls names.old edges.old state)) (R.call (operands_of arguments) acquired.now (map token_of (take max_operands tokens.now)))) }
+    ensures { (ls : List ℕ) → (Fits (words ls names.old edges.old state) → Fits (words ls names.new edges.new result.state)) × (Fits (words ls names.old edges.old state) → answers_of (words ls names.new edges.new result.state) (operands_of result.values) ≡ then (outcome_of (words ls names.old edges.old state)) (R.call (operands_of arguments) acquired.now (map token_as (take max_operands tokens.now)))) }
 {
     let all = operand_ids(&arguments);
     let mutable = all.mutable(names, state);
@@ -257,17 +258,17 @@ fn return_values(
     names: &mut [u32; MAX_NAMES],
     edges: &mut [Row; MAX_EDGES],
     state: AbstractState,
-    tokens: &[SignatureToken],
+    tokens: &[u8],
     mutable: &Ids,
     all: &Ids,
 ) -> Called
-    ensures { (ls : List ℕ) → Calls (return_values (map token_of (take max_operands tokens.now)) (ids_of mutable.now) (ids_of all.now)) (words ls names.old edges.old state) (words ls names.new edges.new result.state) (operands_of result.values) }
+    ensures { (ls : List ℕ) → Calls (return_values (map token_as (take max_operands tokens.now)) (ids_of mutable.now) (ids_of all.now)) (words ls names.old edges.old state) (words ls names.new edges.new result.state) (operands_of result.values) }
 {
     let n = lesser(MAX_OPERANDS, tokens.len());
     let mut list = [0u32; MAX_OPERANDS];
     let mut s = state;
     for (i, token) in tokens[..n].iter().enumerate() {
-        s = return_value(names, edges, s, *token, mutable, all);
+        s = return_value(names, edges, s, SignatureToken::from(*token), mutable, all);
         list[i] = value_word(s.value);
     }
     let values = Operands { list, len: n };

@@ -9,6 +9,7 @@ use Rattle.meaning.specs.BorrowGraph.{Name, Graph, well_formed}
 use Rattle.meaning.specs.AbstractState as S
 use Rattle.meaning.specs.AbstractState.{Token, of_value, of_ref, first_locals, first_names, first_state}
 use Rattle.meaning.specs.EntryPoints.{Running}
+use Rattle.meaning.specs.Listing.{token_as}
 use denote.Enum.Bare.{sameb}
 use Rattle.file_format.specs.contracts.SignatureToken.{the_type}
 use Rattle.file_format.specs.declared.SignatureToken.{SignatureToken}
@@ -20,19 +21,19 @@ use Rattle.abstract_state_join.specs.Models.{first_at, first_running}
 -- ---- tokens
 
 -- the token at an index, and those behind it
-token_step : (ps : List SignatureToken) (i : ℕ) → i < length ps → drop i (map token_of ps) ≡ token_of (get_or ps i Value) ∷ drop (i + 1) (map token_of ps)
-token_step ps i h =
-    let k : i < length (map token_of ps) = simp length-map h in
-    rw add-one (drop-cons (map token_of ps) i of_value k ∙ ap (λ (u : Token). u ∷ drop (suc i) (map token_of ps)) (get_or-map token_of ps i Value of_value h))
+token_step : (ps : List ℕ) (i : ℕ) (t : SignatureToken) → i < length ps → token_of t ≡ token_as (get_or ps i 0) → drop i (map token_as ps) ≡ token_of t ∷ drop (i + 1) (map token_as ps)
+token_step ps i t h e =
+    let k : i < length (map token_as ps) = simp length-map h in
+    rw (add-one, e) (drop-cons (map token_as ps) i of_value k ∙ ap (λ (u : Token). u ∷ drop (suc i) (map token_as ps)) (get_or-map token_as ps i 0 of_value h))
 
 -- the same, where the loop goes over the first m
-pub taken_step : (m : ℕ) (ps : List SignatureToken) (i : ℕ) → i < length (take m ps) → drop i (map token_of ps) ≡ token_of (get_or (take m ps) i Value) ∷ drop (i + 1) (map token_of ps)
-taken_step m ps i h =
+pub taken_step : (m : ℕ) (ps : List ℕ) (i : ℕ) (t : SignatureToken) → i < length (take m ps) → token_of t ≡ token_as (get_or (take m ps) i 0) → drop i (map token_as ps) ≡ token_of t ∷ drop (i + 1) (map token_as ps)
+taken_step m ps i t h e =
     let k : i < min m (length ps) = simp length-take at h in
-    rw (get_or-take m ps i Value (omega arith)) (token_step ps i (omega arith))
+    token_step ps i t (omega arith) (e ∙ ap token_as (get_or-take m ps i 0 (omega arith)))
 
-token_end : (ps : List SignatureToken) (i : ℕ) → length ps ≤ i → drop i (map token_of ps) ≡ []
-token_end ps i h = let k : length (map token_of ps) ≤ i = simp length-map h in drop_of_length-le (map token_of ps) k
+token_end : (ps : List ℕ) (i : ℕ) → length ps ≤ i → drop i (map token_as ps) ≡ []
+token_end ps i h = let k : length (map token_as ps) ≤ i = simp length-map h in drop_of_length-le (map token_as ps) k
 
 abbrev pub tail : {A : Type 0} → List A → List A
 tail [] = []
@@ -47,16 +48,16 @@ drop_tail (suc i) (x ∷ xs) = drop_tail i xs
 -- ---- locals
 
 -- a parameter's local: a value's, a reference's
-pub at_value : (ps : List SignatureToken) (i : ℕ) → i < length ps → Value ≡ get_or ps i Value → S.Local.value ≡ first_at i (drop i (map token_of ps))
-at_value ps i h e = rw (token_step ps i h, ← e)
+pub at_value : (ps : List ℕ) (i : ℕ) (t : SignatureToken) → i < length ps → token_of t ≡ token_as (get_or ps i 0) → t ≡ Value → S.Local.value ≡ first_at i (drop i (map token_as ps))
+at_value ps i t h e q = rw (token_step ps i t h e, q)
 
 at_token : (i : ℕ) (t : SignatureToken) (ts : List Token) → (t ≡ Value → ⊥) → S.Local.ref i ≡ first_at i (token_of t ∷ ts)
 at_token i Value ts other = absurd (other refl)
 at_token i Reference ts other = refl
 at_token i MutableReference ts other = refl
 
-pub at_reference : (ps : List SignatureToken) (i : ℕ) (t : SignatureToken) → i < length ps → t ≡ get_or ps i Value → (t ≡ Value → ⊥) → S.Local.ref i ≡ first_at i (drop i (map token_of ps))
-at_reference ps i t h e other = rw (token_step ps i h, ← e) (at_token i t _ other)
+pub at_reference : (ps : List ℕ) (i : ℕ) (t : SignatureToken) → i < length ps → token_of t ≡ token_as (get_or ps i 0) → (t ≡ Value → ⊥) → S.Local.ref i ≡ first_at i (drop i (map token_as ps))
+at_reference ps i t h e other = rw (token_step ps i t h e) (at_token i t _ other)
 
 local_next : (i n : ℕ) (ts : List Token) → first_locals i (suc n) ts ≡ first_at i ts ∷ first_locals (suc i) n (tail ts)
 unfolding first_locals
@@ -110,10 +111,10 @@ unfolding first_names
 root_only i zero = let e : i ≡ i + 0 = omega arith in ap (λ (k : ℕ). record { id = k; mutable = true } ∷ []) e
 root_only i (suc n) = let e : suc i + n ≡ i + suc n = omega arith in root_only (suc i) n ∙ ap (λ (k : ℕ). record { id = k; mutable = true } ∷ []) e
 
-pub root_last : (i n : ℕ) (ps : List SignatureToken) → i ≡ min n (length ps) → first_names i (n - i) (drop i (map token_of ps)) ≡ record { id = n; mutable = true } ∷ []
+pub root_last : (i n : ℕ) (ps : List ℕ) → i ≡ min n (length ps) → first_names i (n - i) (drop i (map token_as ps)) ≡ record { id = n; mutable = true } ∷ []
 unfolding first_names
 root_last i n ps e =
-    let ts : List Token = drop i (map token_of ps) in
+    let ts : List Token = drop i (map token_as ps) in
     decide (leb n i)
     (λ t. let h : n ≤ i = leb_le t in
     let z : i ≡ n = omega arith in

@@ -26,12 +26,12 @@ use Rattle.abstract_state.specs.ModelLaws.{then_done, under, heed_at, fail_at, k
 -- ---- questions of a name, on the state that was asked
 
 module _ {A : Type 0} (g : Graph) (n : ℕ) (b : Bool) (r : Running) (k : Running → Outcome A) where
-  pub need_at : (c : ℕ) → then (needing (L.of_name g n b) c r) k ≡ needs_name g n (needs b c (k r))
-  need_at c = go (well_formed g && held g n) b
+  pub need_at : (c : ℕ) → (c == 0) ≡ false → then (needing (L.of_name g n b) c r) k ≡ needs_name g n (needs b c (k r))
+  need_at c z = go (well_formed g && held g n) b
     where
       go : (x y : Bool) → then (needing (guard x 9 (ok y)) c r) k ≡ needs x 9 (needs y c (k r))
       go true true = refl
-      go true false = refl
+      go true false = rw z refl
       go false y = refl
 
 abbrev number : {A : Type 0} → Ans A → ℕ
@@ -116,8 +116,8 @@ module _ (r : Running) (x : ℕ) (z : x ≡ cond (nat_lt r.next 65536) r.next 0)
       let p : (GEdge → Bool) = borrows_mutably g k none in
       let l : Option ℕ = lowest_of p g.edges in
       rw (e, h)
-      (need_at g k b r (λ s. then (failing (L.of_name g k l) 104 s) (λ s. then (new_ref false s) (pass (add_copy k) k x))) 13
-      ∙ known_under g k _ _ (needs_under b 13 _ _ (fail_at g k l r (λ s. then (new_ref false s) (pass (add_copy k) k x)) 104))
+      (need_at g k b r (λ s. then (failing (L.of_name g k l) 104 s) (λ s. then (new_ref false s) (pass (add_copy k) k x))) 13 refl
+      ∙ known_under g k _ _ (needs_under b 13 _ _ (fail_at g k l r (λ s. then (new_ref false s) (pass (add_copy k) k x)) 104 refl))
       ∙ known_needs g k b 13 (fails r p 104 (then (new_ref false r) (pass (add_copy k) k x)))
       ∙ known_under g k _ _ (needs_under b 13 _ _ (fails_under r p 104 _ _ (made false r x (pass (add_copy k) k) z))))
 
@@ -127,7 +127,7 @@ module _ (r : Running) (x : ℕ) (z : x ≡ cond (nat_lt r.next 65536) r.next 0)
   borrow_loc_at m i t e =
       let p : (GEdge → Bool) = bars_local_borrow m r.graph r.root i in
       rw e
-      (fail_at r.graph r.root (lowest_of p r.graph.edges) r (λ s. then (new_ref m s) (lend (add_local_borrow i) x)) 107
+      (fail_at r.graph r.root (lowest_of p r.graph.edges) r (λ s. then (new_ref m s) (lend (add_local_borrow i) x)) 107 refl
       ∙ known_under r.graph r.root _ _ (fails_under r p 107 _ _ (made m r x (lend (add_local_borrow i)) z)))
 
   -- a test of the name k, then a new reference and what `f` does with it
@@ -163,7 +163,7 @@ module _ (r : Running) where
   pub copy_value : (i : ℕ) (t : Ans (Option ℕ)) → slice_index_or r.locals i absent ≡ value
       → t ≡ L.of_name r.graph r.root (lowest_of (borrows_mutably r.graph r.root (some (local_label i))) r.graph.edges)
       → then (failing t 101 r) (λ s. answer s non_ref) ≡ copy_loc i r
-  copy_value i t l e = rw e (fail_at r.graph r.root (lowest_of (borrows_mutably r.graph r.root (some (local_label i))) r.graph.edges) r (λ s. answer s non_ref) 101 ∙ copy_over i value l)
+  copy_value i t l e = rw e (fail_at r.graph r.root (lowest_of (borrows_mutably r.graph r.root (some (local_label i))) r.graph.edges) r (λ s. answer s non_ref) 101 refl ∙ copy_over i value l)
 
   pub move_over : (i : ℕ) (l : Local) → slice_index_or r.locals i absent ≡ l → move_of r i l ≡ move_loc i r
   unfolding move_loc
@@ -174,7 +174,7 @@ module _ (r : Running) where
       → then (failing t 102 r) (λ s. answer (with_local s i absent) non_ref) ≡ move_loc i r
   move_value i t l e =
       rw e
-      (fail_at r.graph r.root (lowest_of (borrows r.root (some (local_label i))) r.graph.edges) r (λ s. answer (with_local s i absent) non_ref) 102
+      (fail_at r.graph r.root (lowest_of (borrows r.root (some (local_label i))) r.graph.edges) r (λ s. answer (with_local s i absent) non_ref) 102 refl
       ∙ move_over i value l)
 
   pub store_over : (i : ℕ) (w : Operand) (l : Local) → slice_index_or r.locals i absent ≡ l → overwrite i (with_local r i (local_of w)) l ≡ st_loc i w r
@@ -188,14 +188,14 @@ module _ (r : Running) where
       let b : Option ℕ = lowest_of (borrows r.root (some (local_label i))) r.graph.edges in
       rw e
       (then_done (failing (L.of_name r.graph r.root b) 103 (with_local r i (local_of w)))
-      ∙ fail_at r.graph r.root b (with_local r i (local_of w)) done 103
+      ∙ fail_at r.graph r.root b (with_local r i (local_of w)) done 103 refl
       ∙ store_over i w value l)
 
   -- a test alone
-  pub test_at : (k c : ℕ) (p : GEdge → Bool) (t : Ans (Option ℕ)) → t ≡ L.of_name r.graph k (lowest_of p r.graph.edges)
+  pub test_at : (k c : ℕ) (p : GEdge → Bool) (t : Ans (Option ℕ)) → (c == 0) ≡ false → t ≡ L.of_name r.graph k (lowest_of p r.graph.edges)
       → failing t c r ≡ needs_name r.graph k (fails r p c (done r))
-  test_at k c p t e =
-      rw e (then_done (failing (L.of_name r.graph k (lowest_of p r.graph.edges)) c r) ∙ fail_at r.graph k (lowest_of p r.graph.edges) r done c)
+  test_at k c p t z e =
+      rw e (then_done (failing (L.of_name r.graph k (lowest_of p r.graph.edges)) c r) ∙ fail_at r.graph k (lowest_of p r.graph.edges) r done c z)
 
   pub unreadable_then : {A : Type 0} (k : ℕ) (at : Option ℕ) (c : ℕ) (f : Running → Outcome A)
       → then (needs_name r.graph k (fails r (bars_reading r.graph k at) c (done r))) f ≡ needs_name r.graph k (fails r (bars_reading r.graph k at) c (f r))
@@ -208,29 +208,29 @@ module _ (r : Running) where
   read_at k = unreadable_then k none 105 (λ s. then (release_name k s) (λ t. answer t non_ref))
 
   -- a mutable reference with no borrow, then f
-  pub writable_then : {A : Type 0} (k c : ℕ) (t : Ans Bool) (u : Ans (Option ℕ)) (f : Running → Outcome A)
+  pub writable_then : {A : Type 0} (k c : ℕ) (t : Ans Bool) (u : Ans (Option ℕ)) (f : Running → Outcome A) → (c == 0) ≡ false
       → t ≡ L.of_name r.graph k (is_mutable r.graph k) → u ≡ L.of_name r.graph k (lowest_of (borrows k none) r.graph.edges)
       → then (needing t 13 r) (λ s. then (failing u c s) f) ≡ needs_name r.graph k (vector_test true r k c (f r))
-  writable_then {A} k c t u f e h =
+  writable_then {A} k c t u f z e h =
       let g : Graph = r.graph in
       let b : Bool = is_mutable g k in
       let l : Option ℕ = lowest_of (borrows k none) g.edges in
       rw (e, h)
-      (need_at g k b r (λ s. then (failing (L.of_name g k l) c s) f) 13
-      ∙ known_under g k _ _ (needs_under b 13 _ _ (fail_at g k l r f c))
+      (need_at g k b r (λ s. then (failing (L.of_name g k l) c s) f) 13 refl
+      ∙ known_under g k _ _ (needs_under b 13 _ _ (fail_at g k l r f c z))
       ∙ known_needs g k b 13 (fails_at r.blurs l c (f r)))
 
   pub write_at : (k : ℕ) (t : Ans Bool) (u : Ans (Option ℕ)) → t ≡ L.of_name r.graph k (is_mutable r.graph k)
       → u ≡ L.of_name r.graph k (lowest_of (borrows k none) r.graph.edges)
       → then (needing t 13 r) (λ s. then (failing u 106 s) (release_name k)) ≡ write_ref k r
   unfolding write_ref
-  write_at k t u e h = writable_then k 106 t u (release_name k) e h
+  write_at k t u e h = writable_then k 106 t u (release_name k) refl e h
 
-  pub vector_mutable : (k c : ℕ) (t : Ans Bool) (u : Ans (Option ℕ)) → t ≡ L.of_name r.graph k (is_mutable r.graph k)
+  pub vector_mutable : (k c : ℕ) (t : Ans Bool) (u : Ans (Option ℕ)) → (c == 0) ≡ false → t ≡ L.of_name r.graph k (is_mutable r.graph k)
       → u ≡ L.of_name r.graph k (lowest_of (borrows k none) r.graph.edges)
       → then (needing t 13 r) (failing u c) ≡ needs_name r.graph k (vector_test true r k c (done r))
-  vector_mutable k c t u e h =
-      under (needing t 13 r) (failing u c) (λ s. then (failing u c s) done) (λ s. then_done (failing u c s)) ∙ writable_then k c t u done e h
+  vector_mutable k c t u z e h =
+      under (needing t 13 r) (failing u c) (λ s. then (failing u c s) done) (λ s. then_done (failing u c s)) ∙ writable_then k c t u done z e h
 
   pub heed_alone : (k : ℕ) (b : Bool) (t : Ans Bool) → t ≡ L.of_name r.graph k b → heeding t r ≡ needs_name r.graph k (done r)
   heed_alone k b t e = rw e (then_done (heeding (L.of_name r.graph k b) r) ∙ heed_at r.graph k b r done)
@@ -238,7 +238,7 @@ module _ (r : Running) where
   pub move_from_at : (i : ℕ) (t : Ans (Option ℕ)) → t ≡ L.of_name r.graph r.root (lowest_of (borrows r.root (some (global_label i))) r.graph.edges)
       → then (failing t 109 r) (λ s. answer s non_ref) ≡ move_from i r
   unfolding move_from
-  move_from_at i t e = rw e (fail_at r.graph r.root (lowest_of (borrows r.root (some (global_label i))) r.graph.edges) r (λ s. answer s non_ref) 109)
+  move_from_at i t e = rw e (fail_at r.graph r.root (lowest_of (borrows r.root (some (global_label i))) r.graph.edges) r (λ s. answer s non_ref) 109 refl)
 
   pub vector_op_at : (m : Bool) (k : ℕ) → then (needs_name r.graph k (vector_test m r k 110 (done r))) (release_name k) ≡ vector_op (reference k) m r
   unfolding vector_op

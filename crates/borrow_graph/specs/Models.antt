@@ -8,7 +8,7 @@ use Rattle.meaning.specs.Answers.{Ans, leaves}
 use Rattle.meaning.specs.BorrowGraph.{Graph, Borrows, Change, eq_pair, well_formed}
 use Rattle.references.specs.Models.{edges_in, names_in}
 use Rattle.vm_status.specs.declared.Refusal.{Refusal}
-use Rattle.vm_status.specs.Models.{answer_of}
+use Rattle.vm_status.specs.Models.{number_of, answer_by, answer_of}
 use Rattle.file_format.specs.declared.CodeOffset.{CodeOffset}
 use Rattle.borrow_graph.specs.declared.graph.BorrowGraph.{BorrowGraph}
 use Rattle.borrow_graph.specs.declared.graph.BorrowedBy.{BorrowedBy}
@@ -29,16 +29,23 @@ pub record Tells (ns : List ℕ) (es : List (List ℕ)) (g : BorrowGraph) : Type
   pub edges : g.edges ≤ max_edges
   pub formed : g.formed ≡ well_formed (graph_in ns es g)
 
+-- a yes or no, or what it was refused by, whose number is n's
+abbrev pub told_by : {E : Type 0} → (E → ℕ) → Result Bool E → Ans Bool
+told_by n r = answer_by n (λ (b : Bool). b) r
+
 abbrev pub told_of : Result Bool Refusal → Ans Bool
-told_of r = answer_of (λ (b : Bool). b) r
+told_of r = told_by number_of r
 
 -- a lowest offset, or none
 abbrev pub low_in : P.Option CodeOffset → Option ℕ
 low_in None = none
 low_in (Some o) = some o.0
 
+abbrev pub low_by : {E : Type 0} → (E → ℕ) → Result (P.Option CodeOffset) E → Ans (Option ℕ)
+low_by n r = answer_by n low_in r
+
 abbrev pub low_of : Result (P.Option CodeOffset) Refusal → Ans (Option ℕ)
-low_of r = answer_of low_in r
+low_of r = low_by number_of r
 
 abbrev pub borrows_of : BorrowedBy → Borrows
 borrows_of a = record { full = low_in a.full; consistent = low_in a.consistent; mutable = low_in a.mutable }

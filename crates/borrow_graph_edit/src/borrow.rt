@@ -32,7 +32,7 @@ use vm_status::Refusal;
 fn is_moved(x: &Row, parent: RefID, path: Option<Label>) -> bool
     ensures { result ≡ moves parent.0 (path_at path) (row_of x.now) }
 {
-    (parent == rows::parent(x)) & rows::starts_with(x, path)
+    parent == rows::parent(x) && rows::starts_with(x, path)
 }
 
 // Whether a strong borrow moves an edge.

@@ -19,7 +19,7 @@ ghost use Rattle.borrow_graph.specs.Models.{graph_in, Tells};
 ghost use Rattle.borrow_graph_edit.specs.Models.{replaced_in, filled_in, Blurs};
 
 use crate::blurs::settled;
-use crate::pairs::{between, replace_set, two_passes};
+use crate::pairs::{replace_set, set_between, two_passes};
 use borrow_graph::cover::holds_all;
 use borrow_graph::graph::BorrowGraph;
 use meaning::{MAX_EDGES, MAX_NAMES};
@@ -57,10 +57,10 @@ fn join_pair(
         Neat (edges_in edges.old m) → Neat (edges_in ours.now k) → Neat (edges_in theirs.now n) → (length edges.new ≡ max_edges)
         × (replaced_in edges.new result ≡ replace_lim shrinking (join_set (edges_in ours.now k) (edges_in theirs.now n)) (record { parent = parent.0; child = child.0 } ∷ []) (edges_in edges.old m))) }
 {
-    let mut x = between(ours, k, parent, child);
-    let y = between(theirs, n, parent, child);
-    join_sets(&mut x.set, &y.set)?;
-    replace_set(edges, m, parent, child, &x.set, shrinking)
+    let mut x = set_between(ours, k, parent, child);
+    let y = set_between(theirs, n, parent, child);
+    join_sets(&mut x, &y)?;
+    replace_set(edges, m, parent, child, &x, shrinking)
 }
 
 // Each pair of theirs.

@@ -54,18 +54,29 @@ pub(crate) fn between(edges: &[Row; MAX_EDGES], m: usize, parent: RefID, child: 
     requires { m ≤ max_edges }
     ensures { (result.low + length (set_of result.set).edges ≤ m) × (length edges.now ≡ max_edges → length (set_at parent.0 child.0 (edges_in edges.now m)).edges ≤ max_set_size → (set_of result.set ≡ set_at parent.0 child.0 (edges_in edges.now m)) × (result.low ≡ length (keep (is_before parent.0 child.0) (edges_in edges.now m)))) }
 {
-    let mut found = PairSet {
-        low: 0,
-        set: BorrowEdgeSet::new(),
-    };
+    let mut low: usize = 0;
+    let mut set = BorrowEdgeSet::new();
     for row in &edges[..m] {
         match side(row, parent, child) {
-            Ordering::Less => found.low += 1,
-            Ordering::Equal => found.set.push_row(row),
+            Ordering::Less => low += 1,
+            Ordering::Equal => set.push_row(row),
             Ordering::Greater => {}
         }
     }
-    found
+    PairSet { low, set }
+}
+
+// The set alone. (What stands before it is then not counted, which a walk through several pairs would pay for each of them.)
+pub(crate) fn set_between(
+    edges: &[Row; MAX_EDGES],
+    m: usize,
+    parent: RefID,
+    child: RefID,
+) -> BorrowEdgeSet
+    requires { m ≤ max_edges }
+    ensures { length edges.now ≡ max_edges → length (set_at parent.0 child.0 (edges_in edges.now m)).edges ≤ max_set_size → set_of result ≡ set_at parent.0 child.0 (edges_in edges.now m) }
+{
+    between(edges, m, parent, child).set
 }
 
 // The `old` edges from `low` on give way to those of a set of this pair. (By index: place `low + i` is written from row `i` of the set, which

@@ -22,7 +22,7 @@ ghost use Rattle.borrow_graph_edit.specs.Ways.{entering, leaving, ways, Within, 
 
 use crate::blurs::{Changed, settled};
 use crate::edges::{add_edge, retain};
-use crate::pairs::{between, replace_set, two_passes};
+use crate::pairs::{replace_set, set_between, two_passes};
 use borrow_graph::graph::BorrowGraph;
 use borrow_graph::refs;
 use meaning::{MAX_EDGES, MAX_NAMES};
@@ -70,11 +70,11 @@ fn spliced(
     requires { m ≤ max_edges }
     ensures { length edges.now ≡ max_edges → Neat (edges_in edges.now m) → answer_of set_of result ≡ splice_set (edges_in edges.now m) id.0 parent.0 child.0 }
 {
-    let parents = between(edges, m, parent, id);
-    let children = between(edges, m, id, child);
-    let mut pair = between(edges, m, parent, child);
-    splice_each(&mut pair.set, &parents.set, &children.set)?;
-    Ok(pair.set)
+    let parents = set_between(edges, m, parent, id);
+    let children = set_between(edges, m, id, child);
+    let mut set = set_between(edges, m, parent, child);
+    splice_each(&mut set, &parents, &children)?;
+    Ok(set)
 }
 
 // No way leads from a name to itself.

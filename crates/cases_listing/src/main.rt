@@ -10,8 +10,22 @@ use std::io;
 // Room for all cases.
 const ROOM: usize = 300_000;
 
+// The last N digits of a number.
+fn digits<const N: usize>(n: usize) -> [u8; N] {
+    let mut out = [b'0'; N];
+    let mut left = n;
+    for digit in out.iter_mut().rev() {
+        *digit = (left % 10) as u8 + b'0';
+        left /= 10;
+    }
+    out
+}
+
+// (By hand: with `println!` a run on many short listings took 1.4 times as long.)
 fn write_line(rt: &impl Print, number: u8, place: usize) -> io::Result<()> {
-    println!(rt; "{number:02} {place:05}")
+    let [a, b] = digits::<2>(number as usize);
+    let [c, d, e, f, g] = digits::<5>(place);
+    rt.write_all(&[a, b, b' ', c, d, e, f, g, b'\n'])
 }
 
 fn answer(rt: &impl Print, s: &[u8]) -> io::Result<()> {

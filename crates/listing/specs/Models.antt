@@ -48,7 +48,7 @@ abbrev pub plain_of : Instruction → I.Instr
 plain_of i = with_parts [] [] i
 
 unfoldable pub decoded_of : Decoded → I.Instr
-decoded_of d = with_parts (take d.acquired_count d.acquired) (map token_of (take d.token_count d.tokens)) d.instruction
+decoded_of d = with_parts (take d.acquired_count d.acquired) (map D.token_as (take d.token_count d.tokens)) d.instruction
 
 abbrev pub pick_instr : Bool → I.Instr → I.Instr → I.Instr
 pick_instr true a b = a
@@ -100,7 +100,7 @@ faulty_successors bs i b = D.repeats b.successors || any (D.faulty_successor bs 
 -- a routine of the listing s, with the array cs that says where the record of each instruction starts
 abbrev pub routine_of : List ℕ → List ℕ → Routine → Q.Routine
 routine_of s cs r = record {
-  params = map token_of (take r.param_count r.params);
+  params = map D.token_as (take r.param_count r.params);
   locals = r.locals;
   returns = r.returns;
   blocks = blocks_in r.blocks r.block_count;

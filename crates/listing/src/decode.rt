@@ -8,7 +8,6 @@ ghost use Rattle.listing.specs.Models.{tokens_at, plain_of, decoded_of, decoded_
 use file_format::{LocalIndex, SignatureToken};
 use listing_records::{Cursor, body, byte_at, u16_at};
 use meaning::{MAX_ACQUIRED, MAX_RETURNS, ROOM};
-use std::array;
 
 // One variant for each kind of instruction record.
 #[derive(Clone, Copy)]
@@ -38,39 +37,26 @@ pub enum Instruction {
     BorrowElement(bool),
 }
 
-// An instruction, and for a call the numbers that it acquires and the tokens of what it returns. Slots from a count on are free.
+// An instruction, and for a call the numbers that it acquires and the tokens (0, 1, 2) of what it returns. Slots from a count on are free.
 #[derive(Clone, Copy)]
 pub struct Decoded {
     pub instruction: Instruction,
     pub acquired: [u16; ROOM],
     pub acquired_count: usize,
-    pub tokens: [SignatureToken; ROOM],
+    pub tokens: [u8; ROOM],
     pub token_count: usize,
 }
 
-// 0 value, 1 reference, 2 mutable reference. (No other number stands in a listing that was read.)
-fn token_of(n: u8) -> SignatureToken
-    ensures { token_of result ≡ token_as n }
-{
-    match n {
-        0 => SignatureToken::Value,
-        2 => SignatureToken::MutableReference,
-        _ => SignatureToken::Reference,
-    }
-}
-
 // n tokens from a place on.
-pub(crate) fn tokens_at(b: &[u8], from: usize, n: usize) -> [SignatureToken; ROOM]
+pub(crate) fn tokens_at(b: &[u8], from: usize, n: usize) -> [u8; ROOM]
     requires { (n ≤ max_locals) × (from < 65536) }
-    ensures { map token_of (take n result) ≡ tokens_at b.now from n }
+    ensures { map token_as (take n result) ≡ tokens_at b.now from n }
 {
-    array::from_fn(|i| {
-        if i < n {
-            token_at(b, from + i)
-        } else {
-            SignatureToken::Value
-        }
-    })
+    let mut out = [0u8; ROOM];
+    for i in 0..n {
+        out[i] = byte_at(b, from + i);
+    }
+    out
 }
 
 // n numbers from a place on.
@@ -78,7 +64,11 @@ fn words_at(b: &[u8], from: usize, n: usize) -> [u16; ROOM]
     requires { (n ≤ max_locals) × (from < 65536) }
     ensures { take n result ≡ words_at b.now from n }
 {
-    array::from_fn(|i| if i < n { u16_at(b, from + 2 * i) } else { 0 })
+    let mut out = [0u16; ROOM];
+    for i in 0..n {
+        out[i] = u16_at(b, from + 2 * i);
+    }
+    out
 }
 
 fn flag_at(b: &[u8], i: usize) -> bool
@@ -96,7 +86,7 @@ fn local_at(b: &[u8]) -> LocalIndex
 fn token_at(b: &[u8], i: usize) -> SignatureToken
     ensures { token_of result ≡ token_as (get_or b.now i 0) }
 {
-    token_of(byte_at(b, i))
+    SignatureToken::from(byte_at(b, i))
 }
 
 // An instruction that is no call.
@@ -132,7 +122,7 @@ fn alone(instruction: Instruction) -> Decoded
         instruction,
         acquired: [0u16; ROOM],
         acquired_count: 0,
-        tokens: [SignatureToken::Value; ROOM],
+        tokens: [0u8; ROOM],
         token_count: 0,
     }
 }

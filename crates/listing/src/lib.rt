@@ -12,7 +12,7 @@ ghost use Rattle.vm_status.specs.declared.Refusal.TheVariants.{BadBlocks};
 ghost use Rattle.listing.specs.Models.{block_of, two_at, Sound, ruled_places, Ruled, Answers};
 ghost use Rattle.listing_records.specs.Models.{places_in};
 
-use file_format::{CodeOffset, SignatureToken};
+use file_format::CodeOffset;
 use listing_reader::head;
 use listing_records::{Cursor, Places, body, byte_at, place, read_places, u16_at};
 use meaning::{MAX_BLOCKS, MAX_INSTRUCTIONS, ROOM};
@@ -28,11 +28,11 @@ pub struct Block {
     pub second: CodeOffset,
 }
 
-// A routine that was read: the tokens of its parameters, L, the number of its returns, how many instructions it has, and the blocks
+// A routine that was read: the tokens (0, 1, 2) of its parameters, L, the number of its returns, how many instructions it has, and the blocks
 // in listed order. Where the record of each instruction starts stands beside, in an array that the caller lends. Slots from a count on are free.
 #[derive(Clone, Copy)]
 pub struct Routine {
-    pub params: [SignatureToken; ROOM],
+    pub params: [u8; ROOM],
     pub param_count: usize,
     pub locals: u8,
     pub returns: u8,

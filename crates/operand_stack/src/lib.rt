@@ -75,6 +75,7 @@ impl OperandStack {
 
     pub fn pop_ref(&mut self) -> Result<RefID, Refusal>
         ensures takes { answered (λ (id : RefID). took id.0 self.new.operands) result ≡ pop_one_ref (held self.old) }
+        ensures words { self.new.operands.list ≡ self.old.operands.list }
         ensures kept { OnErr result (self.new ≡ self.old) }
     {
         let len = self.operands.len;
@@ -110,6 +111,7 @@ impl OperandStack {
     // n values, and what lies under them.
     pub fn pop_under(&mut self, n: u16) -> Result<AbstractValue, Refusal>
         ensures takes { answered (λ v. took (operand_of v) self.new.operands) result ≡ pop_under n (held self.old) }
+        ensures words { self.new.operands.list ≡ self.old.operands.list }
         ensures kept { OnErr result (self.new ≡ self.old) }
     {
         let len = self.operands.len;
@@ -126,6 +128,7 @@ impl OperandStack {
     // n operands of any kind, in the order of their pushes.
     pub fn pop_many(&mut self, n: u8) -> Result<Operands, Refusal>
         ensures takes { answered (λ vs. took (operands_of vs) self.new.operands) result ≡ pop_some n (held self.old) }
+        ensures words { self.new.operands.list ≡ self.old.operands.list }
         ensures kept { OnErr result (self.new ≡ self.old) }
     {
         let top = self.depth();
@@ -142,6 +145,7 @@ impl OperandStack {
 
     pub fn push(&mut self, value: AbstractValue) -> Result<(), Refusal>
         ensures pushes { answered (λ _. held self.new) result ≡ push_each (held self.old) (operand_of value ∷ []) }
+        ensures len { length self.new.operands.list ≡ length self.old.operands.list }
         ensures kept { OnErr result (self.new ≡ self.old) }
     {
         let n = self.depth();
@@ -156,6 +160,7 @@ impl OperandStack {
     // n values.
     pub fn push_values(&mut self, n: u16) -> Result<(), Refusal>
         ensures pushes { answered (λ _. held self.new) result ≡ push_each (held self.old) (replicate n non_ref) }
+        ensures len { length self.new.operands.list ≡ length self.old.operands.list }
         ensures kept { OnErr result (self.new ≡ self.old) }
     {
         let k = self.depth();
@@ -171,6 +176,7 @@ impl OperandStack {
     // The first one first.
     pub fn push_all(&mut self, values: &Operands) -> Result<(), Refusal>
         ensures pushes { answered (λ _. held self.new) result ≡ push_each (held self.old) (operands_of values.now) }
+        ensures len { length self.new.operands.list ≡ length self.old.operands.list }
         ensures kept { OnErr result (self.new ≡ self.old) }
     {
         let k = self.depth();

@@ -15,7 +15,7 @@ use Rattle.borrow_graph.specs.Models.{Tells}
 use Rattle.abstract_state.specs.ModelLaws.{then_done, then_then, goes}
 use Rattle.abstract_state.specs.Models.{Words, words, Fits, halted, running_of, state_of}
 use Rattle.abstract_state.specs.declared.state.AbstractState.{AbstractState}
-use Rattle.file_format.specs.Models.{token_of}
+use Rattle.meaning.specs.Listing.{token_as}
 use Rattle.listing.specs.Models.{with_parts, decoded_of}
 use Rattle.listing.specs.declared.decode.Instruction.{Instruction}
 use Rattle.listing.specs.declared.decode.Decoded.{Decoded}
@@ -28,12 +28,12 @@ use Rattle.operand_stack.specs.Models.{held}
 -- ---- one instruction
 
 pub stepped : {a b : Board} {r : Result ⊤ Refusal} (returns : ℕ) (d : Decoded) {i : Instruction} → d.instruction ≡ i
-    → Runs (step_on returns (with_parts (take d.acquired_count d.acquired) (map token_of (take d.token_count d.tokens)) i) (held a.stack)) a.words r b
+    → Runs (step_on returns (with_parts (take d.acquired_count d.acquired) (map token_as (take d.token_count d.tokens)) i) (held a.stack)) a.words r b
     → StepsTo (step returns (decoded_of d)) a r b
 unfolding decoded_of step
 stepped {a} {b} {r} returns d e p =
-    steps_from (λ vs r. step_on returns (with_parts (take d.acquired_count d.acquired) (map token_of (take d.token_count d.tokens)) d.instruction) vs r)
-    (subst (λ (j : Instruction). Runs (step_on returns (with_parts (take d.acquired_count d.acquired) (map token_of (take d.token_count d.tokens)) j) (held a.stack)) a.words r b) (sym e) p)
+    steps_from (λ vs r. step_on returns (with_parts (take d.acquired_count d.acquired) (map token_as (take d.token_count d.tokens)) d.instruction) vs r)
+    (subst (λ (j : Instruction). Runs (step_on returns (with_parts (take d.acquired_count d.acquired) (map token_as (take d.token_count d.tokens)) j) (held a.stack)) a.words r b) (sym e) p)
 
 -- ---- the instructions in turn
 

@@ -23,6 +23,7 @@
 //   borrow_element   355 VecImmBorrow, 361 VecMutBorrow
 ghost use Rattle.std.specs.Prelude.{ℕ, List, map, take};
 ghost use Rattle.meaning.specs.Steps.{Instr, step_on};
+ghost use Rattle.meaning.specs.Listing.{token_as};
 ghost use Rattle.file_format.specs.Models.{token_of};
 ghost use Rattle.abstract_state.specs.Models.{words};
 ghost use Rattle.operand_stack.specs.Models.{held};
@@ -199,7 +200,7 @@ pub(crate) fn call(
     parameters: u8,
     d: Decoded,
 ) -> Result<(), Refusal>
-    ensures { (ls : List ℕ) → Runs (step_on 0 (Instr.Call parameters (take d.acquired_count d.acquired) (map token_of (take d.token_count d.tokens))) (held m.old.stack)) (words ls names.old edges.old m.old.state) result (board ls names.new edges.new m.new) }
+    ensures { (ls : List ℕ) → Runs (step_on 0 (Instr.Call parameters (take d.acquired_count d.acquired) (map token_as (take d.token_count d.tokens))) (held m.old.stack)) (words ls names.old edges.old m.old.state) result (board ls names.new edges.new m.new) }
 {
     let arguments = m.stack.pop_many(parameters)?;
     let a = abstract_state_calls::call(

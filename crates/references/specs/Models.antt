@@ -40,18 +40,18 @@ filter_of (Some l) = some (number_of (label_of l))
 abbrev pub told : {A : Type 0} → ℕ → A → Ans A
 told n a = cond (eqb n 0) (ok a) (refuse n)
 
--- an edge that is offered, where it is from, and what its row satisfies if it fits
+-- an edge that is offered, its row, and where it is from; of a row that is too long only the ends and the offset count
 abbrev pub candidate_of : Candidate → Offered
 candidate_of (Fits r) = fits (row_of r).edge
-candidate_of (TooLong o) = too_long o.0
+candidate_of (TooLong r) = too_long (row_of r).edge.offset
+
+abbrev pub row_in : Candidate → List ℕ
+row_in (Fits r) = r
+row_in (TooLong r) = r
 
 abbrev pub offset_at : Candidate → ℕ
 offset_at (Fits r) = (row_of r).edge.offset
-offset_at (TooLong o) = o.0
-
-abbrev pub IfFits : (GEdge → Type 0) → Candidate → Type 0
-IfFits P (Fits r) = P (row_of r)
-IfFits P (TooLong o) = Unit {0}
+offset_at (TooLong r) = (row_of r).edge.offset
 
 -- the edges of a set's rows, without ends and marks
 abbrev pub edge_in : List ℕ → Edge

@@ -17,7 +17,7 @@ ghost use Rattle.meaning.specs.BorrowGraph.{between, shift, meets_label};
 ghost use Rattle.meaning.specs.Area.{label_in, edge_words};
 ghost use Rattle.meaning.specs.Laws.Area.{bit};
 ghost use Rattle.paths.specs.Models.{label_of, ordering_of};
-ghost use Rattle.references.specs.Models.{row_of, path_at, filter_of, candidate_of, offset_at, IfFits};
+ghost use Rattle.references.specs.Models.{row_of, path_at, filter_of, candidate_of, row_in, offset_at};
 ghost use Rattle.references.specs.RowLaws.{path_in, count_in, first_of};
 
 use crate::RefID;
@@ -36,11 +36,12 @@ const LABELS: usize = 2;
 
 pub type Row = [u32; EDGE_WORDS];
 
-// An edge to put into a set, or word that its path is longer than eight labels, with its offset.
+// An edge to put into a set, or word that its path is longer than eight labels: then the row has its ends and its offset, and what else it holds is
+// free.
 #[derive(Clone, Copy)]
 pub enum Candidate {
     Fits(Row),
-    TooLong(CodeOffset),
+    TooLong(Row),
 }
 
 // ---- a row, read
@@ -258,7 +259,7 @@ pub fn factor(y: &Row, path: Option<Label>, child: RefID) -> Row
 
 // The way from x's parent to y's child, with y's offset. Behind a weak edge nothing more is known.
 pub fn splice(x: &Row, y: &Row) -> Candidate
-    ensures { (candidate_of result ≡ fitting (G.splice (row_of x.now).edge (row_of y.now).edge)) × IfFits (λ g. (g.parent ≡ (row_of x.now).parent) × (g.child ≡ (row_of y.now).child)) result }
+    ensures { (candidate_of result ≡ fitting (G.splice (row_of x.now).edge (row_of y.now).edge)) × ((row_of (row_in result)).parent ≡ (row_of x.now).parent) × ((row_of (row_in result)).child ≡ (row_of y.now).child) }
 {
     let behind = offset(y);
     let whole = remade(x, 0, behind, parent(x), child(y), false);
@@ -268,7 +269,7 @@ pub fn splice(x: &Row, y: &Row) -> Candidate
     let n = labels(x);
     let m = labels(y);
     if MAX_LABELS < n + m {
-        return Candidate::TooLong(behind);
+        return Candidate::TooLong(whole);
     }
     let mut out = copy_labels(whole, n, y, 0, m);
     out[1] = marks(behind, false, is_strong(y), n + m);
@@ -281,7 +282,7 @@ impl Candidate {
     {
         match self {
             Candidate::Fits(row) => offset(row),
-            Candidate::TooLong(loc) => *loc,
+            Candidate::TooLong(row) => offset(row),
         }
     }
 }

@@ -47,7 +47,10 @@ number_of LongPath = 22
 number_of ManyNames = 23
 number_of LateBlock = 33
 
--- an answer of the code: what its value stands for, or the refusal's number
+-- an answer of the code: what its value stands for, or the number of what refused it
+abbrev pub answer_by : {A B E : Type 0} → (E → ℕ) → (A → B) → Result A E → Ans B
+answer_by n f (Ok a) = ok (f a)
+answer_by n f (Err e) = refuse (n e)
+
 abbrev pub answer_of : {A B : Type 0} → (A → B) → Result A Refusal → Ans B
-answer_of f (Ok a) = ok (f a)
-answer_of f (Err r) = refuse (number_of r)
+answer_of f r = answer_by number_of f r

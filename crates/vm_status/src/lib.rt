@@ -2,8 +2,45 @@
 // Rust panics, or has no limit, document 01 has a refusal.
 #![tactic(auto)]
 
-ghost use Rattle.std.specs.Prelude.{◌≡◌};
+ghost use Rattle.std.specs.Prelude.{◌≡◌, ℕ, false, ◌==◌};
+ghost use Rattle.std.specs.Int.NonZero.{non_zero_u8_get};
 ghost use Rattle.vm_status.specs.Models.{code_of, number_of};
+ghost use Rattle.vm_status.specs.NumberLaws.{number_known, non_zero_known};
+
+use std::num::NonZeroU8;
+
+// What stands for a number: a code or a refusal, or the number itself.
+pub trait Numbered: Copy {
+    ghost number_is: { Self → ℕ };
+
+    fn number(self) -> u8
+        ensures { result ≡ number_is self };
+}
+
+// What an answer may be refused by: its number is not 0.
+pub trait Refuses: Numbered {
+    ghost known: { (e : Self) → (Self.number_is e == 0) ≡ false };
+}
+
+impl Numbered for u8 {
+    ghost number_is = { λ n. n };
+
+    fn number(self) -> u8 {
+        self
+    }
+}
+
+impl Numbered for NonZeroU8 {
+    ghost number_is = { non_zero_u8_get };
+
+    fn number(self) -> u8 {
+        self.get()
+    }
+}
+
+impl Refuses for NonZeroU8 {
+    ghost known = { non_zero_known };
+}
 
 // What a routine does that the pass forbids.
 #[derive(Clone, Copy, PartialEq, Eq)]
@@ -44,6 +81,14 @@ impl From<StatusCode> for u8 {
             StatusCode::UnsafeRet => 113,
             StatusCode::RetBorrowedMutableReference => 114,
         }
+    }
+}
+
+impl Numbered for StatusCode {
+    ghost number_is = { code_of };
+
+    fn number(self) -> u8 {
+        u8::from(self)
     }
 }
 
@@ -123,6 +168,18 @@ impl From<Refusal> for u8 {
             Refusal::LateBlock => 33,
         }
     }
+}
+
+impl Numbered for Refusal {
+    ghost number_is = { number_of };
+
+    fn number(self) -> u8 {
+        u8::from(self)
+    }
+}
+
+impl Refuses for Refusal {
+    ghost known = { number_known };
 }
 
 // A refusal and its place: that of a record in a listing, or what document 01 names for the refusal.

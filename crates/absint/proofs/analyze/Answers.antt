@@ -21,7 +21,7 @@ analyze_function-t-requires c =
     let a = c.args in
     let w = c.in-Ok-Some in
     let n = rw w.field-0-is at w.ensures.counted in
-    let e = reading_is r.result (Ok (Some w.q)) r.ensures (w.is ∙ ap Ok w.field-0-is) in (
+    let e = reading_is a.listing.now _ r.result (Ok (Some w.q)) r.ensures.listed (w.is ∙ ap Ok w.field-0-is) in (
       record {
         promise = accepted_promised a.listing.now _ e;
         blocks = n.few;
@@ -47,7 +47,7 @@ returns-in-Ok-Some c =
     let if1 = c.if-area-lt-AREA_WORDS in
     let a = c.args in
     let n = rw q.field-0-is at q.ensures.counted in
-    let e = reading_is r.result (Ok (Some q.q)) r.ensures (q.is ∙ ap Ok q.field-0-is) in (
+    let e = reading_is a.listing.now _ r.result (Ok (Some q.q)) r.ensures.listed (q.is ∙ ap Ok q.field-0-is) in (
       Law.verify_read (length a.area.now) a.listing.now if1.false _ (ruling_of v.result) f.result.visits f.result.blurred e
           (v.ensures.0 ∙ Law.ruled a.listing.now _ q.q a.area.now _ f.result v.ensures.1 n.few
           n.count f.ensures) f.ensures.end.visited f.ensures.end.blurred,
@@ -59,7 +59,7 @@ returns-in-Ok-None c =
     let empty = c.empty_cell in
     let if1 = c.if-area-lt-AREA_WORDS in
     let a = c.args in
-    let e = reading_is c.read_listing.result (Ok None) c.read_listing.ensures (c.in-Ok-None.is ∙ ap Ok c.in-Ok-None.field-0-is) in (
+    let e = reading_is a.listing.now _ c.read_listing.result (Ok None) c.read_listing.ensures.listed (c.in-Ok-None.is ∙ ap Ok c.in-Ok-None.field-0-is) in (
       empty.ensures.0 ∙ Law.verify_as (length a.area.now) a.listing.now if1.false _ e,
       Law.left_nothing a.listing.now a.area.now _ if1.false e empty.ensures.1,
     )
@@ -68,7 +68,7 @@ pub returns-in-Err : goal.returns-in-Err
 returns-in-Err c =
     let if1 = c.if-area-lt-AREA_WORDS in
     let a = c.args in
-    let e = reading_is c.read_listing.result _ c.read_listing.ensures c.in-Err.is in (
+    let e = reading_is a.listing.now _ c.read_listing.result _ c.read_listing.ensures.listed c.in-Err.is in (
       rw c.from.ensures at c.refused-in-Err.ensures ∙ Law.verify_as (length a.area.now) a.listing.now if1.false _ e,
       Law.left_refused a.listing.now a.area.now _ _ e,
     )

@@ -1,4 +1,4 @@
-use mathlib.Core.Path.{ap, ◌∙◌}
+use mathlib.Core.Path.{refl, ap, ◌∙◌}
 use mathlib.Core.Option.{Option, none}
 use Rattle.std.specs.Prelude.{ℕ}
 use Rattle.meaning.specs.Limits.{UNSAFE_RET}
@@ -20,5 +20,5 @@ returns c =
     λ ls. let w = words ls a.names.now a.edges.now a.state in
     does_as (failing (low_of b.result) UNSAFE_RET) framed w _
     (λ h. ap (λ (t : Ans (Option ℕ)). failing t UNSAFE_RET (running_of w)) (b.ensures ls h)
-    ∙ failing_at g root (running_of w) (lowest_of (borrows root none) g.edges) UNSAFE_RET)
+    ∙ failing_at g root (running_of w) (lowest_of (borrows root none) g.edges) UNSAFE_RET refl)
     (c.violate_if.ensures ls _ _)

@@ -4,6 +4,7 @@ use mathlib.Core.Option.{Option}
 use Rattle.meaning.specs.Answers.{Ans}
 use Rattle.meaning.specs.EntryPoints.{hand_over}
 use Rattle.vm_status.specs.Models.{code_of}
+use Rattle.vm_status.specs.NumberLaws.{code_known}
 use Rattle.abstract_state.specs.Models.{words, running_of, failing}
 use Rattle.abstract_state.specs.ModelLaws.{does_as, does_nothing}
 use Rattle.abstract_state_calls.specs.CallLaws.{hand_one}
@@ -15,7 +16,7 @@ returns-in-Reference c =
     λ ls. let w = words ls a.names.now a.edges.now a.state in
     rw c.in-Reference.is
     (does_as _ _ w _
-    (λ h. ap (λ (t : Ans (Option ℕ)). failing t (code_of a.code) (running_of w)) (c.bars_handing_over-b.ensures ls h) ∙ hand_one c.in-Reference.id.0 (code_of a.code) (running_of w))
+    (λ h. ap (λ (t : Ans (Option ℕ)). failing t (code_of a.code) (running_of w)) (c.bars_handing_over-b.ensures ls h) ∙ hand_one c.in-Reference.id.0 (code_of a.code) (running_of w) (code_known a.code))
     (c.violate_if.ensures ls _ _))
 
 pub returns-in-NonReference : goal.returns-in-NonReference

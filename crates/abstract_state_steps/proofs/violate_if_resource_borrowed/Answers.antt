@@ -24,7 +24,7 @@ returns-then-mutable c =
     let n = (running_of w).root in
     let p = borrows n (some (global_label a.resource)) in
     rw c.if-mutable.true (does_as _ _ w _
-    (λ h. E.test_at (running_of w) n 109 (bars_resource_borrow true g n a.resource) _
+    (λ h. E.test_at (running_of w) n 109 (bars_resource_borrow true g n a.resource) _ refl
     (c.is_global_borrowed-b.ensures ls h
     ∙ ap (of_name g n) (lowest_same p (bars_resource_borrow true g n a.resource) (λ (x : GEdge). either (p x) (is_mutable g x.child)) g.edges)))
     (c.violate_if.ensures ls _ _))
@@ -37,6 +37,6 @@ returns c =
     let g = (running_of w).graph in
     let n = (running_of w).root in
     rw c.if-mutable.false (does_as _ _ w _
-    (λ h. E.test_at (running_of w) n 109 (bars_resource_borrow false g n a.resource) _
+    (λ h. E.test_at (running_of w) n 109 (bars_resource_borrow false g n a.resource) _ refl
     (c.is_global_mutably_borrowed-b.ensures ls h))
     (c.violate_if-2.ensures ls _ _))

@@ -10,7 +10,7 @@ none_for s cs (Some r) = refl
 none_for s cs None = refl
 
 pub returns-in-Ok : goal.returns-in-Ok
-returns-in-Ok c = let r = c.read_listing in sym (ap number_of (reading_is r.result _ r.ensures c.in-Ok.is) ∙ none_for _ _ c.in-Ok.field-0)
+returns-in-Ok c = let r = c.read_listing in sym (ap number_of (reading_is _ _ r.result _ r.ensures.listed c.in-Ok.is) ∙ none_for _ _ c.in-Ok.field-0)
 
 pub returns-in-Err : goal.returns-in-Err
-returns-in-Err c = let r = c.read_listing in c.from.ensures ∙ sym (ap number_of (reading_is r.result _ r.ensures c.in-Err.is))
+returns-in-Err c = let r = c.read_listing in c.from.ensures ∙ sym (ap number_of (reading_is _ _ r.result _ r.ensures.listed c.in-Err.is))

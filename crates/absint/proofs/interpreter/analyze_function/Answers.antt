@@ -6,7 +6,7 @@ use mathlib.Core.List.{map}
 use lib.ListN.{length, take, replicate}
 use borrow.Author.Tests.{ltb-true}
 use Rattle.std.specs.Prelude.{min}
-use Rattle.file_format.specs.Models.{token_of}
+use Rattle.meaning.specs.Listing.{token_as}
 use Rattle.meaning.specs.Limits.{area_words}
 use Rattle.listing.specs.Models.{routine_of}
 use Rattle.abstract_state.specs.Models.{words}
@@ -24,7 +24,7 @@ loop-t-init c =
     ap (λ k. take k args.routine.params) (c.lesser.ensures ∙ ap (min args.routine.param_count) (sym z)) ∙ take_min args.routine.param_count args.routine.params in
     let made-new = rw params at c.new-s.ensures (replicate 96 (replicate 10 0)) refl refl refl in
     let small = Law.promised_small (routine_of args.listing.now args.code.now args.routine) pre.0.promise in
-    let made = Law.first_made (words c.new-s.new.locals c.new-s.new.names (replicate 96 (replicate 10 0)) c.new-s.result) args.routine.locals (map token_of (take args.routine.param_count args.routine.params)) small made-new.1 in
+    let made = Law.first_made (words c.new-s.new.locals c.new-s.new.names (replicate 96 (replicate 10 0)) c.new-s.result) args.routine.locals (map token_as (take args.routine.param_count args.routine.params)) small made-new.1 in
     let area : area_words ≤ length args.area.now = pre.1 in
     record {
       read = pre.0;

@@ -5,7 +5,8 @@ use Rattle.meaning.specs.EntryPoints.{new_ref}
 use Rattle.borrow_graph.specs.Models.{graph_in}
 use Rattle.vm_status.specs.Models.{number_of}
 use Rattle.abstract_state.specs.Models.{running_of, words}
-use Rattle.abstract_state.specs.ModelLaws.{does_as, does_then, halted_then, named, next_named}
+use Rattle.vm_status.specs.NumberLaws.{number_known}
+use Rattle.abstract_state.specs.ModelLaws.{does_as, does_then, halted_then, halted_known, named, next_named}
 use Rattle.abstract_state.proofs.basic_calls.new_ref.Goals as goal
 
 pub returns-in-Ok : goal.returns-in-Ok
@@ -37,7 +38,7 @@ returns-in-Err c =
       fits = λ h. record { locals = h.locals; tells = (c.new_ref-a.ensures es h.tells).tells };
       does = λ h. halted_then s.blurred s.violation s.borrowed_at.0 s.refusal r (λ q. named q g);
     })
-    (c.refuse.ensures ls _ es))
+    (does_as _ _ _ _ (λ h. halted_known n _ (number_known c.in-Err.e)) (c.refuse.ensures ls _ es)))
 
 pub returns : goal.returns
 unfolding new_ref

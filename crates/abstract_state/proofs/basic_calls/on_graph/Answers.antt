@@ -5,7 +5,8 @@ use Rattle.meaning.specs.EntryPoints.{Running, on_graph}
 use Rattle.borrow_graph.specs.Models.{graph_in}
 use Rattle.vm_status.specs.Models.{number_of}
 use Rattle.abstract_state.specs.Models.{running_of, words}
-use Rattle.abstract_state.specs.ModelLaws.{does_as, does_then, goes, going, stays, halted_then, passed_up}
+use Rattle.vm_status.specs.NumberLaws.{number_known}
+use Rattle.abstract_state.specs.ModelLaws.{does_as, does_then, goes, going, stays, halted_then, halted_known, passed_up}
 use Rattle.abstract_state.proofs.basic_calls.on_graph.Goals as goal
 
 pub returns-then-state : goal.returns-then-state
@@ -53,4 +54,4 @@ returns-in-Err c =
       fits = λ h. record { locals = h.locals; tells = (q h.tells).answers.tells };
       does = λ h. halted_then s.blurred s.violation s.borrowed_at.0 s.refusal r put;
     })
-    (c.refuse.ensures ls _ _))
+    (does_as _ _ _ _ (λ h. halted_known n _ (number_known c.in-Err.e)) (c.refuse.ensures ls _ _)))

@@ -4,7 +4,7 @@ use Prim.Native.Nat.{ℕ, ◌+◌, ◌-◌}
 use lib.ListN.{drop, length-set}
 use mathlib.Core.Bool.{Bool}
 use Rattle.std.proofs.Common.{length-take}
-use Rattle.file_format.specs.Models.{token_of}
+use Rattle.meaning.specs.Listing.{token_as}
 use Rattle.meaning.specs.BorrowGraph.{Name}
 use Rattle.meaning.specs.AbstractState.{first_names}
 use Rattle.references.specs.Models.{names_in}
@@ -17,7 +17,7 @@ pub loop-i-init : goal.loop-i-init
 unfolding names_in
 loop-i-init c =
     let e : c.args.n - 0 ≡ c.args.n = omega arith in
-    (omega arith, λ h. (h, ap (λ (k : ℕ). first_names 0 k (map token_of c.args.params.now)) e))
+    (omega arith, λ h. (h, ap (λ (k : ℕ). first_names 0 k (map token_as c.args.params.now)) e))
 
 pub loop-i-preserved-then-eq : goal.loop-i-preserved-then-eq
 loop-i-preserved-then-eq c =
@@ -29,7 +29,7 @@ loop-i-preserved-then-eq c =
           let q = l.invariant.1 h in (
             q.0,
             ap (λ (ms : List Name). names_in l.names l.len ++ ms)
-                (sym (pass_value l.i a.n _ _ _ (omega (arith, c.lesser.ensures, short)) (taken_step c.lesser.result a.params.now l.i c.loop-i-test.true) (sym c.if-eq.ensures))) ∙ q.1,
+                (sym (pass_value l.i a.n _ _ _ (omega (arith, c.lesser.ensures, short)) (taken_step c.lesser.result a.params.now l.i c.from-token.result c.loop-i-test.true c.from-token.ensures) (sym c.if-eq.ensures))) ∙ q.1,
           ),
     )
 
@@ -38,7 +38,7 @@ loop-i-preserved c =
     let a = c.args in
     let l = c.loop-i in
     let short = simp length-take at c.loop-i-test.true in
-    let rest = first_names (l.i + 1) (a.n - (l.i + 1)) (drop (l.i + 1) (map token_of a.params.now)) in (
+    let rest = first_names (l.i + 1) (a.n - (l.i + 1)) (drop (l.i + 1) (map token_as a.params.now)) in (
       omega arith,
       λ h.
           let q = l.invariant.1 h in (
@@ -46,7 +46,7 @@ loop-i-preserved c =
             names_push l.names _ l.len (l.len + 1) rest refl (omega (arith, c.lesser.ensures, short))
                 ∙ ap (λ (m : Name). names_in l.names l.len ++ m ∷ rest) (c.name_word.ensures ∙ ap (λ (b : Bool). record { id = l.i; mutable = b }) c.eq-in-loop-i.ensures)
                 ∙ ap (λ (ms : List Name). names_in l.names l.len ++ ms)
-                (sym (pass_reference l.i a.n _ _ _ (omega (arith, c.lesser.ensures, short)) (taken_step c.lesser.result a.params.now l.i c.loop-i-test.true) (sym c.if-eq.ensures))) ∙ q.1,
+                (sym (pass_reference l.i a.n _ _ _ (omega (arith, c.lesser.ensures, short)) (taken_step c.lesser.result a.params.now l.i c.from-token.result c.loop-i-test.true c.from-token.ensures) (sym c.if-eq.ensures))) ∙ q.1,
           ),
     )
 

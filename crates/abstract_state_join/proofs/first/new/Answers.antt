@@ -1,7 +1,7 @@
 use mathlib.Core.Path.{sym, ap, ◌∙◌}
 use mathlib.Core.List.{List, map}
 use Prim.Native.Nat.{min}
-use Rattle.file_format.specs.Models.{token_of}
+use Rattle.meaning.specs.Listing.{token_as}
 use Rattle.meaning.specs.EntryPoints.{Running, answer}
 use Rattle.meaning.specs.BorrowGraph.{Name, well_formed}
 use Rattle.meaning.specs.AbstractState.{non_ref}
@@ -15,7 +15,7 @@ unfolding edges_in
 returns c =
     λ es hl hn he.
     let n = c.count-n.result in
-    let ts = map token_of c.args.params.now in
+    let ts = map token_as c.args.params.now in
     let p = c.first_locals.ensures hl in
     let q = c.first_names-refs.ensures.1 hn in (
       record {

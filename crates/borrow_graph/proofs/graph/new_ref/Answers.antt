@@ -40,7 +40,7 @@ returns c =
     let g = graph_in a.names.now es a.g.now in
     let n = names_in a.names.now a.g.now.refs in
     let k = c.place-k.ensures.at ∙ ap (place_at a.id.0) (sym (names_made a.names.now a.g.now.refs)) in
-    let y = names_put a.names.now _ a.g.now.refs _ _ c.insert_at.ensures.front ∙ (λ i. take (k i) n ++ (c.name_word-w.ensures i ∷ drop (k i) n)) in
+    let y = names_put a.names.now _ a.g.now.refs _ _ (c.insert_at.ensures.front (omega (arith, c.place-k.ensures.within)) (omega arith)) ∙ (λ i. take (k i) n ++ (c.name_word-w.ensures i ∷ drop (k i) n)) in
     let formed = c.if-not-g.false in
     let e = new_ok g a.id.0 a.mutable (sym t.formed ∙ formed) (sym (c.holds.ensures t.words) ∙ c.if-holds.false) (omega (arith, names_size a.names.now a.g.now.refs)) _ y in
     record {

@@ -47,7 +47,7 @@ returns c =
           let b = (place.ensures.1 e).0 ∙ (λ i. length (keep (is_before (parent'.ensures i) (child'.ensures i)) es)) in
           let y : row_of tagged.result ≡ record { parent = (row_of a.x).parent; child = (row_of a.x).child; blurred = false; edge = (row_of a.x).edge } =
           tagged.ensures ∙ (λ i. record { parent = parent'.ensures i; child = child'.ensures i; blurred = false; edge = (row_of a.x).edge }) in
-          let z = row_put a.edges.now c.insert_at.new.xs a.m place.result.low tagged.result c.insert_at.ensures.front in (
+          let z = row_put a.edges.now c.insert_at.new.xs a.m place.result.low tagged.result (c.insert_at.ensures.front (omega (arith, place.ensures.0)) (omega (arith, if2.false))) in (
             c.insert_at.ensures.len ∙ e,
             ap {B = Ans (List GEdge)} ok (z ∙ ap (λ (g : GEdge). take place.result.low es ++ (g ∷ drop place.result.low es)) y)
                 ∙ sym (first_fits es (row_of a.x) place.result.low w (row_short a.x) (omega (arith, s, if1.false)) b (omega (arith, n, if2.false))),

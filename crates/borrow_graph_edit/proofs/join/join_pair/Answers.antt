@@ -20,8 +20,8 @@ returns c = (
       let p = a.parent.0 in
       let c' = a.child.0 in
       let z = c.in_ok-join_sets.ensures in
-      let u = (c.between-x.ensures.1 lo (neat_few es p c' no)).0 in
-      let v = (c.between-y.ensures.1 lt (neat_few fs p c' nt)).0 in
+      let u = c.set_between-x.ensures lo (neat_few es p c' no) in
+      let v = c.set_between-y.ensures lt (neat_few fs p c' nt) in
       let w = c.replace_set.ensures.1 le ne in (
         w.0,
         w.1 ∙ ap (λ (b : Ans EdgeSet). and_then b (λ s. replace_one a.shrinking p c' s (edges_in a.edges.now a.m))) (z ∙ (λ i. insert_all (uncovered (u i).edges (v i).edges) (u i)))
@@ -39,8 +39,8 @@ returns-in_err-join_sets c =
       tt,
       λ le lo lt ne no nt.
           let z = c.in_err-join_sets.ensures in
-          let u = (c.between-x.ensures.1 lo (neat_few es a.parent.0 a.child.0 no)).0 in
-          let v = (c.between-y.ensures.1 lt (neat_few fs a.parent.0 a.child.0 nt)).0 in (
+          let u = c.set_between-x.ensures lo (neat_few es a.parent.0 a.child.0 no) in
+          let v = c.set_between-y.ensures lt (neat_few fs a.parent.0 a.child.0 nt) in (
             le,
             ap (λ (b : Ans EdgeSet). and_then b (λ s. replace_one a.shrinking a.parent.0 a.child.0 s (edges_in a.edges.now a.m))) (z ∙ (λ i. insert_all (uncovered (u i).edges (v i).edges) (u i)))
                 ∙ sym (pass_one a.shrinking (join_set es fs) a.parent.0 a.child.0 (edges_in a.edges.now a.m)),

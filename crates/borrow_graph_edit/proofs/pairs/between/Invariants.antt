@@ -6,6 +6,6 @@ use Rattle.borrow_graph_edit.specs.Walks.{Gathers}
 use Rattle.borrow_graph_edit.proofs.pairs.between.Given as goal
 
 abbrev pub invariant-loop-row : goal.invariant-loop-row
-invariant-loop-row l = (l.found.low + length (set_of l.found.set).edges ≤ l.row-index)
+invariant-loop-row l = (l.low + length (set_of l.set).edges ≤ l.row-index)
     × (length l.edges ≡ max_edges → length (set_at l.parent.0 l.child.0 (edges_in l.edges l.m)).edges ≤ max_set_size
-    → Gathers l.parent.0 l.child.0 (edges_in l.edges l.m) (drop l.row-index (edges_in l.edges l.m)) l.found.low (set_of l.found.set))
+    → Gathers l.parent.0 l.child.0 (edges_in l.edges l.m) (drop l.row-index (edges_in l.edges l.m)) l.low (set_of l.set))

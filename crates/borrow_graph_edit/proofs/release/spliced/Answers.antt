@@ -13,9 +13,9 @@ returns-in_err-splice_each c =
     let es = edges_in a.edges.now a.m in
     rw (err_is c.from_residual.result c.in_err-splice_each.field-0.0 c.from_residual.ensures.1)
     (λ l n.
-    let p = (c.between-parents.ensures.1 l (neat_few es a.parent.0 a.id.0 n)).0 in
-    let q = (c.between-children.ensures.1 l (neat_few es a.id.0 a.child.0 n)).0 in
-    let s = (c.between-pair.ensures.1 l (neat_few es a.parent.0 a.child.0 n)).0 in
+    let p = c.set_between-parents.ensures l (neat_few es a.parent.0 a.id.0 n) in
+    let q = c.set_between-children.ensures l (neat_few es a.id.0 a.child.0 n) in
+    let s = c.set_between-set.ensures l (neat_few es a.parent.0 a.child.0 n) in
     c.in_err-splice_each.ensures ∙ (λ i. insert_all (splices (p i).edges (q i).edges) (s i)))
 
 pub returns : goal.returns
@@ -24,7 +24,7 @@ returns c =
     let a = c.args in
     let es = edges_in a.edges.now a.m in
     λ l n.
-    let p = (c.between-parents.ensures.1 l (neat_few es a.parent.0 a.id.0 n)).0 in
-    let q = (c.between-children.ensures.1 l (neat_few es a.id.0 a.child.0 n)).0 in
-    let s = (c.between-pair.ensures.1 l (neat_few es a.parent.0 a.child.0 n)).0 in
+    let p = c.set_between-parents.ensures l (neat_few es a.parent.0 a.id.0 n) in
+    let q = c.set_between-children.ensures l (neat_few es a.id.0 a.child.0 n) in
+    let s = c.set_between-set.ensures l (neat_few es a.parent.0 a.child.0 n) in
     c.in_ok-splice_each.ensures ∙ (λ i. insert_all (splices (p i).edges (q i).edges) (s i))

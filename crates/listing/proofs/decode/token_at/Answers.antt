@@ -3,4 +3,4 @@ use Rattle.meaning.specs.Listing.{token_as}
 use Rattle.listing.proofs.decode.token_at.Goals as goal
 
 pub returns : goal.returns
-returns c = c.token_of.ensures ∙ ap token_as c.byte_at.ensures
+returns c = c.from.ensures ∙ ap token_as c.byte_at.ensures

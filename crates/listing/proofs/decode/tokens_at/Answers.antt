@@ -1,13 +1,16 @@
-use Rattle.std.specs.Prelude.{◌+◌, cond, ltb, get_or}
-use Rattle.std.proofs.Common.{rules, tests}
-use Rattle.meaning.specs.AbstractState.{of_value}
+use Rattle.std.specs.Prelude.{◌+◌, get_or}
+use Rattle.std.proofs.Common.{refl, ap, arith, length-set}
+use Rattle.meaning.specs.Lists.{up_to}
 use Rattle.meaning.specs.Listing.{token_as}
-use Rattle.file_format.specs.Models.{token_of}
-use Rattle.file_format.specs.declared.SignatureToken.TheVariants.{Value}
-use Rattle.listing.proofs.Made.{front_made}
+use Rattle.listing_records.proofs.Lists.{filled}
 use Rattle.listing.proofs.decode.tokens_at.Goals as goal
 
-pub returns : goal.returns
-returns c =
+pub loop-i-init : goal.loop-i-init
+unfolding up_to
+loop-i-init c = (refl, refl)
+
+pub loop-i-preserved : goal.loop-i-preserved
+loop-i-preserved c =
     let a = c.args in
-    front_made token_of _ (λ k. cond (ltb k a.n) (token_as (get_or a.b.now (a.from + k) 0)) of_value) (λ k. token_as (get_or a.b.now (a.from + k) 0)) _ c.from_fn.result 16 a.n c.from_fn.ensures.items (λ k y q p. search (rules, tests)) Value c.requires.0 (λ k h. search (rules, tests))
+    let l = c.loop-i in
+    (simp length-set l.invariant.0, filled token_as (λ k. token_as (get_or a.b.now (a.from + k) 0)) l.out l.i c.byte_at.result (omega arith) l.invariant.1 (ap token_as c.byte_at.ensures))

@@ -23,21 +23,24 @@ returns-then-not-is_strong c = let x =
       ap (λ (g : GEdge). fits g.edge) w ∙ fitting_short (record { strong = (row_of x).edge.strong; path = (row_of x).edge.path; offset = loc.result.0 }) (omega (arith, path_length x (count_in x)))
           ∙ ap {B = Offered} (λ (o : ℕ). fitting (record { strong = (row_of x).edge.strong; path = (row_of x).edge.path; offset = o })) loc.ensures
           ∙ ap fitting (splice_weak (row_of x).edge (row_of y).edge (sym is-strong.ensures ∙ s)),
-      (ap (λ (g : GEdge). g.parent) w ∙ c.parent.ensures, ap (λ (g : GEdge). g.child) w ∙ c.child.ensures),
+      ap (λ (g : GEdge). g.parent) w ∙ c.parent.ensures,
+      ap (λ (g : GEdge). g.child) w ∙ c.child.ensures,
     )
 
 pub returns-then-n-m-gt-MAX_LABELS : goal.returns-then-n-m-gt-MAX_LABELS
 returns-then-n-m-gt-MAX_LABELS c = let x =
     c.args.x.now in
     let y = c.args.y.now in
+    let w = c.remade-whole.ensures.0 in
     let loc = c.offset-behind in
     let is-strong = c.is_strong in
     let s : is-strong.result ≡ true = c.if-not-is_strong.false in
     let h : 8 < length ((row_of x).edge.path ++ (row_of y).edge.path) = simp length-append (omega (arith, c.labels-n.ensures.0, c.labels-m.ensures.0, c.if-n-m-gt-MAX_LABELS.true)) in (
-      ap too_long loc.ensures
+      ap (λ (g : GEdge). too_long g.edge.offset) w ∙ ap too_long loc.ensures
           ∙ fitting_long (record { strong = (row_of y).edge.strong; path = (row_of x).edge.path ++ (row_of y).edge.path; offset = (row_of y).edge.offset }) h
           ∙ ap fitting (splice_strong (row_of x).edge (row_of y).edge (sym is-strong.ensures ∙ s)),
-      tt,
+      ap (λ (g : GEdge). g.parent) w ∙ c.parent.ensures,
+      ap (λ (g : GEdge). g.child) w ∙ c.child.ensures,
     )
 
 pub copy_labels-out-requires : goal.copy_labels-out-requires
@@ -68,5 +71,6 @@ returns c = let a =
           ∙ fitting_short (record { strong = (row_of y).edge.strong; path = (row_of x).edge.path ++ (row_of y).edge.path; offset = loc.result.0 }) h
           ∙ ap {B = Offered} (λ (o : ℕ). fitting (record { strong = (row_of y).edge.strong; path = (row_of x).edge.path ++ (row_of y).edge.path; offset = o })) loc.ensures
           ∙ ap fitting (splice_strong (row_of x).edge (row_of y).edge (sym is-strong.ensures ∙ s)),
-      (ap (λ (g : GEdge). g.parent) g ∙ c.parent.ensures, ap (λ (g : GEdge). g.child) g ∙ c.child.ensures),
+      ap (λ (g : GEdge). g.parent) g ∙ c.parent.ensures,
+      ap (λ (g : GEdge). g.child) g ∙ c.child.ensures,
     )
